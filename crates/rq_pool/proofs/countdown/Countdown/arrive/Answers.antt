@@ -58,7 +58,9 @@ invariant_of-pass-in-Some g c = let was = c.args.pass.now.seat.me.0 in let s = c
     let whole = ap (λ m. m.0) c.collect_outboxes.ensures.own.2 ∙ ap (λ m. m.0) hl.1.3
     ∙ (λ j. after (cl.1 j).0 s x (Some ys)) in
     let more = lasts_after was s x (Some ys) in
-    let noted = rw c.of-shown.ensures at c.noted-in-Some.ensures.entry in let room = c.collect_outboxes.new.room in let same =
+    let noted = rw c.of-shown.ensures at c.noted-in-Some.ensures.entry in
+    let room = c.collect_outboxes.new.room in
+    let same =
     c.collect_outboxes.ensures.room ∙ ap (λ m. outboxes_in m.1) hl.1.3 ∙ contents_numbered ys 0 in
     let ids = ap (λ z. z.slots) (c.collect_outboxes.ensures.own.0 ∙ c.hand_in.ensures.own.0 ∙ c.claim.ensures.own.0
     ∙ c.requires.own.0) in record {
