@@ -2,10 +2,12 @@
 
 ghost use Rattle.std.specs.Prelude.{◌≡◌, ◌≤◌, ◌^◌, ◌+◌, ◌<◌, ℕ, List, length, map, take, IfOk};
 ghost use Rattle.std.specs.Prelude.{IfErr, OnOk, ◌++◌, ◌∷◌, [], Some, None, option_map};
-ghost use Rattle.std.specs.Prelude.{if◌then◌else◌};
+ghost use Rattle.std.specs.Prelude.{if◌then◌else◌, is_some, not};
 ghost use Rattle.rq_model.specs.Records.{Record as ModelRecord, One};
 ghost use Rattle.rq_model.specs.States.{State};
 ghost use Rattle.rq_model.specs.Queues.{touching};
+ghost use Rattle.rq_model.specs.WellFormed.{IsWellFormed};
+ghost use Rattle.rq_model.specs.Machine.{is_lawful, lawful_front, run};
 ghost use Rattle.rq_record.specs.Views.{record_of, version_of};
 ghost use Rattle.rq_state.specs.Views.{unit_of};
 ghost use Rattle.rq_record.specs.declared.fault.Fault.TheVariants.{Resources};
@@ -15,6 +17,7 @@ ghost use Rattle.rq_catalog.specs.Analyses.{IsAnalysis, outcome_in, open_in, tou
 
 use crate::catalogue::Catalogue;
 use crate::outcome::Outcome;
+use crate::rules::Rule;
 use crate::start::catalogue_of;
 use rq_record::{Fault, KeptRecord, QueueNo, Record, UnitNo, Version, kept_records};
 use rq_state::{Definition, State};
@@ -113,6 +116,17 @@ impl Analysis {
         ensures { result ≡ self.now.lawful }
     {
         self.lawful
+    }
+
+    /// A rule that the record breaks behind the lawful ones, by the rules of the version; none
+    /// exactly if it is lawful there. Tests check which rule it is.
+    pub fn broken(&self, version: Version, next: &KeptRecord) -> Option<Rule>
+        ensures { (s : State) (rs : List ModelRecord) → IsWellFormed s
+            → IsAnalysis (version_of version) s rs self.now → is_some result
+            ≡ not (is_lawful (version_of version) (run s (lawful_front (version_of version) s rs))
+            (record_of next.now)) }
+    {
+        self.catalogue.broken(version, next)
     }
 
     /// What became of the unit in the lawful records; `None` if it was neither open in the state

@@ -2,7 +2,7 @@
 
 ghost use Rattle.std.specs.Prelude.{◌≡◌, ℕ, ◌==◌, ◌&&◌, ◌||◌, ◌++◌, [], ◌∷◌, OnOk};
 ghost use Rattle.std.specs.Prelude.{IfErr, nat_lt, nat_eq, length, cond, true, false, ◌<◌};
-ghost use Rattle.std.specs.Prelude.{Some, if◌then◌else◌};
+ghost use Rattle.std.specs.Prelude.{Some, if◌then◌else◌, is_some, not};
 ghost use Rattle.std.specs.List.{AllByRecursion};
 ghost use Rattle.rq_model.specs.Machine as machine;
 ghost use Rattle.rq_model.specs.States.{State};
@@ -17,6 +17,7 @@ ghost use Rattle.rq_catalog.specs.Units.{numbers, has_unit, outcome_at, engages_
 use crate::grounds::Grounds;
 use crate::lists::{touch, touch_all};
 use crate::outcome::Outcome;
+use crate::rules::Rule;
 use crate::units::Units;
 use rq_record::{Fault, KeptRecord, Version};
 use std::alloc::Global;
@@ -33,13 +34,23 @@ pub(crate) struct Catalogue {
 }
 
 impl Catalogue {
+    /// A rule of the version that the record breaks here; none exactly if it is lawful.
+    pub(crate) fn broken(&self, version: Version, next: &KeptRecord) -> Option<Rule>
+        ensures { (s : State) → AreGroundsOf self.now.grounds s
+            → ((u : ℕ) → is_open_in (outcome_at self.now.units u) ≡ machine.is_open s u)
+            → is_some result
+            ≡ not (machine.is_lawful (version_of version) s (record_of next.now)) }
+    {
+        self.grounds.broken(version, &self.units, next)
+    }
+
     /// Whether the record is lawful here, by the rules of the version.
     pub(crate) fn may_take(&self, version: Version, next: &KeptRecord) -> bool
         ensures { (s : State) → AreGroundsOf self.now.grounds s
             → ((u : ℕ) → is_open_in (outcome_at self.now.units u) ≡ machine.is_open s u)
             → result ≡ machine.is_lawful (version_of version) s (record_of next.now) }
     {
-        self.grounds.broken(version, &self.units, next).is_none()
+        self.broken(version, next).is_none()
     }
 
     /// Takes a record that is lawful here, of this place and index.

@@ -206,32 +206,9 @@ fn ruled_end<R: Threads + Sync>(
     }
 }
 
-// The rule that ends the front of a log of which there is a restart: so memory alone is refused.
-fn rule_after<R: Threads + Sync>(
-    rt: &R,
-    alloc: Global,
-    bytes: &[u8],
-    at: Option<u64>,
-    plan: &Plan,
-) -> Result<Option<Rule>, Fault>
-    ensures { IfErr result (λ e. e ≡ Resources) }
-{
-    match ruled_end(rt, alloc, bytes, at, plan) {
-        Ok((_, rule)) => Ok(rule),
-        Err(_) => Err(Fault::Resources),
-    }
-}
-
 /// Where the front ends of which the restart is known, from the checkpoint on at an offset, if there
 /// is one. Refuses with `Resources` where memory is refused.
-pub fn end_after<R: Threads + Sync>(
-    rt: &R,
-    alloc: Global,
-    bytes: &[u8],
-    at: Option<u64>,
-    r: &Restarted,
-    plan: &Plan,
-) -> Result<End, Fault>
+pub fn end_after(alloc: Global, bytes: &[u8], at: Option<u64>, r: &Restarted) -> Result<End, Fault>
     ensures end { IfOk result (λ end. IsEndOf r.now (front_end_of end)) }
     ensures refused { IfErr result (λ e. e ≡ Resources) }
 {
@@ -241,12 +218,7 @@ pub fn end_after<R: Threads + Sync>(
         total: r.total(),
         why: r.why(),
     };
-    // A restart keeps no rule: so of a log that ends by one this reads the front once more.
-    let rule = match end.why {
-        Why::Law => rule_after(rt, alloc, bytes, at, plan)?,
-        Why::Whole | Why::Cut | Why::Length | Why::Chain | Why::Form => None,
-    };
-    let told = told(alloc, bytes, at, end, rule)?;
+    let told = told(alloc, bytes, at, end, r.rule())?;
     Ok(told)
 }
 

@@ -21,7 +21,7 @@ use crate::bodies::{FEW, PartedRecords, put_together, read_bodies};
 use crate::checkpoint::Begun;
 use crate::grain::grain_of;
 use crate::why::Why;
-use rq_catalog::{Analysis, analyse_kept};
+use rq_catalog::{Analysis, Rule, analyse_kept};
 use rq_front::{Chain, Rest, Walk};
 use rq_pool::Plan;
 use rq_record::{Fault, KeptRecord, LogBytes, Version};
@@ -48,6 +48,8 @@ pub struct Front {
     pub end: usize,
     /// Why they end there.
     pub why: Why,
+    /// The rule that the next record breaks, if they end by that. Tests check which it is.
+    pub rule: Option<Rule>,
 }
 
 /// Why the front ends behind all frames of a chain, by what follows them.
@@ -113,7 +115,7 @@ fn keep_first(
 }
 
 // The front among the records that were read of a chain.
-fn settled(found: &Chain, known: Known) -> Front
+fn settled(version: Version, found: &Chain, known: Known) -> Front
     ensures front { (version : records.Version) (s : model.State) (b : List ℕ) (offset : ℕ) →
         IsChain b offset found.now
         → IsKnownOfBodies version s (bodies_at b found.now.spans.items) known
@@ -135,12 +137,17 @@ fn settled(found: &Chain, known: Known) -> Front
     } = known;
     let kept = analysis.lawful();
     let (end, why) = end_of(found, records.len(), kept);
+    let rule = match records.get(kept) {
+        Some(next) => analysis.broken(version, next),
+        None => None,
+    };
     records.truncate(kept);
     Front {
         records,
         analysis,
         end,
         why,
+        rule,
     }
 }
 
@@ -169,7 +176,7 @@ fn front_in<R: Threads + Sync>(
     let workers = plan.workers();
     let parts = read_bodies(rt, alloc, version, bytes, &found.spans, workers)?;
     let known = known_of(alloc, version, parts, state)?;
-    Ok(settled(found, known))
+    Ok(settled(version, found, known))
 }
 
 /// The front that begins there, in the frames of the chain. Of shared bytes its checkpoints and long
@@ -283,5 +290,5 @@ pub fn front_of_walk<R: Threads + Sync>(
     let (found, known) = check_meanwhile(rt, alloc, version, bytes, walk, parts, state, grain);
     let mut known = known?;
     keep_first(alloc, version, &mut known, found.spans.len(), state)?;
-    Ok(settled(&found, known))
+    Ok(settled(version, &found, known))
 }

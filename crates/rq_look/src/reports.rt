@@ -144,7 +144,7 @@ where
         (StaysUnreported at bytes.now wanted (W.contents output.old) (W.contents output.new)) }
 {
     let restarted = restarted_with(rt, alloc, bytes, at, plan, wanted)?;
-    let end = end_after(rt, alloc, bytes, at, &restarted, plan)?;
+    let end = end_after(alloc, bytes, at, &restarted)?;
     let text = json_of(alloc, &restarted, &end, wanted)?;
     output.write_all(text.as_bytes())?;
     Ok(())

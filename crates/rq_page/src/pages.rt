@@ -95,7 +95,7 @@ fn found_in<R: Threads + Sync>(
         (λ e. (IsLog bytes.now × IsBroken e) ⊎ IsRefusal at bytes.now e) }
 {
     let restarted = restarted_from(rt, alloc, bytes, at, plan)?;
-    let end = end_after(rt, alloc, bytes, at, &restarted, plan)?;
+    let end = end_after(alloc, bytes, at, &restarted)?;
     let checkpoints = audited_from(rt, alloc, bytes, at, plan)?;
     Ok(RestartedLog {
         restarted,

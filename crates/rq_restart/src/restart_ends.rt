@@ -124,6 +124,7 @@ where
         analysis,
         end,
         why,
+        rule,
     } = front;
     let next = state.next() + records.len() as u64;
     let (committed, aborted) = (analysis.committed(), analysis.aborted());
@@ -135,6 +136,7 @@ where
         used: end as u64,
         total: total as u64,
         why,
+        rule,
         committed,
         aborted,
         cut_off,

@@ -3,6 +3,7 @@
 ghost use Rattle.std.specs.Prelude.{◌≡◌};
 ghost use Rattle.rq_judged.specs.Views.{why_of};
 
+use rq_catalog::Rule;
 use rq_judged::Why;
 use rq_state::State;
 use std::marker::Model;
@@ -16,6 +17,7 @@ pub struct Restarted {
     pub(crate) used: u64,
     pub(crate) total: u64,
     pub(crate) why: Why,
+    pub(crate) rule: Option<Rule>,
     pub(crate) committed: u64,
     pub(crate) aborted: u64,
     pub(crate) cut_off: u64,
@@ -73,6 +75,11 @@ impl Restarted {
         ensures { why_of result ≡ self.now.why }
     {
         self.why
+    }
+
+    /// The rule that the next record breaks, if the front ends by that. Tests check it.
+    pub fn rule(&self) -> Option<Rule> {
+        self.rule
     }
 
     /// How many units were committed.
