@@ -1,6 +1,7 @@
 //! From a record to bytes.
 
-ghost use Rattle.std.specs.Prelude.{◌<◌, ◌^◌, ◌∷◌, ◌++◌, IsTrue, OnOk, w32, w64};
+ghost use Rattle.std.specs.Prelude.{◌<◌, ◌^◌, ◌∷◌, ◌++◌, IsTrue, OnOk};
+ghost use Rattle.std.specs.Int.{w32, w64, to_be_bytes};
 ghost use Rattle.rq_model.specs.Records as model;
 ghost use Rattle.rq_model.specs.Records.{Version, Two};
 ghost use Rattle.rq_model.specs.Spelling.{who, IsWho, body_of, is_name, IsRecord, Spells};
