@@ -39,10 +39,11 @@ TYPE = re.compile(r"^(?:pub(?:\([a-z]+\))? )?(?:struct|enum|trait) (\w+)(?!\w)(?
 RULES = re.compile(r"^pub ruleset .*$", re.M)
 # Methods whose names say nothing without their type: what makes a value (`none` and `blank`: an empty one), what std's traits
 # and containers call so, and what a type of its kind is for: to be opened and closed, or begun and ended, and to take in or
-# put out what its argument or its type names.
+# put out what its argument or its type names, a number of so many bits too.
 PLAIN = {
     "new", "of", "none", "blank", "open", "close", "begin", "end", "finish",
     "len", "is_empty", "next", "fmt", "get", "insert", "remove", "push", "append", "take", "put",
+    "u8", "u16", "u32", "u64",
 }
 # Names that say one thing of two: of these crates, and which thing. In a further crate such a name is looked at again.
 ONE_THING = {
@@ -63,6 +64,10 @@ ONE_THING = {
     "committed": ("rq_catalog rq_restart rq_state", "how many units were committed"),
     "broken": ("rq_catalog rq_journal", "a rule that the record breaks: an appender asks its judge"),
     "bytes": ("rq_record rq_writer", "the bytes of a value"),
+    "compare": ("rq_queue rq_standing rq_state", "the value's spelling is to come next in the bytes"),
+    "count": ("rq_queue rq_standing", "how many members there are"),
+    "lent": ("rq_queue rq_record", "the same value, lent"),
+    "registrant_count": ("rq_queue rq_state", "how many registrants there are"),
     "copied": ("rq_record rq_state", "the same value again"),
     "register": ("rq_catalog rq_queue", "registers a name with a queue"),
     "deregister": ("rq_catalog rq_queue", "ends a registration"),

@@ -17,7 +17,7 @@ use Rattle.rq_found.specs.declared.trouble.Trouble.TheVariants.{Log, Output, Unt
 use Rattle.rq_record.specs.declared.fault.Fault.{Fault}
 use Rattle.rq_record.specs.declared.fault.Fault.TheVariants.{Resources}
 use Rattle.rq_model.specs.Reports.{IsText}
-use Rattle.rq_look.specs.Looks.{AppendsSome, end_finding, IsReportFrom, BreaksOff}
+use Rattle.rq_look.specs.Looks.{AppendsSome, IsReportFrom, BreaksOff}
 use Rattle.rq_look.specs.Scripts.{LeavesOut}
 
 -- one behind the other
@@ -32,13 +32,7 @@ put_last old mid new put text last whole p q e =
     subst (λ (t : List ℕ). Appends old new t) (ap (λ (t : List ℕ). put ++ t) e ∙ sym (append_assoc put text last))
     (Appends-trans old mid new put whole p q)
 
--- the line of a check is that of the restart whose end it is
-pub same_finding : (r : Restarted) (end : End) (reason : List ℕ) → IsEndOf r (front_end_of end)
-    → end_finding end.records end.used end.total (why_of end.why) reason
-    ≡ end_finding r.records r.used r.total r.why reason
-same_finding r end reason e = λ i. end_finding (e.records i) (e.used i) (e.total i) (e.why i) reason
-
--- so are the lines of what stands behind it
+-- the lines of what stands behind the front of a check are those of the restart whose end it is
 pub same_rest : (r : Restarted) (end : End) (behind : Found) → IsEndOf r (front_end_of end)
     → behind_finding (why_of end.why) behind end.total ≡ behind_finding r.why behind r.total
 same_rest r end behind e = λ i. behind_finding (e.why i) behind (e.total i)

@@ -8,7 +8,7 @@ ghost use Rattle.rq_look.specs.Looks.{AppendsSome};
 ghost use Rattle.rq_look.specs.Rests.{EndsFrontOf};
 
 use crate::behind_fronts::{put_behind, standing_behind};
-use crate::entries::{Entry, put_entry};
+use crate::entries::{DumpEntry, put_entry};
 use crate::json::{put_behind_object, put_loose, put_unspelled};
 use crate::lines::put_loose_record;
 use crate::wanted::Wanted;
@@ -118,7 +118,7 @@ fn put_record(
     Ok(is_wanted)
 }
 
-impl Entry for Loose<'_> {
+impl DumpEntry for Loose<'_> {
     fn offset(&self) -> u64 {
         self.offset
     }

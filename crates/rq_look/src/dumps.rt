@@ -9,7 +9,7 @@ ghost use Rattle.rq_found.specs.Refusals.{IsBroken, StaysUnshown};
 ghost use Rattle.rq_look.specs.Looks.{AppendsSome, EndsDump, IsClosing};
 
 use crate::beyond::put_wanted_behind;
-use crate::entries::{Entry, put_entry};
+use crate::entries::{DumpEntry, put_entry};
 use crate::json::{put_closing_object, put_numbered};
 use crate::lines::put_record_line;
 use crate::sheet::write_out;
@@ -66,7 +66,7 @@ struct Recorded<'a> {
     queues: u32,
 }
 
-impl Entry for Recorded<'_> {
+impl DumpEntry for Recorded<'_> {
     fn offset(&self) -> u64 {
         self.placed.offset
     }

@@ -13,7 +13,7 @@ use std::alloc::Global;
 use std::io::Write;
 
 /// A frame that has a line in a dump, if it is wanted.
-pub(crate) trait Entry {
+pub(crate) trait DumpEntry {
     /// Where the frame stands.
     fn offset(&self) -> u64;
 
@@ -23,7 +23,7 @@ pub(crate) trait Entry {
 }
 
 /// Puts the line of a frame on its way to the output, if it is wanted. Answers whether it is.
-pub(crate) fn put_entry<E: Entry, W: Write>(
+pub(crate) fn put_entry<E: DumpEntry, W: Write>(
     alloc: Global,
     wanted: &Wanted<'_>,
     entry: &E,

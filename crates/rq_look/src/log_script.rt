@@ -253,7 +253,7 @@ pub(crate) fn put_records<W: io::Write>(
 }
 
 /// Writes the script of the front of a log that was not carried on, and answers where it ends.
-pub(crate) fn put_front<R: Threads + Sync, W: io::Write>(
+pub(crate) fn put_front_script<R: Threads + Sync, W: io::Write>(
     rt: &R,
     alloc: Global,
     bytes: &[u8],
@@ -296,6 +296,6 @@ pub fn script<R: Threads + Sync, W: io::Write>(
     ensures refused { IfErr result
         (LacksScript bytes.now (W.contents output.old) (W.contents output.new)) }
 {
-    let end = put_front(rt, alloc, bytes, plan, output)?;
+    let end = put_front_script(rt, alloc, bytes, plan, output)?;
     Ok(is_whole(end.why))
 }

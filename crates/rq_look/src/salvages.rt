@@ -12,7 +12,7 @@ ghost use Rattle.rq_look.specs.Rests.{EndsFrontOf, IsChoice, PutsSalvage};
 
 use crate::behind_fronts::{put_count, put_given_up, standing_behind};
 use crate::beyond::Loose;
-use crate::log_script::{is_untold, put_front, put_line};
+use crate::log_script::{is_untold, put_front_script, put_line};
 use crate::sheet::{relieve, write_out};
 use rq_behind::Found;
 use rq_found::TextPiece::{Number, Word};
@@ -187,7 +187,7 @@ pub fn salvage<R: Threads + Sync, W: Write>(
     ensures refused { IfErr result
         (LacksScript bytes.now (W.contents output.old) (W.contents output.new)) }
 {
-    let end = put_front(rt, alloc, bytes, plan, output)?;
+    let end = put_front_script(rt, alloc, bytes, plan, output)?;
     put_rest(alloc, bytes, &end, output)?;
     Ok(())
 }

@@ -13,7 +13,7 @@ ghost use Rattle.rq_model.specs.States as states;
 ghost use Rattle.rq_queue.specs.Pouring.{Grows};
 ghost use Rattle.rq_queue.specs.Rooms.{member_bytes};
 ghost use Rattle.rq_record.specs.declared.fault.Fault.TheVariants.{Resources};
-ghost use Rattle.rq_state.specs.Comparing.{behind};
+ghost use Rattle.rq_state.specs.Comparing.{left_after};
 
 use crate::elements::Elements;
 use crate::lent::LentElement;
@@ -198,7 +198,7 @@ impl Part {
     /// The spellings of its registrants are to come next in the bytes. It looks at none behind the
     /// first that differs.
     pub fn compare_registrants(&self, bytes: &mut Compared<'_>)
-        ensures { bytes.new ≡ behind (flat_map registrant_bytes self.now.registrants) bytes.old }
+        ensures { bytes.new ≡ left_after (flat_map registrant_bytes self.now.registrants) bytes.old }
     {
         self.registrants.compare(bytes);
     }

@@ -9,7 +9,7 @@ ghost use Rattle.rq_model.specs.States as model;
 ghost use Rattle.rq_model.specs.WellFormed.{Ordered};
 ghost use Rattle.rq_queue.specs.Roll.{registrant_of, heard};
 ghost use Rattle.rq_record.specs.declared.fault.Fault.TheVariants.{Resources};
-ghost use Rattle.rq_state.specs.Comparing.{behind};
+ghost use Rattle.rq_state.specs.Comparing.{left_after};
 
 use crate::kept_last::KeptLast;
 use crate::kept_note::KeptNote;
@@ -101,7 +101,7 @@ impl Registrants {
 
     /// Their spellings are to come next in the bytes.
     pub(crate) fn compare(&self, bytes: &mut Compared<'_>)
-        ensures { bytes.new ≡ behind (flat_map registrant_bytes self.now) bytes.old }
+        ensures { bytes.new ≡ left_after (flat_map registrant_bytes self.now) bytes.old }
     {
         compare_each(&self.lasts, bytes);
     }
@@ -220,7 +220,7 @@ fn copied(
 }
 
 fn compare_one(key: &(u32, KeptName), last: &KeptLast, bytes: &mut Compared<'_>)
-    ensures { bytes.new ≡ behind (registrant_bytes (registrant_of (key.now, last.now))) bytes.old }
+    ensures { bytes.new ≡ left_after (registrant_bytes (registrant_of (key.now, last.now))) bytes.old }
 {
     bytes.registrant(key.0, key.1.bytes(), last.lent());
 }
@@ -229,7 +229,7 @@ fn compare_one(key: &(u32, KeptName), last: &KeptLast, bytes: &mut Compared<'_>)
 // the first that differs.
 fn compare_each(lasts: &BTreeMap<(u32, KeptName), KeptLast>, bytes: &mut Compared<'_>)
     ensures { bytes.new
-        ≡ behind (flat_map registrant_bytes (map registrant_of lasts.now.entries)) bytes.old }
+        ≡ left_after (flat_map registrant_bytes (map registrant_of lasts.now.entries)) bytes.old }
 {
     for (key, last) in lasts {
         if !bytes.agree() {

@@ -6,7 +6,7 @@ use Rattle.std.proofs.lemmas.List.{append-nil, take_at, drop_at, take-append-dro
 use Rattle.std.proofs.lemmas.List.{length-drop}
 use Rattle.rq_bytes.specs.Readers.{Reader}
 use Rattle.rq_bytes.specs.Reads.{Reads}
-use Rattle.rq_record.specs.LogParts.{EndsAt, IsLeftAt, IsPartOf}
+use Rattle.rq_record.specs.LogParts.{EndsAt, IsLeftTo, IsPartOf}
 
 -- the last bytes before an end are a part of the log
 pub part_at : (log bytes : List ℕ) (end start : ℕ) → EndsAt log end bytes → start + length bytes ≡ end
@@ -64,8 +64,8 @@ behind_front log bytes front left end h parts = record {
 
 -- so does what a reader leaves
 pub left_at : {X : Type 0} {P : X → Type 0} {spelling : X → List ℕ} {Ends : List ℕ → Type 0} {reader : Reader X}
-    → Reads P spelling Ends reader → (log bytes left : List ℕ) (end : ℕ) (x : X) → IsLeftAt log end bytes
-    → reader bytes ≡ Some (x, left) → IsLeftAt log end left
+    → Reads P spelling Ends reader → (log bytes left : List ℕ) (end : ℕ) (x : X) → IsLeftTo log end bytes
+    → reader bytes ≡ Some (x, left) → IsLeftTo log end left
 left_at reads log bytes left end x h is =
     let taken = reads.takes bytes (x, left) h.bytes is in
     record { ends = behind_front log bytes _ left end h.ends taken.parts; bytes = taken.rest_fits }

@@ -15,6 +15,6 @@ pub record EndsAt (log : List ℕ) (end : ℕ) (bytes : List ℕ) : Type 0 where
   pub there : end ≡ length before + length bytes
 
 -- so does what is left of a body
-pub record IsLeftAt (log : List ℕ) (end : ℕ) (left : List ℕ) : Type 0 where
+pub record IsLeftTo (log : List ℕ) (end : ℕ) (left : List ℕ) : Type 0 where
   pub ends : EndsAt log end left
   pub bytes : IsBytes left

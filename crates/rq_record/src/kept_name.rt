@@ -15,17 +15,17 @@ use std::alloc::Global;
 use std::cmp::Ordering;
 use std::marker::Model;
 
-/// A name in 16 bytes; a `Name` takes 65. A log has many records, and most names are short.
-#[derive(Drop)]
-pub struct KeptName {
-    form: Form,
-}
-
 // A short name is kept in place, a longer one in memory of its own.
 #[derive(Drop)]
 enum Form {
     Short { len: u8, bytes: [u8; 14] },
     Long(Box<Name>),
+}
+
+/// A name in 16 bytes; a `Name` takes 65. A log has many records, and most names are short.
+#[derive(Drop)]
+pub struct KeptName {
+    form: Form,
 }
 
 impl Model for KeptName {

@@ -39,16 +39,16 @@ impl KeptRecord {
             },
             Record::Begin { unit } => KeptRecord::Begin { unit: *unit },
             Record::Enqueue {
-                priority,
-                queue,
                 unit,
+                queue,
                 by,
+                priority,
                 payload,
             } => KeptRecord::Enqueue {
-                priority: *priority,
-                queue: *queue,
                 unit: *unit,
+                queue: *queue,
                 by: KeptBy::of(alloc, by)?,
+                priority: *priority,
                 payload: KeptPayload::of(alloc, payload)?,
             },
             Record::Dequeue { unit, queue, by } => KeptRecord::Dequeue {

@@ -10,7 +10,7 @@ ghost use Rattle.rq_model.specs.RecordReading.{register_from, deregister_from, r
 ghost use Rattle.rq_model.specs.RecordReading.{unit_read, enqueue_from, enqueue_read, dequeue_from};
 ghost use Rattle.rq_model.specs.RecordReading.{dequeue_read, checkpoint_read, kill_from, kill_read};
 ghost use Rattle.rq_model.specs.RecordReading.{at_most, record_behind, record_read};
-ghost use Rattle.rq_record.specs.LogParts.{EndsAt, IsLeftAt};
+ghost use Rattle.rq_record.specs.LogParts.{EndsAt, IsLeftTo};
 ghost use Rattle.rq_record.specs.Reading.{KeepsRead, Decodes};
 ghost use Rattle.rq_record.specs.Views.{record_of, version_of};
 
@@ -128,7 +128,7 @@ fn enqueue(
     end: usize,
     bytes: Cursor<'_>,
 ) -> Result<KeptRecord, Fault>
-    requires { IsLeftAt log.now end bytes }
+    requires { IsLeftTo log.now end bytes }
     ensures { KeepsRead record_of result (made enqueue_from enqueue_read bytes.entry) }
 {
     let mut bytes = bytes;
@@ -219,7 +219,7 @@ fn of_kind(
     kind: u8,
     bytes: Cursor<'_>,
 ) -> Result<KeptRecord, Fault>
-    requires { IsLeftAt log.now end bytes }
+    requires { IsLeftTo log.now end bytes }
     ensures { KeepsRead record_of result (record_behind (version_of version) kind bytes.entry) }
 {
     match kind {

@@ -1,9 +1,10 @@
 //! From a record to bytes.
 
-ghost use Rattle.std.specs.Prelude.{OnOk};
+ghost use Rattle.std.specs.Prelude.{◌<◌, ◌^◌, ◌∷◌, ◌++◌, IsTrue, OnOk};
+ghost use Rattle.std.specs.Int.{w32, w64, to_be_bytes};
 ghost use Rattle.rq_model.specs.Records as model;
 ghost use Rattle.rq_model.specs.Records.{Version, Two};
-ghost use Rattle.rq_model.specs.Spelling.{who, IsWho, body_of, IsRecord, Spells};
+ghost use Rattle.rq_model.specs.Spelling.{who, IsWho, body_of, is_name, IsRecord, Spells};
 ghost use Rattle.rq_record.specs.Views.{record_of};
 ghost use Rattle.rq_record.specs.Writing.{Puts, Appends, HasKind};
 
@@ -45,33 +46,24 @@ fn put_define(out: &mut Vec<u8>, limit: u16, error: QueueNo, name: &Name) -> Res
     Ok(())
 }
 
-fn put_register(out: &mut Vec<u8>, queue: QueueNo, name: &Name) -> Result<(), Fault>
+// Puts the body of a record of a kind that names a queue and a registrant.
+fn put_registration(out: &mut Vec<u8>, kind: u8, queue: QueueNo, name: &Name) -> Result<(), Fault>
     ensures bytes { Puts out.old.items out.new.items
-        (body_of (model.Register queue.0 name.now)) result }
-    ensures fits { OnOk result (IsRecord Two (model.Register queue.0 name.now)) }
+        (kind ∷ (to_be_bytes w32 queue.0 ++ name.now)) result }
+    ensures fits { OnOk result ((queue.0 < 2 ^ 32) × IsTrue (is_name name.now)) }
 {
-    put_u8(out, 2)?;
+    put_u8(out, kind)?;
     put_u32(out, queue.0)?;
     put(out, name.bytes())?;
     Ok(())
 }
 
-fn put_deregister(out: &mut Vec<u8>, queue: QueueNo, name: &Name) -> Result<(), Fault>
-    ensures bytes { Puts out.old.items out.new.items
-        (body_of (model.Deregister queue.0 name.now)) result }
-    ensures fits { OnOk result (IsRecord Two (model.Deregister queue.0 name.now)) }
+// Puts the body of a record of a kind that names a unit alone.
+fn put_unit(out: &mut Vec<u8>, kind: u8, unit: UnitNo) -> Result<(), Fault>
+    ensures bytes { Puts out.old.items out.new.items (kind ∷ to_be_bytes w64 unit.0) result }
+    ensures fits { OnOk result (unit.0 < 2 ^ 64) }
 {
-    put_u8(out, 3)?;
-    put_u32(out, queue.0)?;
-    put(out, name.bytes())?;
-    Ok(())
-}
-
-fn put_begin(out: &mut Vec<u8>, unit: UnitNo) -> Result<(), Fault>
-    ensures bytes { Puts out.old.items out.new.items (body_of (model.Begin unit.0)) result }
-    ensures fits { OnOk result (IsRecord Two (model.Begin unit.0)) }
-{
-    put_u8(out, 4)?;
+    put_u8(out, kind)?;
     put_u64(out, unit.0)?;
     Ok(())
 }
@@ -115,24 +107,6 @@ fn put_dequeue(
     Ok(())
 }
 
-fn put_commit(out: &mut Vec<u8>, unit: UnitNo) -> Result<(), Fault>
-    ensures bytes { Puts out.old.items out.new.items (body_of (model.Commit unit.0)) result }
-    ensures fits { OnOk result (IsRecord Two (model.Commit unit.0)) }
-{
-    put_u8(out, 7)?;
-    put_u64(out, unit.0)?;
-    Ok(())
-}
-
-fn put_abort(out: &mut Vec<u8>, unit: UnitNo) -> Result<(), Fault>
-    ensures bytes { Puts out.old.items out.new.items (body_of (model.Abort unit.0)) result }
-    ensures fits { OnOk result (IsRecord Two (model.Abort unit.0)) }
-{
-    put_u8(out, 8)?;
-    put_u64(out, unit.0)?;
-    Ok(())
-}
-
 fn put_checkpoint(out: &mut Vec<u8>, bytes: &CheckBytes) -> Result<(), Fault>
     ensures bytes { Puts out.old.items out.new.items (body_of (model.Checkpoint bytes.now)) result }
     ensures fits { OnOk result (IsRecord Two (model.Checkpoint bytes.now)) }
@@ -159,9 +133,9 @@ fn put_body(out: &mut Vec<u8>, r: &Record) -> Result<(), Fault>
 {
     match r {
         Record::Define { limit, error, name } => put_define(out, *limit, *error, name),
-        Record::Register { queue, name } => put_register(out, *queue, name),
-        Record::Deregister { queue, name } => put_deregister(out, *queue, name),
-        Record::Begin { unit } => put_begin(out, *unit),
+        Record::Register { queue, name } => put_registration(out, 2, *queue, name),
+        Record::Deregister { queue, name } => put_registration(out, 3, *queue, name),
+        Record::Begin { unit } => put_unit(out, 4, *unit),
         Record::Enqueue {
             priority,
             queue,
@@ -170,8 +144,8 @@ fn put_body(out: &mut Vec<u8>, r: &Record) -> Result<(), Fault>
             payload,
         } => put_enqueue(out, *unit, *queue, *priority, by, payload),
         Record::Dequeue { unit, queue, by } => put_dequeue(out, *unit, *queue, by),
-        Record::Commit { unit } => put_commit(out, *unit),
-        Record::Abort { unit } => put_abort(out, *unit),
+        Record::Commit { unit } => put_unit(out, 7, *unit),
+        Record::Abort { unit } => put_unit(out, 8, *unit),
         Record::Checkpoint { bytes } => put_checkpoint(out, bytes),
         Record::Kill { queue, element } => put_kill(out, *queue, *element),
     }

@@ -17,8 +17,8 @@ abbrev pub elements_and_notes_of : State → List ℕ
 elements_and_notes_of s = counted element_bytes s.elements ++ counted note_bytes s.notes
 
 -- all behind the head
-abbrev pub lists_of : State → List ℕ
-lists_of s = flat_map definition_bytes s.definitions ++ (counted (to_be_bytes w64) s.units
+abbrev pub members_of : State → List ℕ
+members_of s = flat_map definition_bytes s.definitions ++ (counted (to_be_bytes w64) s.units
     ++ (counted registrant_bytes s.registrants ++ elements_and_notes_of s))
 
 -- the bytes of its numbers, and of its members, each in its shortest form

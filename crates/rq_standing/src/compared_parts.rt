@@ -6,7 +6,7 @@ ghost use Rattle.std.specs.List.Sorted.{IsPermutation};
 ghost use Rattle.rq_model.specs.Queues as queues;
 ghost use Rattle.rq_model.specs.StateSpelling.{registrant_bytes};
 ghost use Rattle.rq_record.specs.declared.fault.Fault.TheVariants.{Resources};
-ghost use Rattle.rq_state.specs.Comparing.{behind};
+ghost use Rattle.rq_state.specs.Comparing.{left_after};
 
 use rq_queue::{LentElement, LentNote, Part};
 use rq_record::Fault;
@@ -28,7 +28,7 @@ pub(crate) fn registrants_in(parts: &[Part]) -> usize
 /// The spellings of the registrants are to come next in the bytes. It looks at no part behind the
 /// first that differs.
 pub(crate) fn compare_registrants_of(parts: &[Part], bytes: &mut Compared<'_>)
-    ensures { bytes.new ≡ behind
+    ensures { bytes.new ≡ left_after
         (flat_map (λ (p : queues.Part). flat_map registrant_bytes p.registrants) parts.now)
         bytes.old }
 {

@@ -10,7 +10,7 @@ ghost use Rattle.rq_model.specs.States.{State};
 ghost use Rattle.rq_model.specs.StateSpelling.{counted};
 ghost use Rattle.rq_model.specs.WellFormed.{IsWellFormed};
 ghost use Rattle.rq_record.specs.declared.fault.Fault.TheVariants.{Resources};
-ghost use Rattle.rq_state.specs.Comparing.{behind};
+ghost use Rattle.rq_state.specs.Comparing.{left_after};
 ghost use Rattle.rq_state.specs.Views.{unit_of};
 ghost use Rattle.rq_standing.specs.Units.{AreUnits, has_open, queues_of, engages_in};
 
@@ -89,10 +89,10 @@ impl OpenUnits {
         requires few { (s : State) × IsWellFormed s × AreUnits self.now s
             × (length s.units < 4294967296) }
         ensures { (s : State) → IsWellFormed s → AreUnits self.now s
-            → bytes.new ≡ behind (counted (to_be_bytes w64) s.units) bytes.old }
+            → bytes.new ≡ left_after (counted (to_be_bytes w64) s.units) bytes.old }
     {
         let units = self.count();
-        bytes.count(units);
+        bytes.member_count(units);
         compare_each(&self.named, bytes);
     }
 
@@ -121,7 +121,7 @@ fn listed(alloc: Global, named: &BTreeMap<u64, Vec<u64>>) -> Result<Vec<UnitNo>,
 
 // The numbers are to come next in the bytes. It looks at none behind the first that differs.
 fn compare_each(named: &BTreeMap<u64, Vec<u64>>, bytes: &mut Compared<'_>)
-    ensures compared { bytes.new ≡ behind (flat_map (to_be_bytes w64) (keys named.now)) bytes.old }
+    ensures compared { bytes.new ≡ left_after (flat_map (to_be_bytes w64) (keys named.now)) bytes.old }
     ensures ordered { IsOrdered nat_cmp named.now }
 {
     for unit in named.keys() {

@@ -8,8 +8,8 @@ ghost use Rattle.rq_model.specs.StateSpelling.{counted, registrant_bytes, elemen
 ghost use Rattle.rq_model.specs.StateSpelling.{note_bytes, state_bytes};
 ghost use Rattle.rq_queue.specs.Rooms.{member_bytes};
 ghost use Rattle.rq_record.specs.declared.fault.Fault.TheVariants.{Resources};
-ghost use Rattle.rq_state.specs.Comparing.{behind};
-ghost use Rattle.rq_standing.specs.Spelled.{head_of, lists_of, least_bytes};
+ghost use Rattle.rq_state.specs.Comparing.{left_after};
+ghost use Rattle.rq_standing.specs.Spelled.{head_of, members_of, least_bytes};
 ghost use Rattle.rq_standing.specs.Standings.{HoldsState};
 
 use crate::compared_parts::{compare_registrants_of, lent_elements, lent_notes, registrants_in};
@@ -38,13 +38,13 @@ impl Queues {
     fn compare_head(&self, bytes: &mut Compared<'_>)
         requires { length self.now.definitions.items ≤ 4096 }
         ensures { (t : states.State) → HoldsState self.now t
-            → bytes.new ≡ behind (head_of t) bytes.old }
+            → bytes.new ≡ left_after (head_of t) bytes.old }
     {
         bytes.u64(self.next);
         bytes.u64(self.greatest);
         bytes.u64(self.committed);
         bytes.u64(self.aborted);
-        bytes.count(self.definitions.len());
+        bytes.member_count(self.definitions.len());
     }
 
     /// Whether so many bytes are enough for all members, each in its shortest form.
@@ -74,10 +74,10 @@ impl Queues {
         requires holds { (t : states.State) × HoldsState self.now t }
         requires next { self.now.next ≤ 4294967295 }
         ensures { (t : states.State) → HoldsState self.now t
-            → bytes.new ≡ behind (counted registrant_bytes t.registrants) bytes.old }
+            → bytes.new ≡ left_after (counted registrant_bytes t.registrants) bytes.old }
     {
         rq_state::parts_make_the_state();
-        bytes.count(registrants_in(&self.parts));
+        bytes.member_count(registrants_in(&self.parts));
         compare_registrants_of(&self.parts, bytes);
     }
 
@@ -87,7 +87,7 @@ impl Queues {
         requires holds { (t : states.State) × HoldsState self.now t }
         requires next { self.now.next ≤ 4294967295 }
         ensures compared { OnOk result ((t : states.State) → HoldsState self.now t
-            → bytes.new ≡ behind (counted element_bytes t.elements) bytes.old) }
+            → bytes.new ≡ left_after (counted element_bytes t.elements) bytes.old) }
         ensures refused { IfErr result (λ e. e ≡ Resources) }
     {
         rq_state::parts_make_the_state();
@@ -97,7 +97,7 @@ impl Queues {
         }
         let mut elements = lent_elements(alloc, &self.parts)?;
         order(&mut elements);
-        bytes.count(elements.len());
+        bytes.member_count(elements.len());
         compare_all(&elements, bytes);
         Ok(())
     }
@@ -107,7 +107,7 @@ impl Queues {
         requires holds { (t : states.State) × HoldsState self.now t }
         requires next { self.now.next ≤ 4294967295 }
         ensures compared { OnOk result ((t : states.State) → HoldsState self.now t
-            → bytes.new ≡ behind (counted note_bytes t.notes) bytes.old) }
+            → bytes.new ≡ left_after (counted note_bytes t.notes) bytes.old) }
         ensures refused { IfErr result (λ e. e ≡ Resources) }
     {
         rq_state::parts_make_the_state();
@@ -116,7 +116,7 @@ impl Queues {
         }
         let mut notes = lent_notes(alloc, &self.parts)?;
         order(&mut notes);
-        bytes.count(notes.len());
+        bytes.member_count(notes.len());
         compare_all(&notes, bytes);
         Ok(())
     }
@@ -126,7 +126,7 @@ impl Queues {
         requires holds { (t : states.State) × HoldsState self.now t }
         requires next { self.now.next ≤ 4294967295 }
         ensures compared { OnOk result ((t : states.State) → HoldsState self.now t
-            → bytes.new ≡ behind (lists_of t) bytes.old) }
+            → bytes.new ≡ left_after (members_of t) bytes.old) }
         ensures refused { IfErr result (λ e. e ≡ Resources) }
     {
         compare_all(&self.definitions, bytes);
@@ -151,6 +151,6 @@ impl Queues {
             return Ok(false);
         }
         self.compare_lists(alloc, &mut bytes)?;
-        Ok(bytes.is_whole())
+        Ok(bytes.is_matched())
     }
 }

@@ -3,7 +3,7 @@
 ghost use Rattle.std.specs.Prelude.{◌≡◌, ◌<◌, ℕ, ◌∷◌, [], List, Some, is_some, option_map};
 ghost use Rattle.std.specs.Int.{w16, w32, w64, to_be_bytes};
 ghost use Rattle.std.specs.List.{flat_map};
-ghost use Rattle.rq_state.specs.Comparing.{behind, is_whole};
+ghost use Rattle.rq_state.specs.Comparing.{left_after, is_matched};
 
 use std::marker::Model;
 
@@ -24,9 +24,9 @@ impl<'a> Model for Compared<'a> {
 }
 
 // What is left of the bytes behind the text, if they begin with it.
-#[tactic(auto, unfolding(crate::specs::Comparing::behind))]
+#[tactic(auto, unfolding(crate::specs::Comparing::left_after))]
 fn rest_behind<'a>(bytes: &'a [u8], text: &[u8]) -> Option<&'a [u8]>
-    ensures { option_map (λ rest. rest.now) result ≡ behind text.now (Some bytes.now) }
+    ensures { option_map (λ rest. rest.now) result ≡ left_after text.now (Some bytes.now) }
 {
     if !bytes.starts_with(text) {
         return None;
@@ -52,8 +52,8 @@ impl<'a> Compared<'a> {
     }
 
     /// Whether the bytes are the pieces so far, and no byte more.
-    pub fn is_whole(&self) -> bool
-        ensures { result ≡ is_whole self.now }
+    pub fn is_matched(&self) -> bool
+        ensures { result ≡ is_matched self.now }
     {
         match self.rest {
             Some(rest) => rest.is_empty(),
@@ -62,9 +62,9 @@ impl<'a> Compared<'a> {
     }
 
     /// These bytes are to come next.
-    #[tactic(auto, unfolding(crate::specs::Comparing::behind))]
-    pub(crate) fn bytes(&mut self, text: &[u8])
-        ensures { self.new ≡ behind text.now self.old }
+    #[tactic(auto, unfolding(crate::specs::Comparing::left_after))]
+    pub(crate) fn next_bytes(&mut self, text: &[u8])
+        ensures { self.new ≡ left_after text.now self.old }
     {
         if let Some(rest) = self.rest {
             self.rest = rest_behind(rest, text);
@@ -73,36 +73,36 @@ impl<'a> Compared<'a> {
 
     /// This byte is to come next.
     pub(crate) fn u8(&mut self, n: u8)
-        ensures { self.new ≡ behind (n ∷ []) self.old }
+        ensures { self.new ≡ left_after (n ∷ []) self.old }
     {
-        self.bytes(&[n]);
+        self.next_bytes(&[n]);
     }
 
     /// This number is to come next, in two bytes.
     pub(crate) fn u16(&mut self, n: u16)
-        ensures { self.new ≡ behind (to_be_bytes w16 n) self.old }
+        ensures { self.new ≡ left_after (to_be_bytes w16 n) self.old }
     {
-        self.bytes(&n.to_be_bytes());
+        self.next_bytes(&n.to_be_bytes());
     }
 
     /// This number is to come next, in four bytes.
     pub(crate) fn u32(&mut self, n: u32)
-        ensures { self.new ≡ behind (to_be_bytes w32 n) self.old }
+        ensures { self.new ≡ left_after (to_be_bytes w32 n) self.old }
     {
-        self.bytes(&n.to_be_bytes());
+        self.next_bytes(&n.to_be_bytes());
     }
 
     /// This number is to come next, in eight bytes.
     pub fn u64(&mut self, number: u64)
-        ensures { self.new ≡ behind (to_be_bytes w64 number) self.old }
+        ensures { self.new ≡ left_after (to_be_bytes w64 number) self.old }
     {
-        self.bytes(&number.to_be_bytes());
+        self.next_bytes(&number.to_be_bytes());
     }
 
     /// The number of members is to come next.
-    pub fn count(&mut self, count: usize)
+    pub fn member_count(&mut self, count: usize)
         requires { count < 4294967296 }
-        ensures { self.new ≡ behind (to_be_bytes w32 count) self.old }
+        ensures { self.new ≡ left_after (to_be_bytes w32 count) self.old }
     {
         self.u32(count as u32);
     }
@@ -114,13 +114,13 @@ pub trait Compare: Drop {
 
     /// Its spelling is to come next in the bytes.
     fn compare(&self, bytes: &mut Compared<'_>)
-        ensures { bytes.new ≡ behind (spelling self.now) bytes.old };
+        ensures { bytes.new ≡ left_after (spelling self.now) bytes.old };
 }
 
 /// The spellings of all members are to come next, one after the other. It looks at no member behind
 /// the first that differs.
 pub fn compare_all<M: Compare>(members: &[M], bytes: &mut Compared<'_>)
-    ensures { bytes.new ≡ behind (flat_map M.spelling members.now) bytes.old }
+    ensures { bytes.new ≡ left_after (flat_map M.spelling members.now) bytes.old }
 {
     for member in members {
         if !bytes.agree() {

@@ -5,7 +5,7 @@ ghost use Rattle.std.specs.Int.{w16, w64, to_be_bytes};
 ghost use Rattle.rq_model.specs.StateSpelling.{name_bytes, element_number, kind_byte};
 ghost use Rattle.rq_model.specs.StateSpelling.{definition_bytes, last_bytes, registrant_bytes};
 ghost use Rattle.rq_model.specs.StateSpelling.{mark_bytes, element_bytes, note_bytes};
-ghost use Rattle.rq_state.specs.Comparing.{behind};
+ghost use Rattle.rq_state.specs.Comparing.{left_after};
 ghost use Rattle.rq_state.specs.Views.{mark_of, kind_of, id_of};
 
 use crate::compared::{Compare, Compared};
@@ -17,14 +17,14 @@ impl Compared<'_> {
     // A name of a queue or registrant is to come next.
     fn name(&mut self, name: &[u8])
         requires { length name.now ≤ 255 }
-        ensures { self.new ≡ behind (name_bytes name.now) self.old }
+        ensures { self.new ≡ left_after (name_bytes name.now) self.old }
     {
         self.u8(name.len() as u8);
-        self.bytes(name);
+        self.next_bytes(name);
     }
 
     fn kind(&mut self, kind: OpKind)
-        ensures { self.new ≡ behind (kind_byte (kind_of kind) ∷ []) self.old }
+        ensures { self.new ≡ left_after (kind_byte (kind_of kind) ∷ []) self.old }
     {
         match kind {
             OpKind::Enqueue => self.u8(1),
@@ -33,7 +33,7 @@ impl Compared<'_> {
     }
 
     fn id(&mut self, element: Option<ElemId>)
-        ensures { self.new ≡ behind (to_be_bytes w64 (element_number (id_of element))) self.old }
+        ensures { self.new ≡ left_after (to_be_bytes w64 (element_number (id_of element))) self.old }
     {
         match element {
             None => self.u64(u64::MAX),
@@ -43,7 +43,7 @@ impl Compared<'_> {
 
     // The tag and the element of an operation, which end its spelling.
     fn operation_end(&mut self, last: &Last)
-        ensures { self.new ≡ behind (to_be_bytes w64 last.now.tag
+        ensures { self.new ≡ left_after (to_be_bytes w64 last.now.tag
             ++ to_be_bytes w64 (element_number last.now.element)) self.old }
     {
         self.u64(last.tag);
@@ -51,7 +51,7 @@ impl Compared<'_> {
     }
 
     fn operation(&mut self, last: &Last)
-        ensures { self.new ≡ behind (kind_byte last.now.kind ∷ (to_be_bytes w64 last.now.place
+        ensures { self.new ≡ left_after (kind_byte last.now.kind ∷ (to_be_bytes w64 last.now.place
             ++ (to_be_bytes w64 last.now.tag ++ to_be_bytes w64 (element_number last.now.element))))
             self.old }
     {
@@ -61,7 +61,7 @@ impl Compared<'_> {
     }
 
     fn last(&mut self, last: Option<&Last>)
-        ensures { self.new ≡ behind (last_bytes (option_map (λ l. l.now) last.entry)) self.old }
+        ensures { self.new ≡ left_after (last_bytes (option_map (λ l. l.now) last.entry)) self.old }
     {
         match last {
             None => self.u8(0),
@@ -70,7 +70,7 @@ impl Compared<'_> {
     }
 
     fn mark(&mut self, mark: Mark)
-        ensures { self.new ≡ behind (mark_bytes (mark_of mark)) self.old }
+        ensures { self.new ≡ left_after (mark_bytes (mark_of mark)) self.old }
     {
         match mark {
             Mark::Free => self.u8(0),
@@ -89,7 +89,7 @@ impl Compared<'_> {
     /// is one.
     pub fn registrant(&mut self, queue: u32, name: &[u8], last: Option<&Last>)
         requires { length name.now ≤ 255 }
-        ensures { self.new ≡ behind (registrant_bytes (record {
+        ensures { self.new ≡ left_after (registrant_bytes (record {
           queue = queue;
           name = name.now;
           last = option_map (λ l. l.now) last.entry;
@@ -115,14 +115,14 @@ impl Compare for Definition {
 fn compare_payload(payload: &[u8], bytes: &mut Compared<'_>)
     requires { length payload.now ≤ 65535 }
     ensures { bytes.new
-        ≡ behind (to_be_bytes w16 (length payload.now) ++ payload.now) bytes.old }
+        ≡ left_after (to_be_bytes w16 (length payload.now) ++ payload.now) bytes.old }
 {
     bytes.u16(payload.len() as u16);
-    bytes.bytes(payload);
+    bytes.next_bytes(payload);
 }
 
 fn compare_element_end(element: &KeptElement, bytes: &mut Compared<'_>)
-    ensures { bytes.new ≡ behind (element.now.priority
+    ensures { bytes.new ≡ left_after (element.now.priority
         ∷ (to_be_bytes w64 element.now.attempts ++ (mark_bytes element.now.mark
         ++ (to_be_bytes w16 (length element.now.payload) ++ element.now.payload)))) bytes.old }
 {
@@ -144,7 +144,7 @@ impl Compare for KeptElement {
 }
 
 fn compare_note_end(note: &Note, bytes: &mut Compared<'_>)
-    ensures { bytes.new ≡ behind (name_bytes note.now.name ++ kind_byte note.now.last.kind
+    ensures { bytes.new ≡ left_after (name_bytes note.now.name ++ kind_byte note.now.last.kind
         ∷ (to_be_bytes w64 note.now.last.tag
         ++ to_be_bytes w64 (element_number note.now.last.element))) bytes.old }
 {

@@ -27,11 +27,11 @@ pub(crate) struct Log {
 fn record_at<R: Threads + Sync>(
     rt: &R,
     alloc: Global,
+    front: &mut MadeFront,
     version: Version,
     plan: &Plan,
     number: u64,
     text: &[u8],
-    front: &mut MadeFront,
 ) -> Result<Record, Fault>
     requires { (rs : List model.Record) × IsFrontAfter (version_of version) front.old rs
         × AreLogged (version_of version) rs }
@@ -103,7 +103,7 @@ impl Log {
         ensures { LineMade (version_of version) number text.now self.old self.new result }
     {
         rq_model::frames_join();
-        let r = record_at(rt, alloc, version, plan, number, text, &mut self.front)?;
+        let r = record_at(rt, alloc, &mut self.front, version, plan, number, text)?;
         append(alloc, &mut self.out, &self.last, &r)?;
         self.last = last_32(&self.out);
         self.front.keep(alloc, &r)

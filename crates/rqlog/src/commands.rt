@@ -186,7 +186,7 @@ where
 
 // What is printed of a log.
 #[derive(Clone, Copy)]
-enum Shown {
+enum Printed {
     // The report of a plain log.
     Report,
     // The report of one that was carried on.
@@ -196,7 +196,7 @@ enum Shown {
 }
 
 // Prints it.
-fn print_shown<R, F>(rt: &R, shown: Shown, from: F, plan: &Plan) -> Result<(), Fault>
+fn print_log<R, F>(rt: &R, printed: Printed, from: F, plan: &Plan) -> Result<(), Fault>
 where
     R: Print + Clock + AllocGlobal + Threads + Sync,
     F: Read + Drop,
@@ -206,13 +206,13 @@ where
         rt,
         inner: io::writer(rt),
     });
-    match shown {
-        Shown::Report => rq_tool::run(rt, rt.alloc(), &mut input, &mut output, plan, &Open),
-        Shown::CarriedReport => {
+    match printed {
+        Printed::Report => rq_tool::run(rt, rt.alloc(), &mut input, &mut output, plan, &Open),
+        Printed::CarriedReport => {
             let offset = CARRIED_AT as u64;
             rq_tool::run_at(rt, rt.alloc(), &mut input, &mut output, offset, plan, &Open)
         }
-        Shown::Audit => rq_tool::audit_log(rt, rt.alloc(), &mut input, &mut output, plan),
+        Printed::Audit => rq_tool::audit_log(rt, rt.alloc(), &mut input, &mut output, plan),
     }
 }
 
@@ -221,12 +221,12 @@ where
     R: Files<File = File> + Print + Clock + AllocGlobal + Threads + Sync,
 {
     let (is_carried, from) = begun_log(rt, opened(rt, path, Stream::Log)?)?;
-    let shown = if is_carried {
-        Shown::CarriedReport
+    let printed = if is_carried {
+        Printed::CarriedReport
     } else {
-        Shown::Report
+        Printed::Report
     };
-    Ok(print_shown(rt, shown, from, plan)?)
+    Ok(print_log(rt, printed, from, plan)?)
 }
 
 // The closed log, plain or carried on.
@@ -303,7 +303,7 @@ where
     if is_carried {
         return tell_audit(rt, from, plan);
     }
-    Ok(print_shown(rt, Shown::Audit, from, plan)?)
+    Ok(print_log(rt, Printed::Audit, from, plan)?)
 }
 
 /// Does the command of the words.

@@ -20,6 +20,6 @@ returns-clause-told g c =
       choice.0,
       script.1,
       subst (λ (why : Why). IsChoice (is_whole why) choice.0) end.2.why choice.1,
-      Appends-trans (held c.args.output.now) (held c.put_front.new.output) (held c.put_rest.new.output) script.0
+      Appends-trans (held c.args.output.now) (held c.put_front_script.new.output) (held c.put_rest.new.output) script.0
           choice.0 script.2 choice.2,
     )

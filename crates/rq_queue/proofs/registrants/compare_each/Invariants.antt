@@ -2,9 +2,9 @@ use Rattle.std.proofs.Common.{◌≡◌, map}
 use Rattle.std.specs.List.{flat_map}
 use Rattle.rq_model.specs.StateSpelling.{registrant_bytes}
 use Rattle.rq_queue.specs.Roll.{registrant_of}
-use Rattle.rq_state.specs.Comparing.{behind}
+use Rattle.rq_state.specs.Comparing.{left_after}
 use Rattle.rq_queue.proofs.registrants.compare_each.Given as goal
 
 abbrev pub invariant-loop-key : goal.invariant-loop-key
-invariant-loop-key l = behind (flat_map registrant_bytes (map registrant_of l.key-iterator)) l.bytes
-    ≡ behind (flat_map registrant_bytes (map registrant_of l.lasts.entries)) l.fn.bytes
+invariant-loop-key l = left_after (flat_map registrant_bytes (map registrant_of l.key-iterator)) l.bytes
+    ≡ left_after (flat_map registrant_bytes (map registrant_of l.lasts.entries)) l.fn.bytes

@@ -3,7 +3,7 @@ use Rattle.std.specs.List.{flat_map}
 use Rattle.rq_model.specs.States.{Definition}
 use Rattle.rq_model.specs.StateSpelling.{definition_bytes}
 use Rattle.rq_model.proofs.StateCodes.{are_few}
-use Rattle.rq_state.specs.Comparing.{behind}
+use Rattle.rq_state.specs.Comparing.{left_after}
 use Rattle.rq_standing.proofs.Spellings.{lists_compared}
 use Rattle.rq_standing.proofs.queues.Queues.compare_lists.Goals as goal
 
@@ -24,7 +24,7 @@ pub returns-clause-compared : goal.returns-clause-compared
 returns-clause-compared c = λ t holds.
     lists_compared t c.args.bytes.now c.compare_all.new.bytes c.compare.new.bytes c.compare_registrants.new.bytes
     c.compare_elements.new.bytes c.compare_notes.new.bytes
-    (c.compare_all.ensures ∙ ap (λ (ds : List Definition). behind (flat_map definition_bytes ds) c.args.bytes.now)
+    (c.compare_all.ensures ∙ ap (λ (ds : List Definition). left_after (flat_map definition_bytes ds) c.args.bytes.now)
     (c.deref.ensures.value ∙ holds.definitions))
     (c.compare.ensures t holds.well holds.units) (c.compare_registrants.ensures t holds)
     (c.in_ok-compare_elements.ensures.compared t holds) (c.in_ok-compare_notes.ensures.compared t holds)

@@ -5,7 +5,7 @@ use Rattle.rq_model.specs.States.{State, Note}
 use Rattle.rq_model.specs.StateSpelling.{counted, note_bytes}
 use Rattle.rq_model.specs.WellFormed.{Ordered}
 use Rattle.rq_model.proofs.StateCodes.{are_few}
-use Rattle.rq_state.specs.Comparing.{behind}
+use Rattle.rq_state.specs.Comparing.{left_after}
 use Rattle.rq_state.specs.Orders.{put_in_order, place_before}
 use Rattle.rq_state.proofs.Behind.{counted_follow, still_differ}
 use Rattle.rq_standing.specs.Standings.{HoldsState}
@@ -30,9 +30,9 @@ order-requires c =
     subst (λ (ns : List Note). Ordered (λ (n m : Note). n.last.place < m.last.place) ns)
     (sym (all_are d c.requires.holds.0 c.requires.holds.1)) c.requires.holds.1.well.notes_rise
 
-pub count-requires : goal.count-requires
-count-requires c =
-    let d = (goal.at.count-requires c).In_ok-notes in
+pub member_count-requires : goal.member_count-requires
+member_count-requires c =
+    let d = (goal.at.member_count-requires c).In_ok-notes in
     let t = c.requires.holds.0 in
     let holds = c.requires.holds.1 in
     omega (
@@ -47,8 +47,8 @@ pub returns-clause-compared : goal.returns-clause-compared
 returns-clause-compared c = λ t holds.
     let d = (goal.at.returns-clause-compared c).In_ok-notes in
     let all = c.order.ensures ∙ all_are d t holds in
-    counted_follow note_bytes t.notes c.len.result c.args.bytes.now c.count.new.self c.compare_all.new.bytes
+    counted_follow note_bytes t.notes c.len.result c.args.bytes.now c.member_count.new.self c.compare_all.new.bytes
     (omega (arith, c.len.ensures, c.order.new.members.ok.0, ap (λ (ns : List Note). length ns) all))
-    c.count.ensures
-    (c.compare_all.ensures ∙ ap (λ (ns : List Note). behind (flat_map note_bytes ns) c.count.new.self)
+    c.member_count.ensures
+    (c.compare_all.ensures ∙ ap (λ (ns : List Note). left_after (flat_map note_bytes ns) c.member_count.new.self)
     (c.deref-2.ensures.value ∙ all))

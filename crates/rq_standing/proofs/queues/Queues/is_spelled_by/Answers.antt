@@ -1,6 +1,6 @@
 use Rattle.std.proofs.Common.{ap, sym, ◌∙◌}
 use Rattle.std.proofs.lemmas.Bool.{and_parts, leb-true}
-use Rattle.rq_state.specs.Comparing.{behind}
+use Rattle.rq_state.specs.Comparing.{left_after}
 use Rattle.rq_standing.specs.Spelled.{head_of}
 use Rattle.rq_standing.proofs.Spellings.{not_spelled, is_spelled}
 use Rattle.rq_standing.proofs.queues.Queues.is_spelled_by.Goals as goal
@@ -14,16 +14,16 @@ pub returns-then-not-may_follow-clause-truth : goal.returns-then-not-may_follow-
 returns-then-not-may_follow-clause-truth c = λ t holds.
     let x = c.args.self.now in
     not_spelled t c.args.kept.now x.next c.compare_head.new.bytes c.may_follow.result holds.next
-    (c.compare_head.ensures t holds ∙ ap (behind (head_of t)) c.new-bytes.ensures)
+    (c.compare_head.ensures t holds ∙ ap (left_after (head_of t)) c.new-bytes.ensures)
     (c.may_follow.ensures t holds)
     c.if-not-may_follow.true
 
 pub returns-clause-truth : goal.returns-clause-truth
 returns-clause-truth c = λ t holds.
     let x = c.args.self.now in
-    c.is_whole.ensures
+    c.is_matched.ensures
     ∙ is_spelled t c.args.kept.now x.next c.compare_head.new.bytes c.compare_lists.new.bytes c.may_follow.result
     holds.next
-    (c.compare_head.ensures t holds ∙ ap (behind (head_of t)) c.new-bytes.ensures)
+    (c.compare_head.ensures t holds ∙ ap (left_after (head_of t)) c.new-bytes.ensures)
     (c.may_follow.ensures t holds)
     c.if-not-may_follow.false (c.in_ok-compare_lists.ensures.compared t holds)
