@@ -68,14 +68,20 @@ fn xor_three<const N: usize>(x: Simd<u32, N>, y: Simd<u32, N>, z: Simd<u32, N>) 
 pub(crate) fn big_sigma0<const N: usize>(x: Simd<u32, N>) -> Simd<u32, N>
     ensures { (j : ℕ) → j < N → slice_index result j ≡ standard.big_sigma0 (slice_index x.entry j) }
 {
-    xor_three(rotate(x, 2), rotate(x, 13), rotate(x, 22))
+    let first = rotate(x, 2);
+    let second = rotate(x, 13);
+    let third = rotate(x, 22);
+    xor_three(first, second, third)
 }
 
 #[inline(always)]
 pub(crate) fn big_sigma1<const N: usize>(x: Simd<u32, N>) -> Simd<u32, N>
     ensures { (j : ℕ) → j < N → slice_index result j ≡ standard.big_sigma1 (slice_index x.entry j) }
 {
-    xor_three(rotate(x, 6), rotate(x, 11), rotate(x, 25))
+    let first = rotate(x, 6);
+    let second = rotate(x, 11);
+    let third = rotate(x, 25);
+    xor_three(first, second, third)
 }
 
 #[inline(always)]
@@ -83,7 +89,10 @@ pub(crate) fn small_sigma0<const N: usize>(x: Simd<u32, N>) -> Simd<u32, N>
     ensures { (j : ℕ) → j < N
         → slice_index result j ≡ standard.small_sigma0 (slice_index x.entry j) }
 {
-    xor_three(rotate(x, 7), rotate(x, 18), shift(x, 3))
+    let first = rotate(x, 7);
+    let second = rotate(x, 18);
+    let third = shift(x, 3);
+    xor_three(first, second, third)
 }
 
 #[inline(always)]
@@ -91,7 +100,10 @@ pub(crate) fn small_sigma1<const N: usize>(x: Simd<u32, N>) -> Simd<u32, N>
     ensures { (j : ℕ) → j < N
         → slice_index result j ≡ standard.small_sigma1 (slice_index x.entry j) }
 {
-    xor_three(rotate(x, 17), rotate(x, 19), shift(x, 10))
+    let first = rotate(x, 17);
+    let second = rotate(x, 19);
+    let third = shift(x, 10);
+    xor_three(first, second, third)
 }
 
 // One operation fewer than the standard's form.
@@ -100,7 +112,8 @@ pub(crate) fn ch<const N: usize>(x: Simd<u32, N>, y: Simd<u32, N>, z: Simd<u32, 
     ensures { (j : ℕ) → j < N → slice_index result j
         ≡ standard.ch (slice_index x.entry j) (slice_index y.entry j) (slice_index z.entry j) }
 {
-    let taken = and(x, xor(y, z));
+    let differ = xor(y, z);
+    let taken = and(x, differ);
     xor(z, taken)
 }
 
