@@ -16,7 +16,7 @@ sys.path.insert(0, os.path.dirname(os.path.dirname(os.path.abspath(__file__))))
 from common import HERE
 
 CRATES = os.path.join(HERE, "..", "crates")
-TESTS = {"rq_rows", "rq_scarce"}
+TESTS = {"rq_rows"}
 PROGRAMS = {"rq", "rqlook", "rqlog"}
 
 HEAD = re.compile(r"^( *)(pub(?:\([a-z]+\))? )?(?:const )?fn (\w+)", re.M)

@@ -7,6 +7,7 @@ mod layers;
 mod many;
 mod program;
 mod remade;
+mod scarce;
 mod scripts;
 mod standby;
 mod streams;

@@ -5,7 +5,7 @@ mod by_hand;
 mod bytes;
 mod chains;
 mod countdowns;
-mod courses;
+pub(crate) mod courses;
 mod lanes;
 mod plain;
 mod records;

@@ -51,8 +51,8 @@ struct Lawful {
     ghost lawful: { all_lawful Two empty (map record_of records.items) ≡ true },
 }
 
-// The records as far as they are lawful after the state.
-fn lawful_front(
+/// The records as far as they are lawful after the state.
+pub(crate) fn lawful_front(
     alloc: Global,
     start: &State,
     mut records: Vec<Record>,

@@ -1,14 +1,13 @@
 //! Replay: the state is whole, or the answer is that memory was refused.
-ghost use Rattle.std.specs.Prelude.{◌≡◌, ◌≤◌, true, map, IfErr, IfOk};
+ghost use Rattle.std.specs.Prelude.{◌≡◌, true, map};
 ghost use Rattle.rq_model.specs.Records.{Two};
 ghost use Rattle.rq_model.specs.States.{empty};
 ghost use Rattle.rq_model.specs.Machine.{all_lawful};
 ghost use Rattle.rq_record.specs.Views.{record_of};
-ghost use Rattle.rq_record.specs.declared.fault.Fault.TheVariants.{Resources};
 
 use super::sweeping::{Call, is_right};
 use super::{MAKE_TWO, log_in};
-use rq_catalog::analyse_in;
+use crate::tests::layers::courses::lawful_front;
 use rq_exchange::replay;
 use rq_front::{Span, walk};
 use rq_record::{Record, Version, decode_in};
@@ -56,22 +55,6 @@ fn records_of(alloc: Global, log: &[u8]) -> Result<Vec<Record>, Fail> {
 struct Lawful {
     records: Vec<Record>,
     ghost lawful: { all_lawful Two empty (map record_of records.items) ≡ true },
-}
-
-// The records as far as they are lawful after the state.
-fn lawful_front(
-    alloc: Global,
-    start: &State,
-    mut records: Vec<Record>,
-) -> Result<Vec<Record>, Fault>
-    requires { start.now.next ≤ 4294967295 }
-    ensures lawful { IfOk result (λ v. all_lawful Two start.now (map record_of v.items) ≡ true) }
-    ensures refused { IfErr result (λ e. e ≡ Resources) }
-{
-    let analysis = analyse_in(alloc, Version::Two, start, &records)?;
-    let count = analysis.lawful();
-    records.truncate(count);
-    Ok(records)
 }
 
 // The records as far as they are lawful from the start.

@@ -1,3 +1,4 @@
+//! What calls answer if the host has little memory left, or none.
 ghost use Rattle.std.specs.Prelude.{◌<◌};
 
 mod appending;
