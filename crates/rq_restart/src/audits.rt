@@ -24,7 +24,7 @@ use std::thread::Threads;
 
 // Goes on by lawful records, and tells of the checkpoint behind them, whose frame stands at an
 // offset, whether it spells the state there.
-fn look_behind<R: Threads + Sync>(
+fn tell_behind<R: Threads + Sync>(
     rt: &R,
     alloc: Global,
     standing: &mut Standing,
@@ -79,7 +79,7 @@ fn checkpoints_among<R: Threads + Sync>(
         };
         let before = &records[done..place];
         let offset = spans[place].offset() as u64;
-        look_behind(
+        tell_behind(
             rt,
             alloc,
             &mut standing,

@@ -35,8 +35,8 @@ loop-place-preserved-in_default g c =
           c.index-records-place.is c.in_default.not-Checkpoint (before.found at framed);
     }
 
-pub look_behind-requires-clause-lawful : goal.look_behind-requires-clause-lawful
-look_behind-requires-clause-lawful g c κs within =
+pub tell_behind-requires-clause-lawful : goal.tell_behind-requires-clause-lawful
+tell_behind-requires-clause-lawful g c κs within =
     let version = version_of c.args.version in
     let s = c.args.state.now in
     let all = c.args.records.now in
@@ -65,13 +65,13 @@ loop-place-preserved g c =
     let few : i < length (map record_of all) = omega (arith, c.loop-place-test.true, length-map all record_of) in
     record {
       within = omega arith;
-      stands = subst (Stands version c.look_behind.new.standing) here
-          (c.in_ok-look_behind.ensures.stands version there before.stands lawful);
+      stands = subst (Stands version c.tell_behind.new.standing) here
+          (c.in_ok-tell_behind.ensures.stands version there before.stands lawful);
       found = λ at framed.
           found_further s at all i r (slice_index_or c.args.spans.now i none).start at_place told
-          (map audited_of c.look_behind.new.found.items) c.loop-place-test.true is ((framed.stand i few).1 none)
+          (map audited_of c.tell_behind.new.found.items) c.loop-place-test.true is ((framed.stand i few).1 none)
           c.offset-offset.ensures (before.found at framed)
-          (c.in_ok-look_behind.ensures.found version there before.stands lawful
+          (c.in_ok-tell_behind.ensures.found version there before.stands lawful
           ∙ ap (λ (t : State). told ++ audit_of t at_place (Checkpoint c.bytes.result.now)) here
           ∙ ap (λ (kept : List ℕ). told ++ audit_of (run s (take i (map record_of all))) at_place (Checkpoint kept))
           c.bytes.ensures.bytes

@@ -7,7 +7,7 @@ use Rattle.rq_record.specs.Views.{record_of}
 use Rattle.rq_catalog.proofs.Runs.{front_whole}
 use Rattle.rq_standing.specs.Stands.{Stands}
 use Rattle.rq_restart.specs.Audits.{audited_of}
-use Rattle.rq_restart.proofs.audits.look_behind.Goals as goal
+use Rattle.rq_restart.proofs.audits.tell_behind.Goals as goal
 
 pub go_on-requires-clause-stands : goal.go_on-requires-clause-stands
 go_on-requires-clause-stands g c κs within =
