@@ -6,7 +6,7 @@ pub returns-in_ok-found-in-None-clause-end : goal.returns-in_ok-found-in-None-cl
 returns-in_ok-found-in-None-clause-end g c =
     let found = c.in_ok-found-in-None.ensures in (
       found.2,
-      subst (λ (at : Option ℕ). IsRestartFrom at c.args.bytes.now found.2) (sym c.in-None.is) found.3,
+      subst (λ (at : Option ℕ). IsRestartFrom at c.args.log.now.bytes.now found.2) (sym c.in-None.is) found.3,
       found.4.end,
     )
 
@@ -14,6 +14,6 @@ pub returns-in_ok-found-in-Some-clause-end : goal.returns-in_ok-found-in-Some-cl
 returns-in_ok-found-in-Some-clause-end g c =
     let found = c.in_ok-found-in-Some.ensures in (
       found.2,
-      subst (λ (at : Option ℕ). IsRestartFrom at c.args.bytes.now found.2) (sym c.in-Some.is) found.3,
+      subst (λ (at : Option ℕ). IsRestartFrom at c.args.log.now.bytes.now found.2) (sym c.in-Some.is) found.3,
       found.4.end,
     )
