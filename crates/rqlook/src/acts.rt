@@ -152,6 +152,36 @@ where
     }
 }
 
+// The file that the log is in.
+fn file_of<'a>(words: &'a ArgMatches<'_>) -> &'a str {
+    match words.get_str("LOG") {
+        Some(file) => file,
+        None => "-",
+    }
+}
+
+// Does the command of these words on the log.
+fn act_with<'a, R>(
+    rt: &R,
+    name: &'a str,
+    words: &'a ArgMatches<'_>,
+    log: ShownLog<'a>,
+    watch: Watch,
+) -> Result<bool, Failure>
+where
+    R: Files + Print + Eprint + Clock + AllocGlobal + Threads + Sync,
+    R::File: AsFd,
+{
+    let file = file_of(words);
+    let asked = Request {
+        name,
+        words,
+        file,
+        log,
+    };
+    act_on(rt, &asked, watch)
+}
+
 /// Does the command of the words on its log. False answers that something is wrong with the log.
 pub(crate) fn act<R>(rt: &R, matches: &ArgMatches<'_>, watch: Watch) -> Result<bool, Failure>
 where
@@ -164,7 +194,7 @@ where
     let Some(plan) = plan_of(words) else {
         return Err(Failure::Workers);
     };
-    let file = words.get_str("LOG").unwrap_or("-");
+    let file = file_of(words);
     let bytes = read_log_file(rt, file, watch)?;
     watch.begins(rt, &bytes);
     let log = ShownLog {
@@ -172,11 +202,5 @@ where
         at: begins_at(&bytes),
         plan: &plan,
     };
-    let asked = Request {
-        name,
-        words,
-        file,
-        log,
-    };
-    act_on(rt, &asked, watch)
+    act_with(rt, name, words, log, watch)
 }
