@@ -27,7 +27,7 @@ returns g c =
     let why = why_of from.front.why in
     let answer = subst (λ (n : ℕ). IfOk c.finish.result
     (λ r. r ≡ restarted (run from.state rs) (n - from.front.end) n why))
-        (c.len-total.ensures ∙ c.args.bytes.ok.0) c.finish.ensures.answer in
+    (c.len-total.ensures ∙ c.args.bytes.ok.0) c.finish.ensures.answer in
     restarts_at c.args.bytes.items c.args.offset
-        (record { version = from.version; found = is.found; state = from.state })
+    (record { version = from.version; found = is.found; state = from.state })
     rs from.front.end why is.begun is.front c.finish.result answer c.finish.ensures.refused
