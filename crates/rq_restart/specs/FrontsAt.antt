@@ -11,7 +11,7 @@ use Rattle.rq_judged.specs.Views.{why_of}
 use Rattle.rq_restart.specs.declared.restarting_at.FrontAt.{FrontAt}
 
 -- the front of b from the checkpoint at an offset on, and what one pass over it found
-pub record IsFrontAt (b : List ℕ) (offset : ℕ) (f : FrontAt) : Type 0 where
+pub record IsFoundFront (b : List ℕ) (offset : ℕ) (f : FrontAt) : Type 0 where
   pub found : Chain
   pub begun : IsBegun b offset (record { version = f.version; found = found; state = f.state })
   pub front : IsFrontFrom (version_of f.version) f.state b offset
@@ -21,5 +21,5 @@ pub record IsFrontAt (b : List ℕ) (offset : ℕ) (f : FrontAt) : Type 0 where
 
 -- that, or why there is none
 abbrev pub FindsFrontAt : List ℕ → ℕ → Result FrontAt Fault → Type 0
-FindsFrontAt b offset (Ok f) = IsFrontAt b offset f
+FindsFrontAt b offset (Ok f) = IsFoundFront b offset f
 FindsFrontAt b offset (Err e) = RefusedAt b offset e
