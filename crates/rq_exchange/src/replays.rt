@@ -1,13 +1,15 @@
 //! Replay: each queue is redone once, on the workers of the plan.
 
-ghost use Rattle.std.specs.Prelude.{◌≡◌, ◌<◌, ◌≤◌, ◌^◌, ◌+◌, true, length, map, IfOk, IfErr};
+ghost use Rattle.std.specs.Prelude.{◌≡◌, ℕ, ◌<◌, ◌≤◌, ◌^◌, ◌+◌, true, length, map, IfOk, IfErr};
 ghost use Rattle.rq_model.specs.Records.{Two};
 ghost use Rattle.rq_model.specs.Machine.{run, all_lawful};
 ghost use Rattle.rq_record.specs.Views.{record_of};
 ghost use Rattle.rq_record.specs.declared.fault.Fault.TheVariants.{Resources};
+ghost use Rattle.rq_state.specs.Orders.{listed};
 ghost use Rattle.rq_catalog.specs.Analyses.{IsAnalysis};
+ghost use Rattle.rq_catalog.specs.Lists.{numbered};
 ghost use Rattle.rq_exchange.specs.Courses.{StartsByLast};
-ghost use Rattle.rq_exchange.specs.Gathering.{AreParts, IsRedoneTo};
+ghost use Rattle.rq_exchange.specs.Gathering.{AreParts, HasAllButMembers, IsRedoneTo};
 ghost use Rattle.rq_exchange.specs.Jobs.{IsJob, records_of, errors_in};
 
 use crate::board::placed;
@@ -23,7 +25,7 @@ use rq_catalog::{Analysis, analyse_kept};
 use rq_plan::{Gate, Plan};
 use rq_queue::Part;
 use rq_record::{Fault, KeptRecord, Record, Version, kept_records};
-use rq_state::State;
+use rq_state::{KeptFields, State};
 use std::alloc::Global;
 use std::thread::Threads;
 
@@ -115,23 +117,23 @@ pub fn replay_analysed<R: Threads + Sync, G: Gate + Sync>(
     Ok(state)
 }
 
-/// The queues after the records, which are analysed, redone as in `replay_analysed`, and how that
-/// went, only for contracts: each queue was redone by one thread, once, and each error queue by the
-/// one thread whose arrival was the last of its sources. Records and analysis are most of a
-/// restart's memory; they may then be dropped, before the state is gathered. Refused only with
-/// `Resources`.
-pub fn redo_analysed<R: Threads + Sync, G: Gate + Sync>(
+// The queues after the records, of which these touch each, redone as in `replay_analysed`, and how
+// that went. The fields are what else the state then has.
+fn redo_touched<R: Threads + Sync, G: Gate + Sync>(
     rt: &R,
     alloc: Global,
     state: &State,
     records: &[KeptRecord],
-    analysis: &Analysis,
+    touching: &[Vec<(u64, usize)>],
+    fields: KeptFields,
     plan: &Plan,
     gate: &G,
 ) -> Result<(AllRedone, Course), Fault>
     requires lawful { all_lawful Two state.now (map record_of records.now) ≡ true }
     requires fits { state.now.next + length records.now < 2 ^ 64 }
-    requires analysis { IsAnalysis Two state.now (map record_of records.now) analysis.now }
+    requires touching { (queue : ℕ) → listed touching.now queue
+        ≡ numbered state.now (map record_of records.now) queue }
+    requires fields { HasAllButMembers (run state.now (map record_of records.now)) fields }
     ensures redone { IfOk result (λ r. IsRedoneTo (run state.now (map record_of records.now)) r.0) }
     ensures course { IfOk result (λ r. StartsByLast
         (map (λ d. d.error) (run state.now (map record_of records.now)).definitions) r.1) }
@@ -140,20 +142,46 @@ pub fn redo_analysed<R: Threads + Sync, G: Gate + Sync>(
     rq_model::runs_are_well_formed();
     rq_model::numbers_after();
     state.is_well_formed();
-    let definitions = analysis.definitions();
+    let definitions = fields.definitions.as_slice();
     let errors = errors_of(alloc, definitions)?;
     let (sources, ranks) = sources_of(alloc, errors.len(), &errors)?;
     let job = Job {
         state,
         records,
-        analysis,
+        touching,
         definitions,
         sources: &sources,
         ranks: &ranks,
     };
     let (parts, course) = redo_all(rt, alloc, &job, plan, gate)?;
-    let fields = fields_after(alloc, state, records, analysis)?;
     Ok((AllRedone { fields, parts }, course))
+}
+
+/// The queues after the records, which are analysed, redone as in `replay_analysed`, and how that
+/// went, only for contracts: each queue was redone by one thread, once, and each error queue by the
+/// one thread whose arrival was the last of its sources. Of the analysis only the lists of records
+/// that touch each queue are kept while queues are redone. The records are most of a restart's
+/// memory; they may then be dropped, before the state is gathered. Refused only with `Resources`.
+pub fn redo_analysed<R: Threads + Sync, G: Gate + Sync>(
+    rt: &R,
+    alloc: Global,
+    state: &State,
+    records: &[KeptRecord],
+    analysis: Analysis,
+    plan: &Plan,
+    gate: &G,
+) -> Result<(AllRedone, Course), Fault>
+    requires lawful { all_lawful Two state.now (map record_of records.now) ≡ true }
+    requires fits { state.now.next + length records.now < 2 ^ 64 }
+    requires analysis { IsAnalysis Two state.now (map record_of records.now) analysis }
+    ensures redone { IfOk result (λ r. IsRedoneTo (run state.now (map record_of records.now)) r.0) }
+    ensures course { IfOk result (λ r. StartsByLast
+        (map (λ d. d.error) (run state.now (map record_of records.now)).definitions) r.1) }
+    ensures refused { IfErr result (λ e. e ≡ Resources) }
+{
+    let fields = fields_after(alloc, state, records, &analysis)?;
+    let touching = analysis.into_touching();
+    redo_touched(rt, alloc, state, records, &touching, fields, plan, gate)
 }
 
 /// What `replay_analysed` answers, and how the replay went, as in `redo_analysed`.
@@ -174,7 +202,9 @@ pub fn replay_traced<R: Threads + Sync, G: Gate + Sync>(
         (map (λ d. d.error) (run state.now (map record_of records.now)).definitions) r.1) }
     ensures refused { IfErr result (λ e. e ≡ Resources) }
 {
-    let (all, course) = redo_analysed(rt, alloc, state, records, analysis, plan, gate)?;
+    let fields = fields_after(alloc, state, records, analysis)?;
+    let touching = analysis.all_touching();
+    let (all, course) = redo_touched(rt, alloc, state, records, touching, fields, plan, gate)?;
     let state = all.gather(alloc)?;
     Ok((state, course))
 }
