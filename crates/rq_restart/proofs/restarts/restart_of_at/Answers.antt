@@ -6,7 +6,7 @@ use Rattle.rq_model.specs.Fronts.{restarted}
 use Rattle.rq_record.specs.Views.{record_of}
 use Rattle.rq_judged.specs.Views.{why_of}
 use Rattle.rq_restart.proofs.ByFronts.{restarts_at}
-use Rattle.rq_restart.proofs.restarting_at.restart_of_at.Goals as goal
+use Rattle.rq_restart.proofs.restarts.restart_of_at.Goals as goal
 
 pub finish-requires-clause-few : goal.finish-requires-clause-few
 finish-requires-clause-few g c = λ κs within.
