@@ -11,9 +11,8 @@ ghost use Rattle.rq_queue.specs.Kept.{sent_from};
 ghost use Rattle.rq_record.specs.declared.fault.Fault.TheVariants.{Resources};
 ghost use Rattle.rq_state.specs.Views.{id_of};
 
-use crate::departures::send;
 use crate::lent::{LentElement, copied, lend_free, lend_marked};
-use crate::moves::KeptMove;
+use crate::moves::{KeptMove, send};
 use crate::priorities::{kept_with, learn, take_out};
 use crate::rooms::{room_after, room_after_marked};
 use crate::shelves::{

@@ -5,15 +5,15 @@ ghost use Rattle.std.specs.Prelude.{◌-◌, ◌≤◌, OnOk, SomeIff};
 ghost use Rattle.std.specs.List.{AllByRecursion, flat_map};
 ghost use Rattle.std.specs.List.Sorted.{IsPermutation};
 ghost use Rattle.rq_model.specs.Queues as queues;
-ghost use Rattle.rq_model.specs.Records as records;
 ghost use Rattle.rq_model.specs.Ready.{IsReady};
+ghost use Rattle.rq_model.specs.Records as records;
 ghost use Rattle.rq_model.specs.Redo as redo_words;
 ghost use Rattle.rq_model.specs.StateSpelling.{registrant_bytes};
 ghost use Rattle.rq_model.specs.States as states;
-ghost use Rattle.rq_queue.specs.Pouring.{Grows};
-ghost use Rattle.rq_queue.specs.Rooms.{member_bytes};
 ghost use Rattle.rq_record.specs.declared.fault.Fault.TheVariants.{Resources};
 ghost use Rattle.rq_state.specs.Comparing.{left_after};
+ghost use Rattle.rq_queue.specs.Pouring.{Joins, KeepsRest, Pours};
+ghost use Rattle.rq_queue.specs.Rooms.{member_bytes};
 
 use crate::elements::Elements;
 use crate::lent::LentElement;
@@ -21,10 +21,12 @@ use crate::lent_notes::LentNote;
 use crate::moves::KeptMove;
 use crate::notes::Notes;
 use crate::operations::KeptOp;
-use crate::poured_members::add_members;
 use crate::registrants::Registrants;
 use rq_record::{ElemId, Fault, KeptBy, KeptPayload, KeptRecord, Name, QueueNo, UnitNo};
-use rq_state::{Compared, Definition, Fields, KeptFields, OpKind, State, told_elements};
+use rq_state::{
+    Compared, Definition, Fields, FieldsOf, KeptFields, Note, OpKind, Registrant, State,
+    told_elements,
+};
 use std::alloc::Global;
 use std::marker::Model;
 
@@ -52,6 +54,33 @@ impl Model for Part {
       registrants = p.registrants;
       notes = p.notes;
     } };
+}
+
+// Adds members to the lists. Refused with Resources: the fields are then as before.
+fn add_members<E: Drop>(
+    fields: &mut FieldsOf<E>,
+    elements: Vec<E>,
+    registrants: Vec<Registrant>,
+    notes: Vec<Note>,
+) -> Result<(), Fault>
+    ensures elements { Joins fields.old.elements.items
+        elements.items fields.new.elements.items result }
+    ensures registrants { Joins fields.old.registrants.items
+        registrants.items fields.new.registrants.items result }
+    ensures notes { Joins fields.old.notes.items notes.items fields.new.notes.items result }
+    ensures rest { KeepsRest fields.old fields.new }
+    ensures refused { IfErr result (λ e. e ≡ Resources) }
+{
+    let mut elements = elements;
+    let mut registrants = registrants;
+    let mut notes = notes;
+    fields.elements.reserve(elements.len())?;
+    fields.registrants.reserve(registrants.len())?;
+    fields.notes.reserve(notes.len())?;
+    fields.elements.append(&mut elements)?;
+    fields.registrants.append(&mut registrants)?;
+    fields.notes.append(&mut notes)?;
+    Ok(())
 }
 
 impl Part {
@@ -105,17 +134,7 @@ impl Part {
     /// Adds its elements, registrants and notes to the lists. Refused with Resources: the fields
     /// are then as before.
     pub fn pour(self, fields: &mut Fields) -> Result<(), Fault>
-        ensures elements { Grows fields.old.elements.items
-            self.elements fields.new.elements.items result }
-        ensures registrants { Grows fields.old.registrants.items
-            self.registrants fields.new.registrants.items result }
-        ensures notes { Grows fields.old.notes.items self.notes fields.new.notes.items result }
-        ensures next { fields.new.next ≡ fields.old.next }
-        ensures greatest { fields.new.greatest ≡ fields.old.greatest }
-        ensures committed { fields.new.committed ≡ fields.old.committed }
-        ensures aborted { fields.new.aborted ≡ fields.old.aborted }
-        ensures definitions { fields.new.definitions ≡ fields.old.definitions }
-        ensures units { fields.new.units ≡ fields.old.units }
+        ensures pours { Pours fields.old self fields.new result }
         ensures refused { IfErr result (λ e. e ≡ Resources) }
     {
         let alloc = *fields.elements.allocator();
@@ -128,17 +147,7 @@ impl Part {
 
     /// The same for fields that are kept: the elements themselves go there.
     pub fn pour_kept(self, fields: &mut KeptFields) -> Result<(), Fault>
-        ensures elements { Grows fields.old.elements.items
-            self.elements fields.new.elements.items result }
-        ensures registrants { Grows fields.old.registrants.items
-            self.registrants fields.new.registrants.items result }
-        ensures notes { Grows fields.old.notes.items self.notes fields.new.notes.items result }
-        ensures next { fields.new.next ≡ fields.old.next }
-        ensures greatest { fields.new.greatest ≡ fields.old.greatest }
-        ensures committed { fields.new.committed ≡ fields.old.committed }
-        ensures aborted { fields.new.aborted ≡ fields.old.aborted }
-        ensures definitions { fields.new.definitions ≡ fields.old.definitions }
-        ensures units { fields.new.units ≡ fields.old.units }
+        ensures pours { Pours fields.old self fields.new result }
         ensures refused { IfErr result (λ e. e ≡ Resources) }
     {
         let alloc = *fields.elements.allocator();
@@ -151,17 +160,7 @@ impl Part {
     /// Adds copies of its elements, registrants and notes to the lists. Refused with Resources: the
     /// fields are then as before.
     pub fn pour_copies(&self, fields: &mut KeptFields) -> Result<(), Fault>
-        ensures elements { Grows fields.old.elements.items
-            self.now.elements fields.new.elements.items result }
-        ensures registrants { Grows fields.old.registrants.items
-            self.now.registrants fields.new.registrants.items result }
-        ensures notes { Grows fields.old.notes.items self.now.notes fields.new.notes.items result }
-        ensures next { fields.new.next ≡ fields.old.next }
-        ensures greatest { fields.new.greatest ≡ fields.old.greatest }
-        ensures committed { fields.new.committed ≡ fields.old.committed }
-        ensures aborted { fields.new.aborted ≡ fields.old.aborted }
-        ensures definitions { fields.new.definitions ≡ fields.old.definitions }
-        ensures units { fields.new.units ≡ fields.old.units }
+        ensures pours { Pours fields.old self.now fields.new result }
         ensures refused { IfErr result (λ e. e ≡ Resources) }
     {
         let alloc = *fields.elements.allocator();
