@@ -1,4 +1,5 @@
 pub mod Restarts
+pub mod FrontsAt
 pub mod RedoneFronts
 pub mod Tails
 pub mod Upgrades

@@ -53,14 +53,14 @@ fn with_aborts(
     Ok((records, units.len() as u64))
 }
 
-// The state behind the records, for whose beginning the analysis stands. It lets go of both before
-// the state is gathered, so that the three never stand in memory at once, and a caller that is
-// refused has neither to drop.
+// The state behind the records, for whose beginning the analysis stands. It lets go of both, and of
+// the state before them, before the state is gathered. So these never stand in memory at once, and a
+// caller that is refused has none to drop.
 fn redone<R, G>(
     rt: &R,
     alloc: Global,
     version: Version,
-    state: &State,
+    state: State,
     records: Vec<KeptRecord>,
     analysis: Analysis,
     plan: &Plan,
@@ -69,21 +69,22 @@ fn redone<R, G>(
 where
     R: Threads + Sync,
     G: Gate + Sync,
-    requires lawful { all_lawful (version_of version) state.now (map record_of records.items)
+    requires lawful { all_lawful (version_of version) state (map record_of records.items)
         ≡ true }
-    requires fits { state.now.next + length records.items < 2 ^ 64 }
+    requires fits { state.next + length records.items < 2 ^ 64 }
     requires within { analysis.lawful ≤ length records.items }
-    requires analysed { IsAnalysis (version_of version) state.now
+    requires analysed { IsAnalysis (version_of version) state
         (map record_of (take analysis.lawful records.items)) analysis }
-    ensures state { IfOk result (λ t. t ≡ run state.now (map record_of records.items)) }
+    ensures state { IfOk result (λ t. t ≡ run state (map record_of records.items)) }
     ensures refused { IfErr result (λ e. e ≡ Resources) }
 {
     rq_model::versions();
-    let analysis = analysis.go_on(alloc, version, state, &records)?;
-    let (all, course) = redo_analysed(rt, alloc, state, &records, &analysis, plan, gate)?;
+    let analysis = analysis.go_on(alloc, version, &state, &records)?;
+    let (all, course) = redo_analysed(rt, alloc, &state, &records, &analysis, plan, gate)?;
     drop(course);
     drop(analysis);
     drop(records);
+    drop(state);
     all.gather(alloc)
 }
 
@@ -94,7 +95,7 @@ pub(crate) fn finish<R, G>(
     rt: &R,
     alloc: Global,
     version: Version,
-    state: &State,
+    state: State,
     front: Front,
     total: usize,
     plan: &Plan,
@@ -103,16 +104,16 @@ pub(crate) fn finish<R, G>(
 where
     R: Threads + Sync,
     G: Gate + Sync,
-    requires well { IsWellFormed state.now }
-    requires next { state.now.next ≤ 4294967295 }
+    requires well { IsWellFormed state }
+    requires next { state.next ≤ 4294967295 }
     requires few { length front.records.items ≤ 4294967295 }
     requires within { front.end ≤ total }
-    requires lawful { all_lawful (version_of version) state.now (map record_of front.records.items)
+    requires lawful { all_lawful (version_of version) state (map record_of front.records.items)
         ≡ true }
-    requires analysis { IsAnalysis (version_of version) state.now
+    requires analysis { IsAnalysis (version_of version) state
         (map record_of front.records.items) front.analysis }
     ensures answer { IfOk result
-        (λ r. r ≡ restarted (run state.now (map record_of front.records.items))
+        (λ r. r ≡ restarted (run state (map record_of front.records.items))
         (total - front.end) total (why_of front.why)) }
     ensures refused { IfErr result (λ e. e ≡ Resources) }
 {

@@ -1,28 +1,87 @@
 //! The restart of a log from a checkpoint.
 
-ghost use Rattle.rq_judged.specs.Checkpoints.{BeginsAt};
+ghost use Rattle.rq_restart.specs.FrontsAt.{FindsFrontAt};
 ghost use Rattle.rq_restart.specs.Restarts.{RestartsAt};
 
 use crate::restart_ends::finish;
 use crate::restarted::Restarted;
-use rq_judged::{Begun, begin_at, front_of};
+use rq_judged::{Front, begin_at, front_of};
 use rq_plan::{Gate, Plan};
-use rq_record::{Fault, LogBytes};
+use rq_record::{Fault, LogBytes, Version};
+use rq_state::State;
 use std::alloc::Global;
 use std::marker::Sync;
+use std::sync::ArcSlice;
 use std::thread::Threads;
 
-// Where the restart of a log begins, whose bytes may be shared.
-fn begun_at<R: Threads + Sync>(
+// The front of a log from a checkpoint on, and the state that the checkpoint spells.
+#[derive(Drop)]
+struct FrontAt {
+    version: Version,
+    state: State,
+    front: Front,
+}
+
+// The front of a log from the checkpoint at an offset on. The bytes may be shared.
+fn front_from<R: Threads + Sync>(
     rt: &R,
     alloc: Global,
     bytes: &LogBytes<'_>,
     offset: u64,
     plan: &Plan,
-) -> Result<Begun, Fault>
-    ensures { BeginsAt bytes.now offset result }
+) -> Result<FrontAt, Fault>
+    ensures { FindsFrontAt bytes.now offset result }
 {
-    begin_at(rt, alloc, bytes.as_slice(), offset, plan)
+    let begun = begin_at(rt, alloc, bytes.as_slice(), offset, plan)?;
+    let front = front_of(rt, alloc, bytes, &begun, plan)?;
+    Ok(FrontAt {
+        version: begun.version,
+        state: begun.state,
+        front,
+    })
+}
+
+// The same of a log that is let go here, unless a later checkpoint or a payload is a part of it.
+fn own_front_from<R: Threads + Sync>(
+    rt: &R,
+    alloc: Global,
+    bytes: Vec<u8>,
+    offset: u64,
+    plan: &Plan,
+) -> Result<FrontAt, Fault>
+    ensures { FindsFrontAt bytes.items offset result }
+{
+    let log = ArcSlice::from_vec(bytes)?;
+    front_from(rt, alloc, &LogBytes::shared(&log), offset, plan)
+}
+
+/// The restart from a checkpoint of a log that nobody else needs: `restart_at` of its bytes, which
+/// are let go or kept as `restart_own` does it.
+pub fn restart_own_at<R, G>(
+    rt: &R,
+    alloc: Global,
+    bytes: Vec<u8>,
+    offset: u64,
+    plan: &Plan,
+    gate: &G,
+) -> Result<Restarted, Fault>
+where
+    R: Threads + Sync,
+    G: Gate + Sync,
+    ensures { RestartsAt bytes.items offset result }
+{
+    let total = bytes.len();
+    let from = own_front_from(rt, alloc, bytes, offset, plan)?;
+    finish(
+        rt,
+        alloc,
+        from.version,
+        from.state,
+        from.front,
+        total,
+        plan,
+        gate,
+    )
 }
 
 /// The restart from a checkpoint of a log whose bytes may be shared: `restart_at` of them. If they
@@ -41,14 +100,13 @@ where
     G: Gate + Sync,
     ensures { RestartsAt bytes.now offset result }
 {
-    let begun = begun_at(rt, alloc, bytes, offset, plan)?;
-    let front = front_of(rt, alloc, bytes, &begun, plan)?;
+    let from = front_from(rt, alloc, bytes, offset, plan)?;
     finish(
         rt,
         alloc,
-        begun.version,
-        &begun.state,
-        front,
+        from.version,
+        from.state,
+        from.front,
         bytes.len(),
         plan,
         gate,

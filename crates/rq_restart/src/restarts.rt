@@ -19,6 +19,7 @@ use rq_record::{Fault, LogBytes, Version};
 use rq_state::State;
 use std::alloc::Global;
 use std::marker::Sync;
+use std::sync::ArcSlice;
 use std::thread::Threads;
 
 // The version of a log whose bytes may be shared, and the front of all of it.
@@ -85,9 +86,61 @@ where
         rt,
         alloc,
         version,
-        &State::empty(alloc),
+        State::empty(alloc),
         front,
         bytes.len(),
+        plan,
+        gate,
+    )
+}
+
+// The version of a log, and the front of all of it. The log is let go here, unless a checkpoint or a
+// payload is a part of it.
+fn own_front<R: Threads + Sync>(
+    rt: &R,
+    alloc: Global,
+    bytes: Vec<u8>,
+    plan: &Plan,
+) -> Result<(Version, Front), Fault>
+    ensures front { IfOk result (λ x. IsFrontFrom (version_of x.0) empty bytes.items 40
+        (map record_of x.1.records.items) x.1.end (why_of x.1.why)) }
+    ensures analysis { IfOk result
+        (λ x. IsAnalysis (version_of x.0) empty (map record_of x.1.records.items) x.1.analysis) }
+    ensures header { IfOk result (λ x. HasHeader (version_of x.0) bytes.items) }
+    ensures short { OnOk result (length bytes.items ≤ log_limit) }
+    ensures refused { IfErr result (Refused bytes.items) }
+{
+    let log = ArcSlice::from_vec(bytes)?;
+    whole_front_of(rt, alloc, &LogBytes::shared(&log), plan)
+}
+
+/// The restart of a log that nobody else needs: `restart` of its bytes. A checkpoint, and a payload
+/// of more than 22 bytes, are parts of them and no copies. If the records of the front have no such
+/// part, the bytes are let go before a queue is redone. Else they stay in memory as long as one such
+/// payload does.
+pub fn restart_own<R, G>(
+    rt: &R,
+    alloc: Global,
+    bytes: Vec<u8>,
+    plan: &Plan,
+    gate: &G,
+) -> Result<Restarted, Fault>
+where
+    R: Threads + Sync,
+    G: Gate + Sync,
+    ensures { Restarts bytes.items result }
+{
+    rq_model::runs_are_well_formed();
+    rq_model::frames_join();
+    let total = bytes.len();
+    let (version, front) = own_front(rt, alloc, bytes, plan)?;
+    finish(
+        rt,
+        alloc,
+        version,
+        State::empty(alloc),
+        front,
+        total,
         plan,
         gate,
     )

@@ -4,34 +4,18 @@ ghost use Rattle.std.specs.Prelude.{◌<◌};
 ghost use Rattle.rq_model.specs.Checkpoints.{IsReportAt};
 ghost use Rattle.rq_model.specs.Reports.{IsReport};
 ghost use Rattle.rq_front.specs.Chains.{IsLog, Refused};
-ghost use Rattle.rq_restart.specs.Restarts.{Restarts, RestartsAt};
 ghost use Rattle.rq_tool.specs.Works.{HasNoReportAt};
 ghost use Rattle.rq_tool.specs.Written.{PutsText};
 
 use crate::input::are_bytes;
 use rq_report::{Output, write_report_by};
-use rq_restart::{Fault, Gate, LogBytes, Plan, Restarted, restart_of, restart_of_at};
+use rq_restart::{Fault, Gate, Plan, restart_own, restart_own_at};
 use std::alloc::Global;
 use std::marker::Sync;
-use std::sync::ArcSlice;
 use std::thread::Threads;
 
-// The restart of the bytes that were read. Long payloads are parts of them; what holds none lets
-// them go.
-fn restart_read<R: Threads + Sync, G: Gate + Sync>(
-    rt: &R,
-    alloc: Global,
-    bytes: Vec<u8>,
-    plan: &Plan,
-    gate: &G,
-) -> Result<Restarted, Fault>
-    ensures { Restarts bytes.items result }
-{
-    let log = ArcSlice::from_vec(bytes)?;
-    restart_of(rt, alloc, &LogBytes::shared(&log), plan, gate)
-}
-
-/// Writes the report of the log.
+/// Writes the report of the log. Long payloads are parts of the bytes that were read; if none is, these
+/// are let go on the way.
 pub(crate) fn put_report<R: Threads + Sync, O: Output, G: Gate + Sync>(
     rt: &R,
     alloc: Global,
@@ -45,24 +29,8 @@ pub(crate) fn put_report<R: Threads + Sync, O: Output, G: Gate + Sync>(
         (O.faults output.old) (O.faults output.new)
         (O.contents output.old) (O.contents output.new) result }
 {
-    let restarted = restart_read(rt, alloc, bytes, plan, gate)?;
+    let restarted = restart_own(rt, alloc, bytes, plan, gate)?;
     write_report_by(rt, alloc, &restarted, plan, output)
-}
-
-// The restart of the bytes that were read, from the checkpoint at an offset. Long payloads behind
-// it are parts of them.
-fn restart_read_at<R: Threads + Sync, G: Gate + Sync>(
-    rt: &R,
-    alloc: Global,
-    bytes: Vec<u8>,
-    offset: u64,
-    plan: &Plan,
-    gate: &G,
-) -> Result<Restarted, Fault>
-    ensures { RestartsAt bytes.items offset result }
-{
-    let log = ArcSlice::from_vec(bytes)?;
-    restart_of_at(rt, alloc, &LogBytes::shared(&log), offset, plan, gate)
 }
 
 /// Writes the report of the log from the checkpoint at an offset.
@@ -84,6 +52,6 @@ pub(crate) fn put_report_at<R: Threads + Sync, O: Output, G: Gate + Sync>(
     rq_model::true_checkpoints_report_the_same();
     rq_model::versions();
     are_bytes(&bytes);
-    let from_there = restart_read_at(rt, alloc, bytes, offset, plan, gate)?;
+    let from_there = restart_own_at(rt, alloc, bytes, offset, plan, gate)?;
     write_report_by(rt, alloc, &from_there, plan, output)
 }

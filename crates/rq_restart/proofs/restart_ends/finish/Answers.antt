@@ -15,22 +15,22 @@ abbrev before : (g : _) → In_ok-records g → List model.Record
 before g c = map record_of c.args.front.records.items
 
 -- the pass found the units that are open after the records
-are_open : (g : _) (c : In_ok-records g) → open_in c.args.front.analysis ≡ (run c.args.state.now (before g c)).units
+are_open : (g : _) (c : In_ok-records g) → open_in c.args.front.analysis ≡ (run c.args.state (before g c)).units
 are_open g c = c.requires.analysis.units
-    ∙ ap (λ (xs : List model.Record). (run c.args.state.now xs).units)
-    (front_whole (version_of c.args.version) c.args.state.now (before g c) c.requires.lawful)
+    ∙ ap (λ (xs : List model.Record). (run c.args.state xs).units)
+    (front_whole (version_of c.args.version) c.args.state (before g c) c.requires.lawful)
 
 are_closed : (g : _) (c : In_ok-records g)
-    → AreClosed (version_of c.args.version) c.args.state.now (before g c) (map record_of c.in_ok-records.records.items)
+    → AreClosed (version_of c.args.version) c.args.state (before g c) (map record_of c.in_ok-records.records.items)
 are_closed g c = closed (version_of c.args.version) c.crash_is_harmless.ensures c.runs_are_well_formed.ensures.runs
-    c.args.state.now (before g c) _ (open_in c.args.front.analysis) c.requires.well c.requires.lawful
+    c.args.state (before g c) _ (open_in c.args.front.analysis) c.requires.well c.requires.lawful
     (are_open g c) c.in_ok-records.ensures.records
 
 -- the records that were analysed are the beginning of those with the aborts
 begins : (g : _) (c : In_ok-records g) → (c.args.front.analysis.lawful ≤ length c.in_ok-records.records.items)
-    × IsAnalysis (version_of c.args.version) c.args.state.now
+    × IsAnalysis (version_of c.args.version) c.args.state
     (map record_of (take c.args.front.analysis.lawful c.in_ok-records.records.items)) c.args.front.analysis
-begins g c = analysis_of_beginning (version_of c.args.version) c.args.state.now (before g c)
+begins g c = analysis_of_beginning (version_of c.args.version) c.args.state (before g c)
     (map model.Abort (open_in c.args.front.analysis)) c.in_ok-records.records.items c.args.front.analysis
     c.requires.lawful c.requires.analysis c.in_ok-records.ensures.records
 
@@ -45,7 +45,7 @@ redone-requires-clause-analysed g c κs within = (begins g c).1
 
 pub returns-clause-answer : goal.returns-clause-answer
 returns-clause-answer g c =
-    let s = c.args.state.now in
+    let s = c.args.state in
     let d = (goal.at.returns-clause-answer g c).In_ok-records in
     let rs = before g d in
     let next : c.next.result + c.len.result ≡ s.next + length rs =

@@ -13,12 +13,12 @@ go_on-requires-clause-within g c =
 
 pub go_on-requires-clause-analysed : goal.go_on-requires-clause-analysed
 go_on-requires-clause-analysed g c =
-    subst (λ (xs : List Record). IsAnalysis (version_of c.args.version) c.args.state.now
+    subst (λ (xs : List Record). IsAnalysis (version_of c.args.version) c.args.state
     (map record_of (take c.args.analysis.lawful xs)) c.args.analysis) (sym c.deref.ensures.value) c.requires.analysed
 
 pub redo_analysed-requires-clause-analysis : goal.redo_analysed-requires-clause-analysis
 redo_analysed-requires-clause-analysis g c κs within =
-    let s = c.args.state.now in
+    let s = c.args.state in
     let all = c.args.records.items in
     let here = subst (λ (xs : List Record). IsAnalysis (version_of c.args.version) s
     (map record_of xs) c.in_ok-analysis.analysis) c.deref.ensures.value c.in_ok-analysis.ensures.analysis in
@@ -29,11 +29,11 @@ redo_analysed-requires-clause-analysis g c κs within =
 
 pub gather-requires : goal.gather-requires
 gather-requires g c =
-    record { redone = (run c.args.state.now (map record_of c.deref-2.result.now), c.in_ok-all.ensures.redone) }
+    record { redone = (run c.args.state (map record_of c.deref-2.result.now), c.in_ok-all.ensures.redone) }
 
 pub returns-clause-state : goal.returns-clause-state
 returns-clause-state g c =
-    let s = c.args.state.now in
+    let s = c.args.state in
     c.gather.ensures.state (run s (map record_of c.args.records.items))
     (subst (λ (xs : List Record). IsRedoneTo (run s (map record_of xs)) c.in_ok-all.all) c.deref-2.ensures.value
     c.in_ok-all.ensures.redone)

@@ -16,9 +16,9 @@ returns g c =
     let rs = map record_of front.records.items in
     let why = why_of front.why in
     let total = c.len.result in
-    let from_empty = subst (λ (s : State). IfOk c.finish-2.result
-    (λ r. r ≡ restarted (run s rs) (total - front.end) total why)) c.empty.ensures c.finish-2.ensures.answer in
-    let answer = subst (λ (n : ℕ). IfOk c.finish-2.result
+    let from_empty = subst (λ (s : State). IfOk c.finish.result
+    (λ r. r ≡ restarted (run s rs) (total - front.end) total why)) c.empty.ensures c.finish.ensures.answer in
+    let answer = subst (λ (n : ℕ). IfOk c.finish.result
     (λ r. r ≡ restarted (run empty rs) (n - front.end) n why)) c.len.ensures from_empty in
     restarts (version_of c.in_ok-version.version) c.frames_join.ensures.end b rs front.end
-    why is.short is.header is.front c.finish-2.result answer c.finish-2.ensures.refused
+    why is.short is.header is.front c.finish.result answer c.finish.ensures.refused

@@ -1,0 +1,14 @@
+use Rattle.std.proofs.Common.{ℕ, List, subst}
+use Rattle.rq_judged.specs.Checkpoints.{IsBegun}
+use Rattle.rq_restart.proofs.restarting_at.front_from.Goals as goal
+
+pub returns : goal.returns
+returns g c =
+    let begun = c.in_ok-begun.begun in
+    let is = subst (λ (b : List ℕ). IsBegun b c.args.offset begun) c.as_slice.ensures c.in_ok-begun.ensures in
+    record {
+      found = begun.found;
+      begun = is;
+      front = c.in_ok-front.ensures.front c.args.offset is.chain;
+      analysis = c.in_ok-front.ensures.analysis;
+    }
