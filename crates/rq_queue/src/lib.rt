@@ -10,6 +10,7 @@ mod kept_note;
 mod keys;
 mod lent;
 mod lent_notes;
+mod lists;
 mod moves;
 mod notes;
 mod operations;

@@ -1,11 +1,42 @@
 //! What is poured into the fields of a state.
 
-ghost use Rattle.std.specs.Prelude.{◌≡◌, IfErr};
+ghost use Rattle.std.specs.Prelude.{◌≡◌, ◌≤◌, ◌<◌, ◌+◌, ◌++◌, vec_len, vec_capacity, IfErr, OnOk};
 ghost use Rattle.rq_queue.specs.Pouring.{Joins};
 ghost use Rattle.rq_record.specs.declared.fault.Fault.TheVariants.{Resources};
 
 use rq_record::Fault;
 use rq_state::{FieldsOf, Note, Registrant};
+
+// Makes room for so many members behind those of a list. None is needed if it has none: then it
+// takes over the list that comes.
+fn make_room<M: Drop>(list: &mut Vec<M>, count: usize) -> Result<(), Fault>
+    ensures same { list.new.items ≡ list.old.items }
+    ensures len { vec_len list.new ≡ vec_len list.old }
+    ensures room { OnOk result
+        (0 < vec_len list.new → vec_len list.new + count ≤ vec_capacity list.new) }
+    ensures refused { IfErr result (λ e. e ≡ Resources) }
+{
+    if list.is_empty() {
+        return Ok(());
+    }
+    list.reserve(count)?;
+    Ok(())
+}
+
+// Adds members to a list that has room for them. A list without any takes theirs over, so that they
+// never stand in memory twice.
+fn join<M: Drop>(list: &mut Vec<M>, mut members: Vec<M>)
+    requires { 0 < vec_len list.old → vec_len list.old + vec_len members ≤ vec_capacity list.old }
+    ensures { list.new.items ≡ list.old.items ++ members.items }
+{
+    if list.is_empty() {
+        *list = members;
+        return;
+    }
+    let Ok(()) = list.append(&mut members) else {
+        unreachable!()
+    };
+}
 
 /// Adds members to the lists. Refused with Resources: the fields are then as before.
 pub(crate) fn add_members<E: Drop>(
@@ -27,14 +58,11 @@ pub(crate) fn add_members<E: Drop>(
     ensures units { fields.new.units ≡ fields.old.units }
     ensures refused { IfErr result (λ e. e ≡ Resources) }
 {
-    let mut elements = elements;
-    let mut registrants = registrants;
-    let mut notes = notes;
-    fields.elements.reserve(elements.len())?;
-    fields.registrants.reserve(registrants.len())?;
-    fields.notes.reserve(notes.len())?;
-    fields.elements.append(&mut elements)?;
-    fields.registrants.append(&mut registrants)?;
-    fields.notes.append(&mut notes)?;
+    make_room(&mut fields.elements, elements.len())?;
+    make_room(&mut fields.registrants, registrants.len())?;
+    make_room(&mut fields.notes, notes.len())?;
+    join(&mut fields.elements, elements);
+    join(&mut fields.registrants, registrants);
+    join(&mut fields.notes, notes);
     Ok(())
 }

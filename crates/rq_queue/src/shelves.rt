@@ -16,6 +16,7 @@ ghost use Rattle.rq_queue.specs.Kept.{staying};
 ghost use Rattle.rq_queue.specs.Sorted.{sorted};
 ghost use Rattle.rq_record.specs.declared.fault.Fault.TheVariants.{Resources};
 
+use crate::lists::next_of;
 use rq_record::{Fault, UnitNo};
 use rq_state::{Definition, KeptElement, Mark};
 use std::alloc::Global;
@@ -185,7 +186,9 @@ pub(crate) fn all_freed(
         Frees others free.old.entries (unheld unit.0 list.items) free.new.entries []) }
     ensures refused { IfErr result (λ e. e ≡ Resources) }
 {
-    for e in list {
+    let mut coming = list;
+    coming.reverse();
+    while let Some(e) = next_of(&mut coming) {
         if e.is_held(unit) {
             continue;
         }
