@@ -276,6 +276,8 @@ impl Part {
     {
         let heard = self.notes.take(alloc, unit)?;
         self.registrants.hear(alloc, unit, &heard)?;
+        // The elements need room for themselves, and the unit may have many of both.
+        drop(heard);
         self.elements.commit(alloc, unit)
     }
 
