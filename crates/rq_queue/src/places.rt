@@ -49,7 +49,8 @@ pub fn file<K: Ord + Drop>(
         places.push(place)?;
         return Ok(());
     }
-    let mut places = Vec::new(alloc);
+    // Most units make one note in a queue, and a list that grows by itself begins with room for four.
+    let mut places = Vec::with_capacity(alloc, 1)?;
     places.push(place)?;
     index.insert(key, places)?;
     Ok(())
