@@ -14,6 +14,7 @@ use crate::draws::{drawn, notes_without};
 use crate::kept_note::KeptNote;
 use crate::keys::slim;
 use crate::lent_notes::{LentNote, lend_all};
+use crate::lists::next_of;
 use crate::places::{file, places_of, unfiled};
 use crate::rooms::room_after;
 use crate::whose::Whose;
@@ -67,7 +68,7 @@ impl Notes {
         let mut coming = items;
         coming.reverse();
         let mut all = Notes::none(alloc);
-        while let Some(n) = coming.pop() {
+        while let Some(n) = next_of(&mut coming) {
             all.push(alloc, n)?;
         }
         Ok(all)

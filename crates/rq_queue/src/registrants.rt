@@ -14,6 +14,7 @@ ghost use Rattle.rq_state.specs.Comparing.{left_after};
 use crate::kept_last::KeptLast;
 use crate::kept_note::KeptNote;
 use crate::keys::slim;
+use crate::lists::next_of;
 use crate::rooms::room_after;
 use rq_record::{Fault, KeptName, Name, QueueNo, UnitNo};
 use rq_state::{Compared, Registrant, SHORTEST_REGISTRANT};
@@ -58,7 +59,7 @@ impl Registrants {
         let mut coming = items;
         coming.reverse();
         let mut all = Registrants::none(alloc);
-        while let Some(r) = coming.pop() {
+        while let Some(r) = next_of(&mut coming) {
             all.push(alloc, r)?;
         }
         Ok(all)

@@ -8,7 +8,7 @@ use Rattle.rq_queue.proofs.notes.Notes.of.Goals as goal
 pub push-requires : goal.push-requires
 push-requires c =
     let n = c.in-Some.n in
-    let left = c.pop.new.self.items in
+    let left = c.next_of.new.list.items in
     above_all c.loop-n.all n (reverse left)
     (subst Rises (sym c.loop-n.invariant ∙ ap (λ (xs : List Note). c.loop-n.all ++ xs)
-    (popped c.loop-n.coming.items left n c.in-Some.ensures.items)) c.requires)
+    (popped c.loop-n.coming.items left n c.in-Some.ensures.taken)) c.requires)
