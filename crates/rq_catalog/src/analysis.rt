@@ -7,6 +7,7 @@ ghost use Rattle.rq_model.specs.Records.{Record as ModelRecord, One};
 ghost use Rattle.rq_model.specs.States.{State};
 ghost use Rattle.rq_model.specs.Queues.{touching};
 ghost use Rattle.rq_record.specs.Views.{record_of, version_of};
+ghost use Rattle.rq_state.specs.Orders.{listed};
 ghost use Rattle.rq_state.specs.Views.{unit_of};
 ghost use Rattle.rq_record.specs.declared.fault.Fault.TheVariants.{Resources};
 ghost use Rattle.rq_catalog.specs.Outcomes.{outcome_of};
@@ -133,6 +134,13 @@ impl Analysis {
             Some(ops) => ops,
             None => &[],
         }
+    }
+
+    /// The same of each queue, by number, kept by itself. All else that the pass found is let go.
+    pub fn into_touching(self) -> Vec<Vec<(u64, usize)>>
+        ensures { (queue : ℕ) → listed result.items queue ≡ touched self queue }
+    {
+        self.catalogue.touching
     }
 
     /// The queues after the lawful records, by number: those of the state, and those that records

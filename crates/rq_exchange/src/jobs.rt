@@ -13,7 +13,6 @@ ghost use Rattle.rq_exchange.specs.Chains.{AreBoxes, IsRedone};
 
 use crate::arrivals::{merged, unboxed};
 use crate::outboxes::{Outbox, Redone};
-use rq_catalog::Analysis;
 use rq_queue::{KeptMove, KeptOp, Part, redo_kept};
 use rq_record::{Fault, KeptRecord, QueueNo};
 use rq_state::{Definition, State};
@@ -24,7 +23,7 @@ use std::alloc::Global;
 pub(crate) struct Job<'a> {
     pub state: &'a State,
     pub records: &'a [KeptRecord],
-    pub analysis: &'a Analysis,
+    pub touching: &'a [Vec<(u64, usize)>],
     pub definitions: &'a [Definition],
     pub sources: &'a [Vec<u32>],
     pub ranks: &'a [u32],
@@ -58,6 +57,16 @@ impl Job<'_> {
     {
         match self.sources.get(queue as usize) {
             Some(sources) => sources,
+            None => &[],
+        }
+    }
+
+    // The places and indices of the records that touch the queue.
+    fn touching_of(&self, queue: u32) -> &[(u64, usize)]
+        ensures { result.now ≡ listed self.now.touching.now queue }
+    {
+        match self.touching.get(queue as usize) {
+            Some(touching) => touching,
             None => &[],
         }
     }
@@ -109,7 +118,7 @@ impl Job<'_> {
         rq_model::moves_rise();
         let lists = unboxed(alloc, boxes)?;
         let arrivals = merged(alloc, lists)?;
-        let ops = ops_of(alloc, self.records, self.analysis.touching(QueueNo(queue)))?;
+        let ops = ops_of(alloc, self.records, self.touching_of(queue))?;
         let before = self.part_before(alloc, queue)?;
         let (part, moves) = redo_kept(alloc, before, &ops, arrivals)?;
         Ok((Redone { queue, part }, moves))

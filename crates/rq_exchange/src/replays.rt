@@ -91,22 +91,23 @@ fn replay_kept<R: Threads + Sync, G: Gate + Sync>(
     ensures refused { IfErr result (λ e. e ≡ Resources) }
 {
     let analysis = analyse_kept(alloc, Version::Two, state, records)?;
-    replay_analysed(rt, alloc, state, records, &analysis, plan, gate)
+    replay_analysed(rt, alloc, state, records, analysis, plan, gate)
 }
 
-/// What `replay` answers, of records that are analysed already.
+/// What `replay` answers, of records that are analysed already. The analysis goes, as in
+/// `redo_analysed`.
 pub fn replay_analysed<R: Threads + Sync, G: Gate + Sync>(
     rt: &R,
     alloc: Global,
     state: &State,
     records: &[KeptRecord],
-    analysis: &Analysis,
+    analysis: Analysis,
     plan: &Plan,
     gate: &G,
 ) -> Result<State, Fault>
     requires lawful { all_lawful Two state.now (map record_of records.now) ≡ true }
     requires fits { state.now.next + length records.now < 2 ^ 64 }
-    requires analysis { IsAnalysis Two state.now (map record_of records.now) analysis.now }
+    requires analysis { IsAnalysis Two state.now (map record_of records.now) analysis }
     ensures state { IfOk result (λ t. t ≡ run state.now (map record_of records.now)) }
     ensures refused { IfErr result (λ e. e ≡ Resources) }
 {
@@ -117,21 +118,21 @@ pub fn replay_analysed<R: Threads + Sync, G: Gate + Sync>(
 
 /// The queues after the records, which are analysed, redone as in `replay_analysed`, and how that
 /// went, only for contracts: each queue was redone by one thread, once, and each error queue by the
-/// one thread whose arrival was the last of its sources. Records and analysis are most of a
-/// restart's memory; they may then be dropped, before the state is gathered. Refused only with
-/// `Resources`.
+/// one thread whose arrival was the last of its sources. Of the analysis only the lists of records
+/// that touch each queue are kept while queues are redone. The records are most of a restart's
+/// memory; they may then be dropped, before the state is gathered. Refused only with `Resources`.
 pub fn redo_analysed<R: Threads + Sync, G: Gate + Sync>(
     rt: &R,
     alloc: Global,
     state: &State,
     records: &[KeptRecord],
-    analysis: &Analysis,
+    analysis: Analysis,
     plan: &Plan,
     gate: &G,
 ) -> Result<(AllRedone, Course), Fault>
     requires lawful { all_lawful Two state.now (map record_of records.now) ≡ true }
     requires fits { state.now.next + length records.now < 2 ^ 64 }
-    requires analysis { IsAnalysis Two state.now (map record_of records.now) analysis.now }
+    requires analysis { IsAnalysis Two state.now (map record_of records.now) analysis }
     ensures redone { IfOk result (λ r. IsRedoneTo (run state.now (map record_of records.now)) r.0) }
     ensures course { IfOk result (λ r. StartsByLast
         (map (λ d. d.error) (run state.now (map record_of records.now)).definitions) r.1) }
@@ -140,19 +141,20 @@ pub fn redo_analysed<R: Threads + Sync, G: Gate + Sync>(
     rq_model::runs_are_well_formed();
     rq_model::numbers_after();
     state.is_well_formed();
-    let definitions = analysis.definitions();
+    let fields = fields_after(alloc, state, records, &analysis)?;
+    let touching = analysis.into_touching();
+    let definitions = fields.definitions.as_slice();
     let errors = errors_of(alloc, definitions)?;
     let (sources, ranks) = sources_of(alloc, errors.len(), &errors)?;
     let job = Job {
         state,
         records,
-        analysis,
+        touching: &touching,
         definitions,
         sources: &sources,
         ranks: &ranks,
     };
     let (parts, course) = redo_all(rt, alloc, &job, plan, gate)?;
-    let fields = fields_after(alloc, state, records, analysis)?;
     Ok((AllRedone { fields, parts }, course))
 }
 
@@ -162,13 +164,13 @@ pub fn replay_traced<R: Threads + Sync, G: Gate + Sync>(
     alloc: Global,
     state: &State,
     records: &[KeptRecord],
-    analysis: &Analysis,
+    analysis: Analysis,
     plan: &Plan,
     gate: &G,
 ) -> Result<(State, Course), Fault>
     requires lawful { all_lawful Two state.now (map record_of records.now) ≡ true }
     requires fits { state.now.next + length records.now < 2 ^ 64 }
-    requires analysis { IsAnalysis Two state.now (map record_of records.now) analysis.now }
+    requires analysis { IsAnalysis Two state.now (map record_of records.now) analysis }
     ensures state { IfOk result (λ r. r.0 ≡ run state.now (map record_of records.now)) }
     ensures course { IfOk result (λ r. StartsByLast
         (map (λ d. d.error) (run state.now (map record_of records.now)).definitions) r.1) }

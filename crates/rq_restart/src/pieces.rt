@@ -88,7 +88,7 @@ pub(crate) fn front_redone<R: Threads + Sync>(
     let analysis = analyse_kept(alloc, version, state, records)?;
     let count = analysis.lawful();
     let taken = &records[..count];
-    let state = replay_analysed(rt, alloc, state, taken, &analysis, plan, &Open)?;
+    let state = replay_analysed(rt, alloc, state, taken, analysis, plan, &Open)?;
     Ok((state, count))
 }
 

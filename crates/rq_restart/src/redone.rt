@@ -54,15 +54,8 @@ fn state_behind<R: Threads + Sync>(
     ensures refused { IfErr result (λ e. e ≡ Resources) }
 {
     rq_model::versions();
-    let redone = replay_analysed(
-        rt,
-        alloc,
-        state,
-        &front.records,
-        &front.analysis,
-        plan,
-        &Open,
-    )?;
+    let analysis = front.analysis;
+    let redone = replay_analysed(rt, alloc, state, &front.records, analysis, plan, &Open)?;
     Ok(RedoneFront {
         version,
         state: redone,

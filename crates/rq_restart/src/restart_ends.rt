@@ -80,9 +80,8 @@ where
 {
     rq_model::versions();
     let analysis = analysis.go_on(alloc, version, &state, &records)?;
-    let (all, course) = redo_analysed(rt, alloc, &state, &records, &analysis, plan, gate)?;
+    let (all, course) = redo_analysed(rt, alloc, &state, &records, analysis, plan, gate)?;
     drop(course);
-    drop(analysis);
     drop(records);
     drop(state);
     all.gather(alloc)

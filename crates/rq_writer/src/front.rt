@@ -38,7 +38,7 @@ fn run_lawful<R: Threads + Sync>(
     let analysis = analyse_kept(alloc, version, state, records)?;
     let count = analysis.lawful();
     let lawful = &records[..count];
-    let state = replay_analysed(rt, alloc, state, lawful, &analysis, plan, &Open)?;
+    let state = replay_analysed(rt, alloc, state, lawful, analysis, plan, &Open)?;
     Ok((state, count))
 }
 

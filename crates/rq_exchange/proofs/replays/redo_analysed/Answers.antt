@@ -7,13 +7,12 @@ use Rattle.rq_exchange.proofs.replays.redo_analysed.Goals.{In_ok-errors}
 
 -- the queues are those of the state after the records, which is well formed
 ends : (g : _) (c : In_ok-errors g)
-    → (c.definitions-definitions.result.now ≡ (run c.args.state.now (map record_of c.args.records.now)).definitions)
+    → (c.as_slice-definitions.result.now ≡ (run c.args.state.now (map record_of c.args.records.now)).definitions)
     × IsWellFormed (run c.args.state.now (map record_of c.args.records.now))
 ends g c =
     let s = c.args.state.now in
     let rs : List Record = map record_of c.args.records.now in (
-      c.definitions-definitions.ensures ∙ c.requires.analysis.catalogue.knows.definitions
-          ∙ ap (λ xs. (run s xs).definitions) (front_whole Two s rs c.requires.lawful),
+      c.as_slice-definitions.ensures.value ∙ c.in_ok-fields.ensures.fields.definitions,
       c.runs_are_well_formed.ensures.runs Two s rs c.is_well_formed.ensures c.requires.lawful,
     )
 
@@ -23,7 +22,7 @@ sources_of-requires g c =
     omega (
       arith,
       ap length (c.deref.ensures.value ∙ c.in_ok-errors.ensures.errors),
-      length-map c.definitions-definitions.result.now (λ (d : Definition). d.error),
+      length-map c.as_slice-definitions.result.now (λ (d : Definition). d.error),
       ap length e.0,
       e.1.few,
     )
@@ -32,7 +31,7 @@ pub redo_all-requires : goal.redo_all-requires
 redo_all-requires g c =
     let s = c.args.state.now in
     let rs : List Record = map record_of c.args.records.now in
-    let defs = c.definitions-definitions.result.now in
+    let defs = c.as_slice-definitions.result.now in
     let e = ends g (goal.at.redo_all-requires g c).In_ok-errors in
     let few : length defs ≤ 4096 = omega (arith, ap length e.0, e.1.few) in
     let names : c.deref.result.now ≡ map (λ (d : Definition). d.error) defs =
@@ -49,20 +48,22 @@ redo_all-requires g c =
           well = c.is_well_formed.ensures;
           lawful = c.requires.lawful;
           fits = c.requires.fits;
-          touching = λ q. c.requires.analysis.touching q
+          touching = λ q.
+              ap (λ (ls : List (Vec (ℕ × ℕ))). listed ls q) c.deref-2.ensures.value
+              ∙ c.into_touching-touching.ensures q ∙ c.requires.analysis.touching q
               ∙ ap (λ xs. numbered s xs q) (front_whole Two s rs c.requires.lawful);
           definitions = e.0 ∙ (c.numbers_after.ensures Two s rs c.is_well_formed.ensures c.requires.lawful).definitions;
           few = few;
-          tables = ap length c.deref-2.ensures.value ∙ c.in_ok-sources.ensures.len ∙ count;
+          tables = ap length c.deref-3.ensures.value ∙ c.in_ok-sources.ensures.len ∙ count;
           sources = λ q l.
-              ap (λ (ls : List (Vec ℕ)). listed ls q) c.deref-2.ensures.value
+              ap (λ (ls : List (Vec ℕ)). listed ls q) c.deref-3.ensures.value
               ∙ c.in_ok-sources.ensures.listed q (omega (arith, l, count))
               ∙ ap (indices_of (λ (n : ℕ). n == q) 0) names
               ∙ places_map (λ n. n == q) (λ (d : Definition). d.error) 0 defs;
           fall = errors_fall defs (map (λ (d : Definition). d.error) defs)
               (subst (AreDefinitions 0) (sym e.0) e.1.definitions) few refl;
           ranks = subst (λ (z : List ℕ × (ℕ × (ℕ × List ℕ))). AreRanks z.0 z.1.0 z.1.1.0 z.1.1.1)
-              (λ i. (names i, (count i, (as_many i, sym c.deref-3.ensures.value i))))
+              (λ i. (names i, (count i, (as_many i, sym c.deref-4.ensures.value i))))
               c.in_ok-sources.ensures.ranks;
         },
       ),

@@ -108,7 +108,7 @@ fn traced<R: Threads + Sync + AllocGlobal, G: Gate + Sync>(
     let alloc = rt.alloc();
     let start = State::empty(alloc);
     let analysis = analyse_kept(alloc, Version::Two, &start, &lawful.records)?;
-    let (state, course) = replay_traced(rt, alloc, &start, &lawful.records, &analysis, plan, gate)?;
+    let (state, course) = replay_traced(rt, alloc, &start, &lawful.records, analysis, plan, gate)?;
     Ok((state, course))
 }
 
