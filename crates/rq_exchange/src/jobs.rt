@@ -1,19 +1,16 @@
 //! What the redo of each queue is made from.
 
-ghost use Rattle.std.specs.Prelude.{◌≡◌, ◌<◌, length, map, All, IfOk, IfErr};
-ghost use Rattle.rq_model.specs.Records.{Record as ModelRecord};
+ghost use Rattle.std.specs.Prelude.{◌≡◌, ◌<◌, length, IfOk, IfErr};
 ghost use Rattle.rq_model.specs.Queues as queues;
-ghost use Rattle.rq_record.specs.Views.{record_of};
 ghost use Rattle.rq_record.specs.declared.fault.Fault.TheVariants.{Resources};
 ghost use Rattle.rq_state.specs.Orders.{listed};
-ghost use Rattle.rq_catalog.specs.Lists.{op_again};
 ghost use Rattle.rq_exchange.specs.Jobs.{IsJob, records_of, errors_in};
 ghost use Rattle.rq_exchange.specs.Links.{at};
 ghost use Rattle.rq_exchange.specs.Chains.{AreBoxes, IsRedone};
 
 use crate::arrivals::{merged, unboxed};
 use crate::outboxes::{Outbox, Redone};
-use rq_queue::{KeptMove, KeptOp, Part, redo_kept};
+use rq_queue::{KeptMove, KeptOps, Part, redo_kept};
 use rq_record::{Fault, KeptRecord, QueueNo};
 use rq_state::{Definition, State};
 use std::alloc::Global;
@@ -27,27 +24,6 @@ pub(crate) struct Job<'a> {
     pub definitions: &'a [Definition],
     pub sources: &'a [Vec<u32>],
     pub ranks: &'a [u32],
-}
-
-// The operations at these places and indices.
-fn ops_of<'a>(
-    alloc: Global,
-    records: &'a [KeptRecord],
-    touching: &[(u64, usize)],
-) -> Result<Vec<KeptOp<'a>>, Fault>
-    requires { All (λ p. p.1 < length records.now) touching.now }
-    ensures ops { IfOk result (λ v. (d : ModelRecord) →
-        v.items ≡ map (op_again (map record_of records.now) d) touching.now) }
-    ensures refused { IfErr result (λ e. e ≡ Resources) }
-{
-    let mut ops = Vec::with_capacity(alloc, touching.len())?;
-    for (place, index) in touching {
-        ops.push(KeptOp {
-            place: *place,
-            rec: &records[*index],
-        })?;
-    }
-    Ok(ops)
 }
 
 impl Job<'_> {
@@ -118,7 +94,7 @@ impl Job<'_> {
         rq_model::moves_rise();
         let lists = unboxed(alloc, boxes)?;
         let arrivals = merged(alloc, lists)?;
-        let ops = ops_of(alloc, self.records, self.touching_of(queue))?;
+        let ops = KeptOps::new(self.records, self.touching_of(queue));
         let before = self.part_before(alloc, queue)?;
         let (part, moves) = redo_kept(alloc, before, &ops, arrivals)?;
         Ok((Redone { queue, part }, moves))

@@ -9,6 +9,7 @@ pub mod Roll
 pub mod Registered
 pub mod Noting
 pub mod Steps
+pub mod Ops
 pub mod Cases
 pub mod Known
 pub mod Building

@@ -1,4 +1,5 @@
 pub mod Case
+pub mod Ops
 pub mod Pouring
 pub mod Sorted
 pub mod Kept

@@ -29,7 +29,7 @@ pub use lent::LentElement;
 pub use lent_notes::LentNote;
 pub use moves::{KeptMove, Move};
 pub use notes::Notes;
-pub use operations::{KeptOp, Op};
+pub use operations::{KeptOp, KeptOps, Op};
 pub use part::Part;
 pub use places::{file, unfiled};
 pub use queue_redo::{redo, redo_kept};

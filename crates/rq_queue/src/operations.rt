@@ -1,6 +1,8 @@
 //! Operations of a queue.
 
-ghost use Rattle.std.specs.Prelude.{◌≡◌, IfOk, IfErr};
+ghost use Rattle.std.specs.Prelude.{◌≡◌, ◌<◌, All, length, map, slice_index_or, IfOk, IfErr};
+ghost use Rattle.rq_model.specs.Queues as queues;
+ghost use Rattle.rq_queue.specs.Ops.{ops_at};
 ghost use Rattle.rq_record.specs.Views.{record_of};
 ghost use Rattle.rq_record.specs.declared.fault.Fault.TheVariants.{Resources};
 
@@ -56,48 +58,96 @@ impl KeptOp<'_> {
     }
 }
 
-/// An operation with a record of its own, made for a caller's.
+/// Records that touch a queue, in their order: the place of each in the log, and its index in the
+/// list of all records. They are lent as they stand, so a redo needs no memory for them.
 #[derive(Drop)]
-pub(crate) struct OwnOp {
-    place: u64,
-    rec: KeptRecord,
+pub struct KeptOps<'a> {
+    records: &'a [KeptRecord],
+    touching: &'a [(u64, usize)],
 }
 
-impl Model for OwnOp {
+impl<'a> Model for KeptOps<'a> {
+    ghost use Rattle.std.specs.Prelude.{◌<◌, List, All, length, map};
     ghost use Rattle.rq_model.specs.Queues as queues;
+    ghost use Rattle.rq_queue.specs.Ops.{ops_at};
     ghost use Rattle.rq_record.specs.Views.{record_of};
 
-    ghost Value = { queues.Op };
+    ghost Value = { List queues.Op };
 
-    ghost view = { λ o. record { place = o.place; does = record_of o.rec } };
+    ghost view = { λ o. ops_at (map record_of o.records.now) o.touching.now };
+
+    ghost invariant = { λ o. All (λ p. p.1 < length o.records.now) o.touching.now };
 }
 
-/// Keeps the records of the operations.
-pub(crate) fn own_ops(alloc: Global, ops: &[Op]) -> Result<Vec<OwnOp>, Fault>
-    ensures kept { IfOk result (λ v. v.items ≡ ops.now) }
-    ensures refused { IfErr result (λ e. e ≡ Resources) }
-{
-    let mut own = Vec::with_capacity(alloc, ops.len())?;
-    for op in ops {
-        own.push(OwnOp {
-            place: op.place,
-            rec: KeptRecord::of(alloc, op.rec)?,
-        })?;
+impl<'a> KeptOps<'a> {
+    /// The records at these places and indices.
+    pub fn new(records: &'a [KeptRecord], touching: &'a [(u64, usize)]) -> KeptOps<'a>
+        requires { All (λ p. p.1 < length records.now) touching.now }
+        ensures { result ≡ ops_at (map record_of records.now) touching.now }
+    {
+        KeptOps { records, touching }
     }
-    Ok(own)
+
+    /// How many they are.
+    pub(crate) fn len(&self) -> usize
+        ensures { result ≡ length self.now }
+    {
+        self.touching.len()
+    }
+
+    /// The operation at an index.
+    pub(crate) fn at(&self, index: usize) -> KeptOp<'a>
+        requires { index < length self.now }
+        ensures { (d : queues.Op) → result ≡ slice_index_or self.now index d }
+    {
+        let (records, touching) = (self.records, self.touching);
+        let (place, index) = touching[index];
+        KeptOp {
+            place,
+            rec: &records[index],
+        }
+    }
 }
 
-/// The operations with their records lent.
-pub(crate) fn lent_ops(alloc: Global, own: &[OwnOp]) -> Result<Vec<KeptOp<'_>>, Fault>
-    ensures lent { IfOk result (λ v. v.items ≡ own.now) }
-    ensures refused { IfErr result (λ e. e ≡ Resources) }
-{
-    let mut ops = Vec::with_capacity(alloc, own.len())?;
-    for op in own {
-        ops.push(KeptOp {
-            place: op.place,
-            rec: &op.rec,
-        })?;
+/// Operations with records of their own, made for a caller's.
+#[derive(Drop)]
+pub(crate) struct OwnOps {
+    records: Vec<KeptRecord>,
+    touching: Vec<(u64, usize)>,
+}
+
+impl Model for OwnOps {
+    ghost use Rattle.std.specs.Prelude.{◌<◌, List, All, length, map};
+    ghost use Rattle.rq_model.specs.Queues as queues;
+    ghost use Rattle.rq_queue.specs.Ops.{ops_at};
+    ghost use Rattle.rq_record.specs.Views.{record_of};
+
+    ghost Value = { List queues.Op };
+
+    ghost view = { λ o. ops_at (map record_of o.records.items) o.touching.items };
+
+    ghost invariant = { λ o. All (λ p. p.1 < length o.records.items) o.touching.items };
+}
+
+impl OwnOps {
+    /// Keeps the records of the operations.
+    pub(crate) fn of(alloc: Global, ops: &[Op]) -> Result<OwnOps, Fault>
+        ensures kept { IfOk result (λ v. v ≡ ops.now) }
+        ensures refused { IfErr result (λ e. e ≡ Resources) }
+    {
+        let mut records = Vec::with_capacity(alloc, ops.len())?;
+        let mut touching = Vec::with_capacity(alloc, ops.len())?;
+        for op in ops {
+            touching.push((op.place, records.len()))?;
+            records.push(KeptRecord::of(alloc, op.rec)?)?;
+        }
+        Ok(OwnOps { records, touching })
     }
-    Ok(ops)
+
+    /// The operations, lent.
+    pub(crate) fn lent(&self) -> KeptOps<'_>
+        ensures { result ≡ self.now }
+    {
+        KeptOps::new(&self.records, &self.touching)
+    }
 }

@@ -14,7 +14,7 @@ ghost use Rattle.rq_queue.specs.Case.{AreRising};
 ghost use Rattle.rq_record.specs.declared.fault.Fault.TheVariants.{Resources};
 
 use crate::moves::{KeptMove, Move, kept_moves, told_moves};
-use crate::operations::{KeptOp, Op, lent_ops, own_ops};
+use crate::operations::{KeptOps, Op, OwnOps};
 use crate::part::Part;
 use rq_record::{Fault, KeptRecord};
 use std::alloc::Global;
@@ -22,22 +22,29 @@ use std::alloc::Global;
 // The records of this many operations are looked at together.
 const AHEAD: usize = 256;
 
+// How many ABORTs are among the next operations, of so many at once.
+fn aborts_ahead(ops: &KeptOps, done: usize) -> usize {
+    let end = done.saturating_add(AHEAD).min(ops.len());
+    let mut aborts = 0;
+    for index in done..end {
+        if matches!(ops.at(index).record(), KeptRecord::Abort { .. }) {
+            aborts += 1;
+        }
+    }
+    aborts
+}
+
 // Makes room for a move of each ABORT among the next operations, for this many at once. Looking at
 // their records together also spares waiting: they lie apart in a long log, and a processor asks
 // for many at a time.
-fn make_room(ops: &[KeptOp], done: usize, sent: &mut Vec<KeptMove>) -> Result<(), Fault>
-    requires { done ≤ length ops.now }
+fn make_room(ops: &KeptOps, done: usize, sent: &mut Vec<KeptMove>) -> Result<(), Fault>
     ensures same { sent.new.items ≡ sent.old.items }
     ensures refused { IfErr result (λ e. e ≡ Resources) }
 {
     if done % AHEAD != 0 {
         return Ok(());
     }
-    let next = ops[done..].iter().take(AHEAD);
-    let aborts = next
-        .filter(|op| matches!(op.record(), KeptRecord::Abort { .. }))
-        .count();
-    sent.reserve(aborts)?;
+    sent.reserve(aborts_ahead(ops, done))?;
     Ok(())
 }
 
@@ -46,7 +53,7 @@ fn make_room(ops: &[KeptOp], done: usize, sent: &mut Vec<KeptMove>) -> Result<()
 fn catch_up(
     alloc: Global,
     part: &mut Part,
-    ops: &[KeptOp],
+    ops: &KeptOps,
     from: usize,
     until: u64,
     sent: &mut Vec<KeptMove>,
@@ -75,12 +82,12 @@ fn catch_up(
     rq_model::redo_goes_well();
     let mut done = from;
     while done < ops.len() {
-        let op = &ops[done];
+        let op = ops.at(done);
         if op.place() > until {
             return Ok(done);
         }
         make_room(ops, done, sent)?;
-        part.act(alloc, op, sent)?;
+        part.act(alloc, &op, sent)?;
         done += 1;
     }
     Ok(done)
@@ -90,7 +97,7 @@ fn catch_up(
 fn redo_in_order(
     alloc: Global,
     part: Part,
-    ops: &[KeptOp],
+    ops: &KeptOps,
     arrivals: Vec<KeptMove>,
 ) -> Result<(Part, Vec<KeptMove>), Fault>
     requires well { GoesWell part ops.now arrivals.items }
@@ -135,8 +142,8 @@ pub fn redo(
         → r.1.items ≡ queues.moves s rs part.queue) }
     ensures refused { IfErr result (λ e. e ≡ Resources) }
 {
-    let own = own_ops(alloc, ops)?;
-    let ops = lent_ops(alloc, &own)?;
+    let own = OwnOps::of(alloc, ops)?;
+    let ops = own.lent();
     let arrivals = kept_moves(alloc, &arrivals)?;
     let (part, moves) = redo_kept(alloc, part, &ops, arrivals)?;
     let moves = told_moves(alloc, &moves)?;
@@ -147,7 +154,7 @@ pub fn redo(
 pub fn redo_kept(
     alloc: Global,
     part: Part,
-    ops: &[KeptOp],
+    ops: &KeptOps,
     arrivals: Vec<KeptMove>,
 ) -> Result<(Part, Vec<KeptMove>), Fault>
     requires { (version : records.Version) × (s : states.State)
