@@ -4,8 +4,7 @@ use Rattle.std.specs.Fmt.{decimal}
 use Rattle.std.proofs.lemmas.Fmt.{decimal_injective}
 use Rattle.rq_plan.specs.Plans.{workers_of, grain_of}
 use Rattle.rq_plan.specs.declared.plan.Plan.{Plan}
-use Rattle.rq_tool.specs.Commands.{IsPlan}
-use Rattle.rq_tool.specs.Words.{IsWorkersPlanOf, IsPlanOf}
+use Rattle.rq_tool.specs.Commands.{IsPlan, IsPlanOf, IsWorkersPlanOf}
 
 -- a number of a plan that a word tells is the one that was read
 same_number : (text : List ℕ) (n v : ℕ) → text ≡ decimal n → n ≤ 4294967295 → v ≤ 1000000 → text ≡ decimal v → n ≡ v

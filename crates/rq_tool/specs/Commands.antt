@@ -3,6 +3,7 @@ use Rattle.std.specs.Prelude.{◌≡◌, ℕ, ◌<◌, ◌≤◌, ◌^◌, ⊤, 
 use Rattle.std.specs.Fmt.{decimal}
 use Rattle.rq_model.specs.Records.{Version, One, Two}
 use Rattle.rq_plan.specs.Plans.{workers_of, grain_of}
+use Rattle.rq_plan.specs.declared.plan.Plan.{Plan}
 use Rattle.rq_tool.specs.declared.commands.Command.{Command}
 use Rattle.rq_tool.specs.declared.commands.Command.TheVariants as code
 
@@ -60,3 +61,15 @@ abbrev pub IsCommand : List (List ℕ) → Option Command → Type 0
 IsCommand words (Some command) = IsCommandLine (command_line command)
     × (words ≡ words_of (command_line command))
 IsCommand words None = (l : CommandLine) → IsCommandLine l → words ≡ words_of l → ⊥
+
+-- the words are the plan's numbers, or those of no plan
+abbrev pub IsPlanOf : List ℕ → List ℕ → Option Plan → Type 0
+IsPlanOf workers grain (Some plan) = IsPlan (workers_of plan) (grain_of plan)
+    × (workers ≡ decimal (workers_of plan)) × (grain ≡ decimal (grain_of plan))
+IsPlanOf workers grain None = (w g : ℕ) → IsPlan w g → workers ≡ decimal w → grain ≡ decimal g → ⊥
+
+-- for a line that names no grain: it is 1,000
+abbrev pub IsWorkersPlanOf : List ℕ → Option Plan → Type 0
+IsWorkersPlanOf workers (Some plan) = IsPlan (workers_of plan) (grain_of plan)
+    × (grain_of plan ≡ 1000) × (workers ≡ decimal (workers_of plan))
+IsWorkersPlanOf workers None = (w : ℕ) → IsPlan w 1000 → workers ≡ decimal w → ⊥

@@ -2,10 +2,6 @@ pub mod Streams
 pub mod Written
 pub mod Headline
 pub mod Scripts
-pub mod Closings
-pub mod Upgrades
-pub mod AuditTexts
 pub mod Works
 pub mod Commands
-pub mod Words
 pub mod Acts

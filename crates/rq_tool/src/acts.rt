@@ -6,7 +6,7 @@ ghost use Rattle.rq_tool.specs.Commands.{command_line};
 ghost use Rattle.rq_tool.specs.Streams.{ReadFaults, TakesInput, WriteFaults};
 
 use crate::commands::Command;
-use crate::door::{audit_log, close_log, run, run_at, upgrade_log};
+use crate::door::{Work, run, run_at, through};
 use crate::made_logs::make_log_in;
 use rq_report::{Input, Output};
 use rq_restart::{Fault, Gate, Version};
@@ -15,8 +15,8 @@ use std::marker::Sync;
 use std::thread::Threads;
 
 /// Reads the command's first file from `input` and writes to `output` what the command prints or
-/// puts into its second file: what `make_log_in`, `run`, `run_at`, `audit_log`, `close_log` or
-/// `upgrade_log` writes, with their faults. Nothing is written before all bytes are there.
+/// puts into its second file: what `make_log_in`, `run`, `run_at` or `through` writes, with their
+/// faults. Nothing is written before all bytes are there.
 pub fn act<R: Threads + Sync, I: Input, O: Output, G: Gate + Sync>(
     rt: &R,
     alloc: Global,
@@ -43,8 +43,14 @@ pub fn act<R: Threads + Sync, I: Input, O: Output, G: Gate + Sync>(
         Command::RestartAt { offset, plan, .. } => {
             run_at(rt, alloc, input, output, *offset, plan, gate)
         }
-        Command::Audit { plan, .. } => audit_log(rt, alloc, input, output, plan),
-        Command::Close { plan, .. } => close_log(rt, alloc, input, output, plan),
-        Command::Upgrade { plan, .. } => upgrade_log(rt, alloc, input, output, plan),
+        Command::Audit { plan, .. } => {
+            through(rt, alloc, input, output, Work::Audit, plan, gate)
+        }
+        Command::Close { plan, .. } => {
+            through(rt, alloc, input, output, Work::Close, plan, gate)
+        }
+        Command::Upgrade { plan, .. } => {
+            through(rt, alloc, input, output, Work::Upgrade, plan, gate)
+        }
     }
 }

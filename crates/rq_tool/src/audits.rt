@@ -4,8 +4,7 @@ ghost use Rattle.std.specs.Prelude.{◌≡◌, ◌++◌, IfOk, IfErr, OnOk, map}
 ghost use Rattle.std.specs.Prelude.{string_bytes};
 ghost use Rattle.std.specs.List.{flat_map};
 ghost use Rattle.rq_restart.specs.Audits.{Audits, audited_of};
-ghost use Rattle.rq_tool.specs.AuditTexts.{audit_line};
-ghost use Rattle.rq_tool.specs.Works.{IsTextOf, IsWhyNot};
+ghost use Rattle.rq_tool.specs.Works.{IsTextOf, IsWhyNot, audit_line};
 ghost use Rattle.rq_tool.specs.declared.door.Work.TheVariants.{Audit};
 
 use rq_restart::{Fault, LogBytes, Plan, audit_of};

@@ -2,11 +2,8 @@
 
 ghost use Rattle.std.specs.Prelude.{◌≡◌, ℕ, ◌<◌, List, Some};
 ghost use Rattle.rq_model.specs.Checkpoints.{TrueAt};
-ghost use Rattle.rq_tool.specs.AuditTexts.{AuditsLog};
-ghost use Rattle.rq_tool.specs.Closings.{ClosesLog};
 ghost use Rattle.rq_tool.specs.Headline.{Runs, RunsAt, WritesOnly, WritesReport};
 ghost use Rattle.rq_tool.specs.Streams.{ReadFaults, TakesInput, WriteFaults};
-ghost use Rattle.rq_tool.specs.Upgrades.{UpgradesLog};
 ghost use Rattle.rq_tool.specs.Works.{IsTextOf, IsWhyNot};
 ghost use Rattle.rq_tool.specs.Written.{PutsText, Writes};
 
@@ -15,23 +12,32 @@ use crate::engine::{put_report, put_report_at};
 use crate::input::read_log;
 use crate::remade_logs::{closed_log, upgraded_log};
 use rq_report::{Input, Output, write_all};
-use rq_restart::{Fault, Gate, Open, Plan};
+use rq_restart::{Fault, Gate, Plan};
 use std::alloc::Global;
 use std::marker::Sync;
 use std::thread::Threads;
 
-/// What is made of a log.
+/// What is made of a log. None of it but a report redoes queues, and so enters a gate.
 #[derive(Clone, Copy)]
-pub(crate) enum Work {
+pub enum Work {
     /// Its report.
     Report,
     /// Its report from the checkpoint at an offset.
     ReportAt(u64),
-    /// A line for each of its checkpoints.
+    /// A line for each checkpoint of its front, rising: its offset, and whether it is true.
     Audit,
-    /// The closed log.
+    /// The closed log: its front, and behind it an ABORT for each unit that is open.
+    ///
+    /// A restart of it answers the state that a restart of the log answers; and so does a restart
+    /// of as much of it as a crash leaves, once the front is there. To close it again changes
+    /// nothing. `TooLarge` if it would have more than 4,294,967,295 bytes.
     Close,
-    /// The log in version 2.
+    /// The log in version 2: the records of its front, whose frames are chained anew behind the
+    /// header of version 2. What stood behind the front is dropped.
+    ///
+    /// It has the report of the log, but that all of its bytes are front. It has the same
+    /// checkpoints at the same offsets, true where they were; and from each true one the same
+    /// restart, again but that all bytes are front. To upgrade it again changes nothing.
     Upgrade,
 }
 
@@ -69,7 +75,10 @@ fn put<R: Threads + Sync, O: Output, G: Gate + Sync>(
 }
 
 /// Reads the input to its end, but at most 4,294,967,296 bytes, and writes what is made of it.
-pub(crate) fn through<R: Threads + Sync, I: Input, O: Output, G: Gate + Sync>(
+///
+/// Nothing else is written. If there is no such text, the answer is why, and nothing is written;
+/// with `WriteFailed` a beginning of the text is written.
+pub fn through<R: Threads + Sync, I: Input, O: Output, G: Gate + Sync>(
     rt: &R,
     alloc: Global,
     input: &mut I,
@@ -146,89 +155,4 @@ pub fn run_at<R: Threads + Sync, I: Input, O: Output, G: Gate + Sync>(
 {
     rq_model::true_checkpoints_report_the_same();
     through(rt, alloc, input, output, Work::ReportAt(offset), plan, gate)
-}
-
-/// Reads the input to its end, but at most 4,294,967,296 bytes, and writes a line for each
-/// checkpoint of the log's front, rising: its offset, and whether it is true.
-///
-/// Nothing else is written. Refused as `run` is; with `WriteFailed` a beginning of the lines is
-/// written, else nothing.
-pub fn audit_log<R: Threads + Sync, I: Input, O: Output>(
-    rt: &R,
-    alloc: Global,
-    input: &mut I,
-    output: &mut O,
-    plan: &Plan,
-) -> Result<(), Fault>
-    requires reads { I.faults input.old < 18446744073709551615 }
-    requires writes { O.faults output.old < 18446744073709551615 }
-    ensures audits { (b : List ℕ) → I.remaining input.old ≡ Some b
-        → AuditsLog b (O.contents output.old) (O.contents output.new) result }
-    ensures quiet { (b : List ℕ)
-        × AuditsLog b (O.contents output.old) (O.contents output.new) result }
-    ensures takes { TakesInput (I.remaining input.old) (I.remaining input.new) result }
-    ensures read_faults { ReadFaults (I.faults input.old) (I.faults input.new) result }
-    ensures write_faults { WriteFaults (O.faults output.old) (O.faults output.new) result }
-{
-    through(rt, alloc, input, output, Work::Audit, plan, &Open)
-}
-
-/// Reads the input to its end, but at most 4,294,967,296 bytes, and writes the closed log: its
-/// front, and behind it an ABORT for each unit that is open. No queue is redone for it.
-///
-/// A restart of the closed log answers the state that a restart of the log answers; and so does a
-/// restart of as much of it as a crash leaves, once the front is there. To close it again changes
-/// nothing.
-///
-/// Nothing else is written. Refuses with `TooLarge` where the closed log would have more than
-/// 4,294,967,295 bytes, and else as `run` does; with `WriteFailed` a beginning of the closed log is
-/// written, else nothing.
-pub fn close_log<R: Threads + Sync, I: Input, O: Output>(
-    rt: &R,
-    alloc: Global,
-    input: &mut I,
-    output: &mut O,
-    plan: &Plan,
-) -> Result<(), Fault>
-    requires reads { I.faults input.old < 18446744073709551615 }
-    requires writes { O.faults output.old < 18446744073709551615 }
-    ensures closes { (b : List ℕ) → I.remaining input.old ≡ Some b
-        → ClosesLog b (O.contents output.old) (O.contents output.new) result }
-    ensures quiet { (b : List ℕ)
-        × ClosesLog b (O.contents output.old) (O.contents output.new) result }
-    ensures takes { TakesInput (I.remaining input.old) (I.remaining input.new) result }
-    ensures read_faults { ReadFaults (I.faults input.old) (I.faults input.new) result }
-    ensures write_faults { WriteFaults (O.faults output.old) (O.faults output.new) result }
-{
-    through(rt, alloc, input, output, Work::Close, plan, &Open)
-}
-
-/// Reads the input to its end, but at most 4,294,967,296 bytes, and writes the log in version 2:
-/// the records of its front, whose frames are chained anew behind the header of version 2. What
-/// stood behind the front is dropped. No queue is redone for it.
-///
-/// The upgraded log has the report of the log, but that all of its bytes are front. It has the same
-/// checkpoints at the same offsets, true where they were; and from each true one the same restart,
-/// again but that all bytes are front. To upgrade it again changes nothing.
-///
-/// Nothing else is written. Refused as `run` is; with `WriteFailed` a beginning of the upgraded log
-/// is written, else nothing.
-pub fn upgrade_log<R: Threads + Sync, I: Input, O: Output>(
-    rt: &R,
-    alloc: Global,
-    input: &mut I,
-    output: &mut O,
-    plan: &Plan,
-) -> Result<(), Fault>
-    requires reads { I.faults input.old < 18446744073709551615 }
-    requires writes { O.faults output.old < 18446744073709551615 }
-    ensures upgrades { (b : List ℕ) → I.remaining input.old ≡ Some b
-        → UpgradesLog b (O.contents output.old) (O.contents output.new) result }
-    ensures quiet { (b : List ℕ)
-        × UpgradesLog b (O.contents output.old) (O.contents output.new) result }
-    ensures takes { TakesInput (I.remaining input.old) (I.remaining input.new) result }
-    ensures read_faults { ReadFaults (I.faults input.old) (I.faults input.new) result }
-    ensures write_faults { WriteFaults (O.faults output.old) (O.faults output.new) result }
-{
-    through(rt, alloc, input, output, Work::Upgrade, plan, &Open)
 }

@@ -13,7 +13,7 @@ mod words;
 
 pub use acts::act;
 pub use commands::Command;
-pub use door::{audit_log, close_log, run, run_at, upgrade_log};
+pub use door::{Work, run, run_at, through};
 pub use made_logs::make_log_in;
 pub use rq_report::{Input, Output, OverRead, OverWrite};
 pub use rq_restart::{Fault, Gate, Open, Plan, Version};

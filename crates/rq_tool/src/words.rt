@@ -2,8 +2,7 @@
 
 ghost use Rattle.std.specs.Prelude.{◌∷◌, map, codes};
 ghost use Rattle.rq_record.specs.Views.{version_of};
-ghost use Rattle.rq_tool.specs.Commands.{IsCommand, make_word};
-ghost use Rattle.rq_tool.specs.Words.{IsPlanOf, IsWorkersPlanOf};
+ghost use Rattle.rq_tool.specs.Commands.{IsCommand, IsPlanOf, IsWorkersPlanOf, make_word};
 ghost use Rattle.rq_writer.specs.Decimals.{IsNumber};
 
 use crate::commands::Command;

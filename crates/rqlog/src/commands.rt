@@ -12,7 +12,7 @@ use clap::ArgMatches;
 use rq_file::Patient;
 use rq_journal::{CARRIED_AT, Fault, Plan, audit_carried, carried, carried_again, is_carried};
 use rq_restart::closed;
-use rq_tool::{Open, OverRead, OverWrite};
+use rq_tool::{Open, OverRead, OverWrite, Work};
 use std::fs::File;
 use std::io::{self, Read};
 use std::rt::{Clock, Files};
@@ -212,7 +212,17 @@ where
             let offset = CARRIED_AT as u64;
             rq_tool::run_at(rt, rt.alloc(), &mut input, &mut output, offset, plan, &Open)
         }
-        Printed::Audit => rq_tool::audit_log(rt, rt.alloc(), &mut input, &mut output, plan),
+        Printed::Audit => {
+            rq_tool::through(
+                rt,
+                rt.alloc(),
+                &mut input,
+                &mut output,
+                Work::Audit,
+                plan,
+                &Open,
+            )
+        }
     }
 }
 

@@ -1,7 +1,7 @@
 use Rattle.std.proofs.Common.{◌≡◌, map, take, string_bytes}
 use Rattle.std.specs.List.{flat_map}
 use Rattle.rq_restart.specs.Audits.{audited_of}
-use Rattle.rq_tool.specs.AuditTexts.{audit_line}
+use Rattle.rq_tool.specs.Works.{audit_line}
 use Rattle.rq_tool.proofs.audits.audit_text.Given as goal
 
 abbrev pub invariant-loop-offset : goal.invariant-loop-offset

@@ -1,7 +1,7 @@
 use Rattle.std.proofs.Common.{map, ap, ◌∙◌}
 use Rattle.std.specs.List.{flat_map}
 use Rattle.rq_restart.specs.Audits.{audited_of}
-use Rattle.rq_tool.specs.AuditTexts.{audit_line}
+use Rattle.rq_tool.specs.Works.{audit_line}
 use Rattle.rq_tool.proofs.audits.audited_lines.Goals as goal
 
 pub returns-clause-made : goal.returns-clause-made
