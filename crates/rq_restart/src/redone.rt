@@ -77,7 +77,7 @@ pub fn redone_front<R: Threads + Sync>(
     ensures { RedoesFront bytes.now result }
 {
     rq_model::frames_join();
-    let (version, front) = whole_front(rt, alloc, bytes, plan)?;
+    let (version, front) = whole_front(rt, alloc, &LogBytes::borrowed(bytes), plan)?;
     state_behind(rt, alloc, version, &State::empty(alloc), bytes, front, plan)
 }
 

@@ -56,7 +56,7 @@ fn with_aborts(
 // The state behind the records, for whose beginning the analysis stands. It lets go of both, and of
 // the state before them, before the state is gathered. So these never stand in memory at once, and a
 // caller that is refused has none to drop.
-fn redone<R, G>(
+fn redone<R: Threads + Sync, G: Gate + Sync>(
     rt: &R,
     alloc: Global,
     version: Version,
@@ -66,9 +66,6 @@ fn redone<R, G>(
     plan: &Plan,
     gate: &G,
 ) -> Result<State, Fault>
-where
-    R: Threads + Sync,
-    G: Gate + Sync,
     requires lawful { all_lawful (version_of version) state (map record_of records.items)
         ≡ true }
     requires fits { state.next + length records.items < 2 ^ 64 }
@@ -90,7 +87,7 @@ where
 /// What a restart answers of a front of the version that begins in the state and ends at an offset
 /// of `total` bytes: its open units are aborted, rising, and records and aborts are redone
 /// together. The counts are those before these aborts.
-pub(crate) fn finish<R, G>(
+pub(crate) fn finish<R: Threads + Sync, G: Gate + Sync>(
     rt: &R,
     alloc: Global,
     version: Version,
@@ -100,9 +97,6 @@ pub(crate) fn finish<R, G>(
     plan: &Plan,
     gate: &G,
 ) -> Result<Restarted, Fault>
-where
-    R: Threads + Sync,
-    G: Gate + Sync,
     requires well { IsWellFormed state }
     requires next { state.next ≤ 4294967295 }
     requires few { length front.records.items ≤ 4294967295 }

@@ -57,7 +57,7 @@ fn own_front_from<R: Threads + Sync>(
 
 /// The restart from a checkpoint of a log that nobody else needs: `restart_at` of its bytes, which
 /// are let go or kept as `restart_own` does it.
-pub fn restart_own_at<R, G>(
+pub fn restart_own_at<R: Threads + Sync, G: Gate + Sync>(
     rt: &R,
     alloc: Global,
     bytes: Vec<u8>,
@@ -65,9 +65,6 @@ pub fn restart_own_at<R, G>(
     plan: &Plan,
     gate: &G,
 ) -> Result<Restarted, Fault>
-where
-    R: Threads + Sync,
-    G: Gate + Sync,
     ensures { RestartsAt bytes.items offset result }
 {
     let total = bytes.len();
@@ -87,7 +84,7 @@ where
 /// The restart from a checkpoint of a log whose bytes may be shared: `restart_at` of them. If they
 /// are, another checkpoint behind that one, and a payload of more than 22 bytes, are parts of them
 /// and no copies.
-pub fn restart_of_at<R, G>(
+pub fn restart_of_at<R: Threads + Sync, G: Gate + Sync>(
     rt: &R,
     alloc: Global,
     bytes: &LogBytes<'_>,
@@ -95,9 +92,6 @@ pub fn restart_of_at<R, G>(
     plan: &Plan,
     gate: &G,
 ) -> Result<Restarted, Fault>
-where
-    R: Threads + Sync,
-    G: Gate + Sync,
     ensures { RestartsAt bytes.now offset result }
 {
     let from = front_from(rt, alloc, bytes, offset, plan)?;
@@ -120,7 +114,7 @@ where
 /// Refuses with `NoCheckpoint` where the offset is below 40 or no frame with the right digest and
 /// kind 9 starts there, with `BadCheckpoint` where the checkpoint spells no well-formed state, and
 /// else as `restart` does.
-pub fn restart_at<R, G>(
+pub fn restart_at<R: Threads + Sync, G: Gate + Sync>(
     rt: &R,
     alloc: Global,
     bytes: &[u8],
@@ -128,9 +122,6 @@ pub fn restart_at<R, G>(
     plan: &Plan,
     gate: &G,
 ) -> Result<Restarted, Fault>
-where
-    R: Threads + Sync,
-    G: Gate + Sync,
     ensures { RestartsAt bytes.now offset result }
 {
     restart_of_at(rt, alloc, &LogBytes::borrowed(bytes), offset, plan, gate)

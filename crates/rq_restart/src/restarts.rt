@@ -22,8 +22,8 @@ use std::marker::Sync;
 use std::sync::ArcSlice;
 use std::thread::Threads;
 
-// The version of a log whose bytes may be shared, and the front of all of it.
-fn whole_front_of<R: Threads + Sync>(
+/// The version of a log whose bytes may be shared, and the front of all of it.
+pub(crate) fn whole_front<R: Threads + Sync>(
     rt: &R,
     alloc: Global,
     bytes: &LogBytes<'_>,
@@ -45,43 +45,21 @@ fn whole_front_of<R: Threads + Sync>(
     Ok((version, front))
 }
 
-/// The version of a log, and the front of all of it.
-pub(crate) fn whole_front<R: Threads + Sync>(
-    rt: &R,
-    alloc: Global,
-    bytes: &[u8],
-    plan: &Plan,
-) -> Result<(Version, Front), Fault>
-    ensures front { IfOk result (λ x. IsFrontFrom (version_of x.0) empty bytes.now 40
-        (map record_of x.1.records.items) x.1.end (why_of x.1.why)) }
-    ensures analysis { IfOk result
-        (λ x. IsAnalysis (version_of x.0) empty (map record_of x.1.records.items) x.1.analysis) }
-    ensures header { IfOk result (λ x. HasHeader (version_of x.0) bytes.now) }
-    ensures short { OnOk result (length bytes.now ≤ log_limit) }
-    ensures refused { IfErr result (Refused bytes.now) }
-{
-    let (version, front) = whole_front_of(rt, alloc, &LogBytes::borrowed(bytes), plan)?;
-    Ok((version, front))
-}
-
 /// The restart of a log whose bytes may be shared: `restart` of them. If they are, a checkpoint, and
 /// a payload of more than 22 bytes, are parts of them and no copies. So they stay in memory as long
 /// as one such payload of the state does.
-pub fn restart_of<R, G>(
+pub fn restart_of<R: Threads + Sync, G: Gate + Sync>(
     rt: &R,
     alloc: Global,
     bytes: &LogBytes<'_>,
     plan: &Plan,
     gate: &G,
 ) -> Result<Restarted, Fault>
-where
-    R: Threads + Sync,
-    G: Gate + Sync,
     ensures { Restarts bytes.now result }
 {
     rq_model::runs_are_well_formed();
     rq_model::frames_join();
-    let (version, front) = whole_front_of(rt, alloc, bytes, plan)?;
+    let (version, front) = whole_front(rt, alloc, bytes, plan)?;
     finish(
         rt,
         alloc,
@@ -111,23 +89,20 @@ fn own_front<R: Threads + Sync>(
     ensures refused { IfErr result (Refused bytes.items) }
 {
     let log = ArcSlice::from_vec(bytes)?;
-    whole_front_of(rt, alloc, &LogBytes::shared(&log), plan)
+    whole_front(rt, alloc, &LogBytes::shared(&log), plan)
 }
 
 /// The restart of a log that nobody else needs: `restart` of its bytes. A checkpoint, and a payload
 /// of more than 22 bytes, are parts of them and no copies. If the records of the front have no such
 /// part, the bytes are let go before a queue is redone. Else they stay in memory as long as one such
 /// payload does.
-pub fn restart_own<R, G>(
+pub fn restart_own<R: Threads + Sync, G: Gate + Sync>(
     rt: &R,
     alloc: Global,
     bytes: Vec<u8>,
     plan: &Plan,
     gate: &G,
 ) -> Result<Restarted, Fault>
-where
-    R: Threads + Sync,
-    G: Gate + Sync,
     ensures { Restarts bytes.items result }
 {
     rq_model::runs_are_well_formed();
@@ -151,16 +126,13 @@ where
 /// Every queue is redone by `plan.workers()` workers; each of them enters the gate before it redoes
 /// a queue. Refuses with `TooLong` more than 4,294,967,295 bytes, with `NotALog` bytes that begin
 /// with no version's header, and with `Resources` where memory is refused.
-pub fn restart<R, G>(
+pub fn restart<R: Threads + Sync, G: Gate + Sync>(
     rt: &R,
     alloc: Global,
     bytes: &[u8],
     plan: &Plan,
     gate: &G,
 ) -> Result<Restarted, Fault>
-where
-    R: Threads + Sync,
-    G: Gate + Sync,
     ensures { Restarts bytes.now result }
 {
     restart_of(rt, alloc, &LogBytes::borrowed(bytes), plan, gate)

@@ -17,7 +17,7 @@ use crate::restarts::whole_front;
 use rq_front::LOG_LIMIT;
 use rq_judged::{Front, append_frame, before};
 use rq_plan::Plan;
-use rq_record::{Fault, Record, UnitNo, Version, encode};
+use rq_record::{Fault, LogBytes, Record, UnitNo, Version, encode};
 use std::alloc::Global;
 use std::marker::Sync;
 use std::thread::Threads;
@@ -109,7 +109,7 @@ fn ending_of<R: Threads + Sync>(
     ensures ending { IfOk result (IsEnding bytes.now) }
     ensures refused { IfErr result (StaysOpen bytes.now) }
 {
-    let (version, front) = whole_front(rt, alloc, bytes, plan)?;
+    let (version, front) = whole_front(rt, alloc, &LogBytes::borrowed(bytes), plan)?;
     ending_behind(alloc, version, &front, bytes)
 }
 

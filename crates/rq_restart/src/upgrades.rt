@@ -12,7 +12,7 @@ use crate::restarts::whole_front;
 use rq_front::{FRAME_LEN, HEADER_LEN, header_of};
 use rq_judged::body_at;
 use rq_plan::Plan;
-use rq_record::{Fault, Version};
+use rq_record::{Fault, LogBytes, Version};
 use std::alloc::Global;
 use std::marker::Sync;
 use std::thread::Threads;
@@ -37,7 +37,7 @@ fn extent_of<R: Threads + Sync>(
     ensures refused { IfErr result (Refused bytes.now) }
 {
     rq_model::frames_join();
-    let (version, front) = whole_front(rt, alloc, bytes, plan)?;
+    let (version, front) = whole_front(rt, alloc, &LogBytes::borrowed(bytes), plan)?;
     Ok(Extent {
         version,
         end: front.end,
