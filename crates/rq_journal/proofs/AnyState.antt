@@ -13,25 +13,11 @@ pub any_spelled : (s : State) (result : Result (Vec ℕ) Fault) → s.next ≤ 4
 any_spelled s (Ok v) low h = (low, h.0)
 any_spelled s (Err faults.TooLarge) low h = (low, h)
 any_spelled s (Err faults.Resources) low h = tt
-any_spelled s (Err faults.TooLong) low h = absurd h
-any_spelled s (Err faults.Form) low h = absurd h
-any_spelled s (Err faults.NotALog) low h = absurd h
-any_spelled s (Err faults.BadCheckpoint) low h = absurd h
-any_spelled s (Err faults.NoCheckpoint) low h = absurd h
-any_spelled s (Err (faults.Script line)) low h = absurd h
-any_spelled s (Err faults.ReadFailed) low h = absurd h
-any_spelled s (Err faults.WriteFailed) low h = absurd h
+any_spelled s (Err _) low h = absurd h
 
 pub any_body : (s : State) (result : Result (Vec ℕ) Fault) → s.next ≤ 4294967295 → SpellsBody s result
     → SpellsAnyBody s result
 any_body s (Ok body) low h = (low, h)
 any_body s (Err faults.TooLarge) low h = (low, h)
 any_body s (Err faults.Resources) low h = tt
-any_body s (Err faults.TooLong) low h = absurd h
-any_body s (Err faults.Form) low h = absurd h
-any_body s (Err faults.NotALog) low h = absurd h
-any_body s (Err faults.BadCheckpoint) low h = absurd h
-any_body s (Err faults.NoCheckpoint) low h = absurd h
-any_body s (Err (faults.Script line)) low h = absurd h
-any_body s (Err faults.ReadFailed) low h = absurd h
-any_body s (Err faults.WriteFailed) low h = absurd h
+any_body s (Err _) low h = absurd h

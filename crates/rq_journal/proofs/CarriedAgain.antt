@@ -124,23 +124,11 @@ module _ (b : List ℕ) (f : RedoneFront) (h : IsRedoneAt b 96 f) where
   no_checkpoint faults.TooLong high = inr (f.state, state_of, high)
   no_checkpoint faults.TooLarge large = (f.state, state_of, large.0, large.1)
   no_checkpoint faults.Resources none = tt
-  no_checkpoint faults.Form none = absurd none
-  no_checkpoint faults.NotALog none = absurd none
-  no_checkpoint faults.BadCheckpoint none = absurd none
-  no_checkpoint faults.NoCheckpoint none = absurd none
-  no_checkpoint (faults.Script line) none = absurd none
-  no_checkpoint faults.ReadFailed none = absurd none
-  no_checkpoint faults.WriteFailed none = absurd none
+  no_checkpoint _ none = absurd none
 
 -- nor is a log that is refused
 pub refused_again : (b : List ℕ) (e : Fault) → RefusedAt b 96 e → StaysThere b e
 refused_again b faults.TooLong refused = inl refused
 refused_again b faults.TooLarge refused = absurd refused
 refused_again b faults.Resources refused = tt
-refused_again b faults.Form refused = refused
-refused_again b faults.NotALog refused = refused
-refused_again b faults.BadCheckpoint refused = refused
-refused_again b faults.NoCheckpoint refused = refused
-refused_again b (faults.Script line) refused = refused
-refused_again b faults.ReadFailed refused = refused
-refused_again b faults.WriteFailed refused = refused
+refused_again b _ refused = refused

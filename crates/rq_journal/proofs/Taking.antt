@@ -41,16 +41,8 @@ has_kind One s (Commit unit) h = tt
 has_kind One s (Abort unit) h = tt
 has_kind One s (Checkpoint bytes) h = tt
 has_kind Two s (Define limit error name) h = tt
-has_kind Two s (Register queue name) h = tt
-has_kind Two s (Deregister queue name) h = tt
-has_kind Two s (Begin unit) h = tt
-has_kind Two s (Enqueue unit queue priority by payload) h = tt
-has_kind Two s (Dequeue unit queue by) h = tt
-has_kind Two s (Commit unit) h = tt
-has_kind Two s (Abort unit) h = tt
-has_kind Two s (Checkpoint bytes) h = tt
 has_kind One s (Kill queue element) h = absurd cc
-has_kind Two s (Kill queue element) h = tt
+has_kind Two s _ h = tt
 
 -- how long the log is with one record more
 pub one_longer : (at : Place) (rs : List Record) (r : Record)

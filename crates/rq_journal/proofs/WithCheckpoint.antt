@@ -96,11 +96,4 @@ module _ (b : List ℕ) (f : RedoneFront) (body : List ℕ) (h : IsRedoneFront b
   marks (Ok v) bytes truth queues same framed = is_marked v.items bytes truth queues same framed.0 framed.1
   marks (Err faults.TooLarge) bytes truth queues same framed = too_long framed
   marks (Err faults.Resources) bytes truth queues same framed = tt
-  marks (Err faults.Form) bytes truth queues same framed = absurd framed
-  marks (Err faults.NotALog) bytes truth queues same framed = absurd framed
-  marks (Err faults.TooLong) bytes truth queues same framed = absurd framed
-  marks (Err faults.BadCheckpoint) bytes truth queues same framed = absurd framed
-  marks (Err faults.NoCheckpoint) bytes truth queues same framed = absurd framed
-  marks (Err (faults.Script line)) bytes truth queues same framed = absurd framed
-  marks (Err faults.ReadFailed) bytes truth queues same framed = absurd framed
-  marks (Err faults.WriteFailed) bytes truth queues same framed = absurd framed
+  marks (Err _) bytes truth queues same framed = absurd framed

@@ -64,13 +64,7 @@ no_log_at b offset faults.TooLong h = (
 )
 no_log_at b offset faults.NotALog h = (h, λ true_at. absurd (h.1 (headed b offset true_at)))
 no_log_at b offset faults.Resources h = (h, λ _. refl)
-no_log_at b offset faults.ReadFailed h = absurd h
-no_log_at b offset faults.Form h = absurd h
-no_log_at b offset faults.TooLarge h = absurd h
-no_log_at b offset faults.BadCheckpoint h = absurd h
-no_log_at b offset faults.NoCheckpoint h = absurd h
-no_log_at b offset (faults.Script n) h = absurd h
-no_log_at b offset faults.WriteFailed h = absurd h
+no_log_at b offset _ h = absurd h
 
 -- from a true checkpoint there is a report, if memory is there
 pub no_report_at : EveryLogHasReport → TrueSaysTheSame → OneVersion → (b : List ℕ) (offset : ℕ) (e : Fault)
@@ -90,25 +84,13 @@ no_report_at every same one b offset faults.BadCheckpoint bytes h = (
 no_report_at every same one b offset faults.TooLong bytes h = no_log_at b offset faults.TooLong h
 no_report_at every same one b offset faults.NotALog bytes h = no_log_at b offset faults.NotALog h
 no_report_at every same one b offset faults.Resources bytes h = no_log_at b offset faults.Resources h
-no_report_at every same one b offset faults.ReadFailed bytes h = absurd h
-no_report_at every same one b offset faults.Form bytes h = absurd h
-no_report_at every same one b offset faults.TooLarge bytes h = absurd h
-no_report_at every same one b offset (faults.Script n) bytes h = absurd h
-no_report_at every same one b offset faults.WriteFailed bytes h = absurd h
+no_report_at every same one b offset _ bytes h = absurd h
 
 -- The closed log.
 
 stays_open : (b : List ℕ) (e : Fault) → Refused b e → StaysOpen b e
 stays_open b faults.TooLarge h = absurd h
-stays_open b faults.TooLong h = h
-stays_open b faults.NotALog h = h
-stays_open b faults.Resources h = h
-stays_open b faults.ReadFailed h = h
-stays_open b faults.Form h = h
-stays_open b faults.BadCheckpoint h = h
-stays_open b faults.NoCheckpoint h = h
-stays_open b (faults.Script n) h = h
-stays_open b faults.WriteFailed h = h
+stays_open b _ h = h
 
 -- No log.
 
@@ -126,24 +108,10 @@ refuses works.Upgrade b e h = h
 pub unmade : (version : Version) (script : List ℕ) (e : Fault) → length script ≤ log_limit
     → Made {X = Vec ℕ} version (λ v. v.items) script (Err e) → HasNoLog version script e
 unmade version script faults.TooLong short h = inr (short, h)
-unmade version script faults.NotALog short h = (short, h)
 unmade version script faults.Resources short h = tt
-unmade version script faults.ReadFailed short h = (short, h)
-unmade version script faults.Form short h = (short, h)
-unmade version script faults.TooLarge short h = (short, h)
-unmade version script faults.BadCheckpoint short h = (short, h)
-unmade version script faults.NoCheckpoint short h = (short, h)
-unmade version script (faults.Script n) short h = (short, h)
-unmade version script faults.WriteFailed short h = (short, h)
+unmade version script _ short h = (short, h)
 
 pub overlong : (version : Version) (script : List ℕ) (e : Fault) → IsOverlong script e → HasNoLog version script e
 overlong version script faults.TooLong h = inl h
-overlong version script faults.NotALog h = absurd h
 overlong version script faults.Resources h = tt
-overlong version script faults.ReadFailed h = absurd h
-overlong version script faults.Form h = absurd h
-overlong version script faults.TooLarge h = absurd h
-overlong version script faults.BadCheckpoint h = absurd h
-overlong version script faults.NoCheckpoint h = absurd h
-overlong version script (faults.Script n) h = absurd h
-overlong version script faults.WriteFailed h = absurd h
+overlong version script _ h = absurd h

@@ -28,14 +28,7 @@ pub all_taken : {A : Type 0} (old new : Option (List ℕ)) (bytes : List ℕ) (r
 all_taken old new bytes (Ok x) h = (bytes, h)
 all_taken old new bytes (Err faults.ReadFailed) h = (bytes, h.0)
 all_taken old new bytes (Err faults.Resources) h = (bytes, h.0)
-all_taken old new bytes (Err faults.TooLong) h = (bytes, h)
-all_taken old new bytes (Err faults.NotALog) h = (bytes, h)
-all_taken old new bytes (Err faults.Form) h = (bytes, h)
-all_taken old new bytes (Err faults.TooLarge) h = (bytes, h)
-all_taken old new bytes (Err faults.BadCheckpoint) h = (bytes, h)
-all_taken old new bytes (Err faults.NoCheckpoint) h = (bytes, h)
-all_taken old new bytes (Err (faults.Script n)) h = (bytes, h)
-all_taken old new bytes (Err faults.WriteFailed) h = (bytes, h)
+all_taken old new bytes (Err _) h = (bytes, h)
 
 -- some bytes were taken where a read or memory was refused
 pub some_taken : (A : Type 0) (old new : Option (List ℕ)) (e : Fault) → IsOneOf faults.ReadFailed faults.Resources e
@@ -215,12 +208,7 @@ unread old new faults.NotALog h =
     )
 unread old new faults.Resources h = let some = given old in (some.0, some.1, tt)
 unread old new faults.ReadFailed h = let some = given old in (some.0, some.1, tt)
-unread old new faults.Form h = absurd h
-unread old new faults.TooLarge h = absurd h
-unread old new faults.BadCheckpoint h = absurd h
-unread old new faults.NoCheckpoint h = absurd h
-unread old new (faults.Script n) h = absurd h
-unread old new faults.WriteFailed h = absurd h
+unread old new _ h = absurd h
 
 pub unread_taken : (A : Type 0) (old new : Option (List ℕ)) (e : Fault) → IsUnread old new e
     → TakesInput {A = A} old new (Err e)
@@ -228,9 +216,4 @@ unread_taken A old new faults.TooLong h = (h.0, h.1)
 unread_taken A old new faults.NotALog h = (h.0, h.1)
 unread_taken A old new faults.Resources h = h
 unread_taken A old new faults.ReadFailed h = h
-unread_taken A old new faults.Form h = absurd h
-unread_taken A old new faults.TooLarge h = absurd h
-unread_taken A old new faults.BadCheckpoint h = absurd h
-unread_taken A old new faults.NoCheckpoint h = absurd h
-unread_taken A old new (faults.Script n) h = absurd h
-unread_taken A old new faults.WriteFailed h = absurd h
+unread_taken A old new _ h = absurd h

@@ -377,15 +377,7 @@ record_again Two (Kill queue element) h t = kill_again queue element h
 
 is_told : (r : Record) → bytes_eq (record_text r) (codes "checkpoint") ≡ false
 is_told (Define limit error name) = refl
-is_told (Register queue name) = refl
-is_told (Deregister queue name) = refl
-is_told (Begin unit) = refl
-is_told (Enqueue unit queue priority by payload) = refl
-is_told (Dequeue unit queue by) = refl
-is_told (Commit unit) = refl
-is_told (Abort unit) = refl
-is_told (Checkpoint bytes) = refl
-is_told (Kill queue element) = refl
+is_told _ = refl
 
 pub line_takes : (version : Version) (text : List ℕ) (l : Line) → line_at version text ≡ Some l → Tells version l text
 unfolding told_line
@@ -411,11 +403,4 @@ reads version text (Ok l) g = line_takes version text (line_of l) g
 reads version text (Err faults.Form) g = λ l t. let found : line_at version text ≡ Some l =
     ap (line_at version) t.1 ∙ line_again version l t.0 in absurd cc
 reads version text (Err faults.Resources) g = tt
-reads version text (Err faults.NotALog) g = absurd g
-reads version text (Err faults.TooLong) g = absurd g
-reads version text (Err faults.TooLarge) g = absurd g
-reads version text (Err faults.BadCheckpoint) g = absurd g
-reads version text (Err faults.NoCheckpoint) g = absurd g
-reads version text (Err (faults.Script n)) g = absurd g
-reads version text (Err faults.ReadFailed) g = absurd g
-reads version text (Err faults.WriteFailed) g = absurd g
+reads version text (Err _) g = absurd g

@@ -1,5 +1,5 @@
 -- A script has one answer: its lines are told one after the other, and end in one way.
-use Rattle.std.proofs.Common.{◌≡◌, ◌⊎◌, ℕ, ◌+◌, ◌<◌, ◌≤◌, List, [], ◌∷◌, ◌++◌, length, Some, Result, Ok, Err, refl, sym}
+use Rattle.std.proofs.Common.{◌≡◌, ◌⊎◌, ℕ, ◌+◌, ◌<◌, ◌≤◌, List, [], ◌∷◌, ◌++◌, length, Result, Ok, Err, refl, sym}
 use Rattle.std.proofs.Common.{ap, subst, ◌∙◌, append_assoc, arith, inl, inr}
 use Rattle.std.specs.List.{AllByRecursion}
 use Rattle.std.proofs.lemmas.List.{length-append}
@@ -135,12 +135,7 @@ is_ended version script (Err faults.TooLong) ((ls, rs, l, r, rest, passes), some
   is = refl;
 }
 is_ended version script (Err faults.Resources) (made, some) = absurd (some refl)
-is_ended version script (Err faults.Form) (made, some) = absurd made
-is_ended version script (Err faults.NotALog) (made, some) = absurd made
-is_ended version script (Err faults.BadCheckpoint) (made, some) = absurd made
-is_ended version script (Err faults.NoCheckpoint) (made, some) = absurd made
-is_ended version script (Err faults.ReadFailed) (made, some) = absurd made
-is_ended version script (Err faults.WriteFailed) (made, some) = absurd made
+is_ended version script (Err _) (made, some) = absurd made
 
 -- After the same lines a script ends in one way.
 

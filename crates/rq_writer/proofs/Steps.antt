@@ -92,13 +92,7 @@ pub no_record : (version : Version) (A : Type 0) (number : ℕ) (text : List ℕ
 no_record version A number text old new front (faults.Script n) r = r
 no_record version A number text old new front faults.TooLarge r = (r.0, λ rs h. r.1 rs h.front h.logged)
 no_record version A number text old new front faults.Resources r = tt
-no_record version A number text old new front faults.Form r = absurd r
-no_record version A number text old new front faults.NotALog r = absurd r
-no_record version A number text old new front faults.TooLong r = absurd r
-no_record version A number text old new front faults.BadCheckpoint r = absurd r
-no_record version A number text old new front faults.NoCheckpoint r = absurd r
-no_record version A number text old new front faults.ReadFailed r = absurd r
-no_record version A number text old new front faults.WriteFailed r = absurd r
+no_record version A number text old new front _ r = absurd r
 
 pub no_frame : (version : Version) (A B : Type 0) → LogJoins
     → (number : ℕ) (text : List ℕ) (old new : Log) (front : MadeFront) (out : List ℕ) (r : code.Record) (e : Fault)
@@ -115,14 +109,7 @@ no_frame version A B joins number text old new front out r faults.TooLong line f
   ),
 )
 no_frame version A B joins number text old new front out r faults.Resources line f = tt
-no_frame version A B joins number text old new front out r faults.Form line f = absurd f
-no_frame version A B joins number text old new front out r faults.NotALog line f = absurd f
-no_frame version A B joins number text old new front out r faults.TooLarge line f = absurd f
-no_frame version A B joins number text old new front out r faults.BadCheckpoint line f = absurd f
-no_frame version A B joins number text old new front out r faults.NoCheckpoint line f = absurd f
-no_frame version A B joins number text old new front out r (faults.Script n) line f = absurd f
-no_frame version A B joins number text old new front out r faults.ReadFailed line f = absurd f
-no_frame version A B joins number text old new front out r faults.WriteFailed line f = absurd f
+no_frame version A B joins number text old new front out r _ line f = absurd f
 
 -- what a line adds is a record of the version
 pub added_is_record : (version : Version) (rs : List Record) (l : Line) (r : Record) → IsLine version l
@@ -237,15 +224,7 @@ no_line_stops version view bytes script n log rest ls rs (faults.Script k) m som
         omega (arith, stop.0, m.number);
   },
 )
-no_line_stops version view bytes script n log rest ls rs faults.Form m some stop = absurd stop
-no_line_stops version view bytes script n log rest ls rs faults.NotALog m some stop = absurd stop
-no_line_stops version view bytes script n log rest ls rs faults.TooLong m some stop = absurd stop
-no_line_stops version view bytes script n log rest ls rs faults.TooLarge m some stop = absurd stop
-no_line_stops version view bytes script n log rest ls rs faults.BadCheckpoint m some stop = absurd stop
-no_line_stops version view bytes script n log rest ls rs faults.Resources m some stop = absurd stop
-no_line_stops version view bytes script n log rest ls rs faults.NoCheckpoint m some stop = absurd stop
-no_line_stops version view bytes script n log rest ls rs faults.ReadFailed m some stop = absurd stop
-no_line_stops version view bytes script n log rest ls rs faults.WriteFailed m some stop = absurd stop
+no_line_stops version view bytes script n log rest ls rs _ m some stop = absurd stop
 
 pub line_stops : (version : Version) (A : Type 0) {Y : Type 0} (bytes : Y → List ℕ) (script : List ℕ) (n : ℕ)
     (old new : Log) (rest : List ℕ) (x : List ℕ × List ℕ) (ls : List Line) (rs : List Record) (e : Fault)
@@ -293,12 +272,7 @@ line_stops version A bytes script n old new rest x ls rs faults.TooLong m some f
       },
     )
 line_stops version A bytes script n old new rest x ls rs faults.Resources m some found stop = tt
-line_stops version A bytes script n old new rest x ls rs faults.Form m some found stop = absurd stop
-line_stops version A bytes script n old new rest x ls rs faults.NotALog m some found stop = absurd stop
-line_stops version A bytes script n old new rest x ls rs faults.BadCheckpoint m some found stop = absurd stop
-line_stops version A bytes script n old new rest x ls rs faults.NoCheckpoint m some found stop = absurd stop
-line_stops version A bytes script n old new rest x ls rs faults.ReadFailed m some found stop = absurd stop
-line_stops version A bytes script n old new rest x ls rs faults.WriteFailed m some found stop = absurd stop
+line_stops version A bytes script n old new rest x ls rs _ m some found stop = absurd stop
 
 pub nonzero : (l : List ℕ) → (length l ≡ 0 → ⊥) → 0 < length l
 nonzero l h = omega (arith, h)
