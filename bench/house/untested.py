@@ -20,7 +20,12 @@ TESTS = {"rq_rows"}
 PROGRAMS = {"rq", "rqlook", "rqlog"}
 
 HEAD = re.compile(r"^( *)(pub(?:\([a-z]+\))? )?(?:const )?fn (\w+)", re.M)
+ALIAS = re.compile(r"^pub type (\w+)(?:<[^=]*>)? = (\w+)", re.M)
 BLOCK = re.compile(r"^impl(?:<[^{]*?>)? (?:[\w:<>, ]+ for )?&?(\w+)", re.M)
+
+
+# The other names of a type.
+ALIASES: dict[str, list[str]] = {}
 
 
 class Call(NamedTuple):
@@ -38,7 +43,8 @@ class Call(NamedTuple):
         if self.has_self and re.search(rf"\.{self.name}\b", text):
             return True
         if self.owner:
-            return re.search(rf"\b(?:{self.owner}(?:::<[^>]*>)?|Self)::{self.name}\b", text) is not None
+            owners = "|".join([self.owner, *ALIASES.get(self.owner, [])])
+            return re.search(rf"\b(?:(?:{owners})(?:::<[^>]*>)?|Self)::{self.name}\b", text) is not None
         return re.search(rf"(?<![.\w]){self.name}(?:::<[^>]*>)?\s*\(", text) is not None
 
 
@@ -63,6 +69,8 @@ def functions_of(crate: str) -> list[Function]:
     found = []
     for path in sorted(glob.glob(os.path.join(CRATES, crate, "src", "**", "*.rt"), recursive=True)):
         text = code_of(path)
+        for name, owner in ALIAS.findall(text):
+            ALIASES.setdefault(owner, []).append(name)
         heads = list(HEAD.finditer(text))
         blocks = list(BLOCK.finditer(text))
         for head, after in zip(heads, [*heads[1:], None]):

@@ -22,7 +22,7 @@ use Rattle.rq_model.proofs.Lists.{by_cases, each_weaker, each_both}
 use Rattle.rq_model.proofs.Merged.{ordered_filter, ordered_weaker}
 use Rattle.rq_state.proofs.InOrder.{ordered_map, pairwise}
 use Rattle.rq_state.proofs.Sorts.{in_of_contains, contains_of_in}
-use Rattle.rq_report.specs.Order.{is_ahead}
+use Rattle.rq_report.specs.Pieces.{is_ahead}
 
 -- Two lists in order.
 

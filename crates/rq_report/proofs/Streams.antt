@@ -31,15 +31,7 @@ pub reports_of : {A : Type 0} (r : Restarted) (before after : ℕ) (old new : Op
     → Reports r before after old new result
 reports_of r before after old new text (Ok x) is d = (text, is, d.0, d.1)
 reports_of r before after old new text (Err faults.WriteFailed) is d = (text, is, d.0, d.1)
-reports_of r before after old new text (Err faults.Form) is d = absurd d
-reports_of r before after old new text (Err faults.NotALog) is d = absurd d
-reports_of r before after old new text (Err faults.TooLong) is d = absurd d
-reports_of r before after old new text (Err faults.TooLarge) is d = absurd d
-reports_of r before after old new text (Err faults.BadCheckpoint) is d = absurd d
-reports_of r before after old new text (Err faults.Resources) is d = absurd d
-reports_of r before after old new text (Err faults.NoCheckpoint) is d = absurd d
-reports_of r before after old new text (Err (faults.Script n)) is d = absurd d
-reports_of r before after old new text (Err faults.ReadFailed) is d = absurd d
+reports_of r before after old new text (Err _) is d = absurd d
 
 -- what is left of the pieces begins with the next one
 pub piece_next : {X : Type 0} (f : X → List ℕ) (pieces : List X) (i : ℕ) (x : X) (text front : List ℕ)
@@ -65,15 +57,7 @@ piece_fails_by A before mid after old held new text front piece rest faults.Writ
       d.0 ∙ ap (λ (n : ℕ). n + 1) same,
       (front ++ written, left ++ rest, whole, appends_more old held new front written h d.1.3),
     )
-piece_fails_by A before mid after old held new text front piece rest faults.Form e same h d = absurd d
-piece_fails_by A before mid after old held new text front piece rest faults.NotALog e same h d = absurd d
-piece_fails_by A before mid after old held new text front piece rest faults.TooLong e same h d = absurd d
-piece_fails_by A before mid after old held new text front piece rest faults.TooLarge e same h d = absurd d
-piece_fails_by A before mid after old held new text front piece rest faults.BadCheckpoint e same h d = absurd d
-piece_fails_by A before mid after old held new text front piece rest faults.Resources e same h d = absurd d
-piece_fails_by A before mid after old held new text front piece rest faults.NoCheckpoint e same h d = absurd d
-piece_fails_by A before mid after old held new text front piece rest (faults.Script n) e same h d = absurd d
-piece_fails_by A before mid after old held new text front piece rest faults.ReadFailed e same h d = absurd d
+piece_fails_by A before mid after old held new text front piece rest _ e same h d = absurd d
 
 -- if a piece is not all written, neither is the text
 pub piece_fails : {A : Type 0} (before mid after : ℕ) (old held new : Option (List ℕ)) (text front piece rest : List ℕ)

@@ -5,7 +5,7 @@ ghost use Rattle.std.specs.List.Sorted.{IsSortedBy};
 ghost use Rattle.rq_model.specs.Machine.{is_free_at};
 ghost use Rattle.rq_model.specs.States as model;
 ghost use Rattle.rq_model.specs.Reports.{IsListing};
-ghost use Rattle.rq_report.specs.Order.{is_ahead};
+ghost use Rattle.rq_report.specs.Pieces.{is_ahead};
 
 use rq_record::QueueNo;
 use rq_state::{KeptElement, Mark, State};

@@ -84,30 +84,37 @@ fn write_some<W: Write>(inner: &mut W, piece: &[u8]) -> Result<usize, Fault>
 }
 
 /// Reads from any reader of std. An interrupted read is tried again, and is no fault.
+pub type OverRead<R> = Over<R>;
+
+/// Writes to any writer of std. An interrupted write is tried again, and is no fault. A write that
+/// takes none of some bytes is a fault.
+pub type OverWrite<W> = Over<W>;
+
+/// A reader or a writer of std, with the count of its faults.
 #[derive(Drop)]
-pub struct OverRead<R: Read> {
-    inner: R,
+pub struct Over<T> {
+    inner: T,
     faults: u64,
 }
 
-impl<R: Read> OverRead<R> {
-    /// Over this reader, with no faults so far.
-    pub fn new(inner: R) -> Self
+impl<T> Over<T> {
+    /// Over this one, with no faults so far.
+    pub fn new(inner: T) -> Self
         ensures faults { result.faults ≡ 0 }
         ensures inner { result.inner ≡ inner }
     {
-        OverRead { inner, faults: 0 }
+        Over { inner, faults: 0 }
     }
 
-    /// The reader.
-    pub fn into_inner(self) -> R
+    /// The reader, or the writer.
+    pub fn into_inner(self) -> T
         ensures { result ≡ self.inner }
     {
         self.inner
     }
 }
 
-impl<R: Read> Input for OverRead<R> {
+impl<R: Read> Input for Over<R> {
     ghost faults = { λ it. it.faults };
 
     ghost remaining = { λ it. R.remaining it.inner };
@@ -121,32 +128,7 @@ impl<R: Read> Input for OverRead<R> {
     }
 }
 
-/// Writes to any writer of std. An interrupted write is tried again, and is no fault. A write that
-/// takes none of some bytes is a fault.
-#[derive(Drop)]
-pub struct OverWrite<W: Write> {
-    inner: W,
-    faults: u64,
-}
-
-impl<W: Write> OverWrite<W> {
-    /// Over this writer, with no faults so far.
-    pub fn new(inner: W) -> Self
-        ensures faults { result.faults ≡ 0 }
-        ensures inner { result.inner ≡ inner }
-    {
-        OverWrite { inner, faults: 0 }
-    }
-
-    /// The writer.
-    pub fn into_inner(self) -> W
-        ensures { result ≡ self.inner }
-    {
-        self.inner
-    }
-}
-
-impl<W: Write> Output for OverWrite<W> {
+impl<W: Write> Output for Over<W> {
     ghost faults = { λ it. it.faults };
 
     ghost contents = { λ it. W.contents it.inner };
