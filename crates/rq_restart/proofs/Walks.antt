@@ -88,15 +88,7 @@ found_further s at all i r start place found more lt is stands there so_far here
 pub none_here : (s : State) (at : ℕ) (r : Own) → ((kept : List ℕ) → r ≡ own.Checkpoint kept → ⊥)
     → audit_of s at (record_of r) ≡ []
 none_here s at (own.Checkpoint kept) h = absurd (h kept refl)
-none_here s at (own.Define limit error name) h = refl
-none_here s at (own.Register queue name) h = refl
-none_here s at (own.Deregister queue name) h = refl
-none_here s at (own.Begin unit) h = refl
-none_here s at (own.Enqueue priority queue unit by payload) h = refl
-none_here s at (own.Dequeue unit queue by) h = refl
-none_here s at (own.Commit unit) h = refl
-none_here s at (own.Abort unit) h = refl
-none_here s at (own.Kill queue element) h = refl
+none_here s at _ h = refl
 
 pub nothing_further : (s : State) (at : ℕ) (all : List Own) (i : ℕ) (r : Own) (found : List Audited) → i < length all
     → r ≡ slice_index_or all i r → ((kept : List ℕ) → r ≡ own.Checkpoint kept → ⊥)

@@ -5,7 +5,7 @@ use Rattle.std.specs.Str.{bytes_eq}
 use Rattle.std.specs.Global.{Vec}
 use Rattle.rq_model.specs.Records.{Record, Checkpoint, Version}
 use Rattle.rq_model.specs.Spelling.{body_of}
-use Rattle.rq_model.specs.Frames.{log_limit}
+use Rattle.rq_model.specs.Frames.{log_limit, HasHeader, AreBytes}
 use Rattle.rq_model.specs.States.{State}
 use Rattle.rq_model.specs.Machine.{step, all_lawful}
 use Rattle.rq_model.specs.StateSpelling.{state_bytes}
@@ -83,3 +83,8 @@ IsAuditAt b offset found = (x : HasFrontAt b offset)
 abbrev pub AuditsAt : List ℕ → ℕ → Result (Vec (ℕ × Bool)) Fault → Type 0
 AuditsAt b offset (Ok v) = IsAuditAt b offset (map audited_of v.items)
 AuditsAt b offset (Err e) = RefusedAt b offset e
+
+-- Every log has an audit
+abbrev pub EveryLogHasAudit : Type 0
+EveryLogHasAudit = (version : Version) (b : List ℕ) → AreBytes b
+    → length b ≤ log_limit → HasHeader version b → (found : List Audited) × IsAudit b found

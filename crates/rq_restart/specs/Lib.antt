@@ -4,7 +4,5 @@ pub mod RedoneFronts
 pub mod Tails
 pub mod Upgrades
 pub mod Audits
-pub mod AuditLaws
 pub mod Keepers
 pub mod Pieces
-pub mod Positions

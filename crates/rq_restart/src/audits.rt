@@ -1,4 +1,4 @@
-//! Which checkpoints of a log are true, of all of it or from a checkpoint on.
+//! Which checkpoints of a log are true, of all of it or from a checkpoint on; the law of that.
 
 ghost use Rattle.std.specs.Prelude.{◌≡◌, ◌≤◌, true, ◌++◌, ℕ, length, map, IfOk, OnOk, IfErr};
 ghost use Rattle.rq_model.specs.Machine.{all_lawful, run};
@@ -7,9 +7,9 @@ ghost use Rattle.rq_model.specs.States as states;
 ghost use Rattle.rq_record.specs.Views.{record_of, version_of};
 ghost use Rattle.rq_record.specs.declared.fault.Fault.TheVariants.{Resources};
 ghost use Rattle.rq_standing.specs.Stands.{Stands};
-ghost use Rattle.rq_restart.specs.Audits.{StandInFrames, Audits, AuditsAt, IsAuditedFrom};
-ghost use Rattle.rq_restart.specs.Audits.{audit_of, audited_of, audits};
 ghost use Rattle.rq_judged.specs.Ends.{IsChain};
+ghost use Rattle.rq_restart.specs.Audits.{StandInFrames, Audits, AuditsAt, IsAuditedFrom};
+ghost use Rattle.rq_restart.specs.Audits.{EveryLogHasAudit, audit_of, audited_of, audits};
 
 use crate::pieces::go_on;
 use rq_front::{Span, chain, log_version};
@@ -191,4 +191,16 @@ pub fn audit_at<R: Threads + Sync>(
 {
     let begun = begin_at(rt, alloc, bytes, offset, plan)?;
     checkpoints_of(rt, alloc, &LogBytes::borrowed(bytes), &begun, plan)
+}
+
+/// Every string of bytes with a header, and no longer than a log may be, has an audit; `one_report`
+/// of `rq_model` says that it has no other.
+pub fn every_log_has_audit()
+    ensures { EveryLogHasAudit }
+{
+    rq_model::frames_are_right();
+    rq_model::one_spelling();
+    rq_model::frames_join();
+    rq_model::one_front();
+    rq_model::every_log_has_report();
 }

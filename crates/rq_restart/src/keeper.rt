@@ -5,8 +5,8 @@ ghost use Rattle.rq_model.specs.States as states;
 ghost use Rattle.rq_record.specs.Views.{record_of, version_of};
 ghost use Rattle.rq_record.specs.declared.fault.Fault.TheVariants.{Resources};
 ghost use Rattle.rq_standing.specs.Stands.{Stands};
-ghost use Rattle.rq_restart.specs.Positions.{IsPosition};
 ghost use Rattle.rq_restart.specs.Keepers.{StandsBehind, TakesMore};
+ghost use Rattle.rq_restart.specs.Pieces.{IsPosition};
 
 use crate::pieces::{room_beside, take_each};
 use crate::position::Position;
@@ -51,7 +51,7 @@ impl Model for Keeper {
     ghost use Rattle.rq_model.specs.Machine.{run};
     ghost use Rattle.rq_record.specs.Views.{record_of, version_of};
     ghost use Rattle.rq_standing.specs.Stands.{Stands};
-    ghost use Rattle.rq_restart.specs.Positions.{IsPosition};
+    ghost use Rattle.rq_restart.specs.Pieces.{IsPosition};
 
     ghost view = { λ k. record {
       version = version_of k.version;

@@ -3,7 +3,6 @@
 //! state that goes along with a log.
 #![tactic(auto)]
 
-mod audit_laws;
 mod audits;
 mod frames;
 mod keeper;
@@ -17,8 +16,7 @@ mod restarts;
 mod tails;
 mod upgrades;
 
-pub use audit_laws::every_log_has_audit;
-pub use audits::{audit, audit_at, audit_of};
+pub use audits::{audit, audit_at, audit_of, every_log_has_audit};
 pub use keeper::Keeper;
 pub use pieces::go_on;
 pub use redone::{RedoneFront, front_state, redone_front, redone_front_at};

@@ -7,8 +7,7 @@ ghost use Rattle.rq_model.specs.States as states;
 ghost use Rattle.rq_record.specs.Views.{record_of, version_of};
 ghost use Rattle.rq_record.specs.declared.fault.Fault.TheVariants.{Resources};
 ghost use Rattle.rq_standing.specs.Stands.{Stands};
-ghost use Rattle.rq_restart.specs.Positions.{IsPosition};
-ghost use Rattle.rq_restart.specs.Pieces.{ComesTo};
+ghost use Rattle.rq_restart.specs.Pieces.{IsPosition, ComesTo};
 
 use crate::pieces::{front_redone, take_each};
 use rq_plan::Plan;

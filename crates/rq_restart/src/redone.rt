@@ -6,9 +6,9 @@ ghost use Rattle.rq_record.specs.Views.{record_of, version_of};
 ghost use Rattle.rq_record.specs.declared.fault.Fault.TheVariants.{Resources};
 ghost use Rattle.rq_catalog.specs.Analyses.{IsAnalysis};
 ghost use Rattle.rq_judged.specs.Ends.{IsFrontFrom};
-ghost use Rattle.rq_restart.specs.Restarts.{FindsState};
-ghost use Rattle.rq_restart.specs.RedoneFronts.{IsStateBehind, RedoesFront, RedoesFrontAt};
 ghost use Rattle.rq_judged.specs.Views.{why_of};
+ghost use Rattle.rq_restart.specs.RedoneFronts.{IsStateBehind, RedoesFront, RedoesFrontAt};
+ghost use Rattle.rq_restart.specs.Restarts.{FindsState};
 
 use crate::restarts::whole_front;
 use rq_exchange::replay_analysed;

@@ -2,10 +2,10 @@
 
 ghost use Rattle.std.specs.Prelude.{◌≡◌, ◌≤◌, ◌<◌, ◌^◌, ◌+◌, ◌-◌, ◌++◌, true, length, map, take};
 ghost use Rattle.std.specs.Prelude.{IfOk, IfErr, OnOk};
-ghost use Rattle.rq_model.specs.Records as model;
-ghost use Rattle.rq_model.specs.Machine.{all_lawful, run};
-ghost use Rattle.rq_model.specs.WellFormed.{IsWellFormed};
 ghost use Rattle.rq_model.specs.Fronts.{restarted};
+ghost use Rattle.rq_model.specs.Machine.{all_lawful, run};
+ghost use Rattle.rq_model.specs.Records as model;
+ghost use Rattle.rq_model.specs.WellFormed.{IsWellFormed};
 ghost use Rattle.rq_record.specs.Views.{record_of, version_of};
 ghost use Rattle.rq_record.specs.declared.fault.Fault.TheVariants.{Resources};
 ghost use Rattle.rq_state.specs.Views.{unit_of};

@@ -4,11 +4,11 @@ ghost use Rattle.std.specs.Prelude.{◌≡◌, ◌≤◌, length, map, IfOk, IfE
 ghost use Rattle.rq_model.specs.Frames.{log_limit, HasHeader};
 ghost use Rattle.rq_model.specs.States.{empty};
 ghost use Rattle.rq_record.specs.Views.{record_of, version_of};
-ghost use Rattle.rq_catalog.specs.Analyses.{IsAnalysis};
 ghost use Rattle.rq_front.specs.Chains.{Refused};
+ghost use Rattle.rq_catalog.specs.Analyses.{IsAnalysis};
 ghost use Rattle.rq_judged.specs.Ends.{IsFrontFrom};
-ghost use Rattle.rq_restart.specs.Restarts.{Restarts};
 ghost use Rattle.rq_judged.specs.Views.{why_of};
+ghost use Rattle.rq_restart.specs.Restarts.{Restarts};
 
 use crate::restart_ends::finish;
 use crate::restarted::Restarted;

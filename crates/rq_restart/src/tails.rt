@@ -1,9 +1,9 @@
 //! The tail of a log: the aborts that close it.
 
 ghost use Rattle.std.specs.Prelude.{◌≡◌, ◌≤◌, ◌++◌, length, map, IfOk, IfErr, OnOk};
+ghost use Rattle.rq_model.specs.Frames.{HasHeader, digest, frame, frames_of, log_limit};
 ghost use Rattle.rq_model.specs.Records as model;
 ghost use Rattle.rq_model.specs.Spelling.{body_of};
-ghost use Rattle.rq_model.specs.Frames.{HasHeader, digest, frame, frames_of, log_limit};
 ghost use Rattle.rq_model.specs.States.{empty};
 ghost use Rattle.rq_record.specs.Views.{record_of, version_of};
 ghost use Rattle.rq_record.specs.declared.fault.Fault.TheVariants.{Resources};

@@ -1,7 +1,7 @@
 use Rattle.rq_model.specs.States.{empty}
 use Rattle.rq_restart.specs.Audits.{audits}
 use Rattle.rq_restart.proofs.Audited.{AuditLaws, is_audit}
-use Rattle.rq_restart.proofs.audit_laws.every_log_has_audit.Goals as goal
+use Rattle.rq_restart.proofs.audits.every_log_has_audit.Goals as goal
 
 pub returns : goal.returns
 returns c version b fits short head =
