@@ -1,7 +1,7 @@
 -- The checkpoint that stands at an offset, by the first body of the chain from there.
 use Rattle.std.proofs.Common.{◌≡◌, ℕ, ◌+◌, ◌-◌, ◌≤◌, Bool, true, false, cond, List, [], ◌∷◌, ◌++◌, length, drop, Some}
 use Rattle.std.proofs.Common.{None, refl, sym, ap, subst, ◌∙◌, append_assoc, arith, inl, inr}
-use Rattle.std.specs.Prelude.{◌&&◌, nat_le, max, Result, Ok, Err, All, IfOk, IfErr}
+use Rattle.std.specs.Prelude.{◌&&◌, nat_le, max, Err, All}
 use Rattle.std.proofs.lemmas.List.{length-drop}
 use Rattle.std.proofs.lemmas.Bool.{and_parts, and_from, le-leb, leb-true, cases_lt}
 use Rattle.rq_model.specs.Records.{Version}
@@ -9,21 +9,17 @@ use Rattle.rq_model.specs.Frames.{frame, frames, digest, last, before, body_in, 
 use Rattle.rq_model.specs.Frames.{IsRest, IsRun, IsFrameRun}
 use Rattle.rq_model.specs.LogLaws.{FrameIsRight, LogEnds}
 use Rattle.rq_model.specs.Checkpoints.{IsCheckpointAt}
-use Rattle.rq_record.specs.Views.{version_of}
 use Rattle.rq_front.specs.declared.spans.Chain.{Chain}
 use Rattle.rq_front.specs.Chains.{bodies_at, rest_of, spans_from}
 use Rattle.rq_record.specs.declared.fault.Fault.{Fault}
 use Rattle.rq_record.specs.declared.fault.Fault.TheVariants as faults
 use Rattle.rq_state.specs.Spelling.{ReadsState}
-use Rattle.rq_model.specs.Records.{Record}
 use Rattle.rq_model.specs.Machine.{run}
-use Rattle.rq_model.specs.Fronts.{Restarted, Why, restarted}
 use Rattle.rq_model.specs.Frames.{log_limit}
 use Rattle.rq_model.proofs.Runs.{no_right}
 use Rattle.rq_judged.proofs.Starts.{started}
-use Rattle.rq_judged.specs.Ends.{IsChain, IsFrontFrom}
-use Rattle.rq_judged.specs.declared.checkpoint.Begun.{Begun}
-use Rattle.rq_judged.specs.Checkpoints.{BeginsAt, IsBegun, kept_of, kept_in, chain_start}
+use Rattle.rq_judged.specs.Ends.{IsChain}
+use Rattle.rq_judged.specs.Checkpoints.{BeginsAt, kept_of, kept_in, chain_start}
 
 kept_body : (body kept : List ℕ) → kept_of body ≡ Some kept → body ≡ 9 ∷ kept
 kept_body [] kept h = absurd cc
@@ -139,14 +135,7 @@ pub read_begins : (version : Version) (b : List ℕ) (offset : ℕ) (kept : List
     → HasHeader version b → IsCheckpointAt b offset kept → ReadsState version kept (Err e) → BeginsAt b offset (Err e)
 read_begins version b offset kept faults.BadCheckpoint short head is h = (short, version, head, kept, is, h)
 read_begins version b offset kept faults.Resources short head is h = tt
-read_begins version b offset kept faults.TooLong short head is h = absurd h
-read_begins version b offset kept faults.NotALog short head is h = absurd h
-read_begins version b offset kept faults.Form short head is h = absurd h
-read_begins version b offset kept faults.TooLarge short head is h = absurd h
-read_begins version b offset kept faults.NoCheckpoint short head is h = absurd h
-read_begins version b offset kept (faults.Script n) short head is h = absurd h
-read_begins version b offset kept faults.ReadFailed short head is h = absurd h
-read_begins version b offset kept faults.WriteFailed short head is h = absurd h
+read_begins version b offset kept _ short head is h = absurd h
 
 -- the chain from that place
 pub chain_at : (version : Version) → LogEnds → (b : List ℕ) (offset place : ℕ) (c : Chain)

@@ -42,14 +42,7 @@ too_few b few (version, head) = omega (arith, few, ap length head, length-take 4
 pub refuses : (n : ℕ) (z : List ℕ) (e : Fault) → n ≡ length z → RefusesPiece n e → RefusesMore z e
 refuses n z faults.TooLong is refused = omega (arith, is, refused)
 refuses n z faults.Resources is refused = tt
-refuses n z faults.NotALog is refused = absurd refused
-refuses n z faults.Form is refused = absurd refused
-refuses n z faults.TooLarge is refused = absurd refused
-refuses n z faults.BadCheckpoint is refused = absurd refused
-refuses n z faults.NoCheckpoint is refused = absurd refused
-refuses n z (faults.Script line) is refused = absurd refused
-refuses n z faults.ReadFailed is refused = absurd refused
-refuses n z faults.WriteFailed is refused = absurd refused
+refuses n z _ is refused = absurd refused
 
 -- the front that is answered is that of the log
 pub judges : (version : Version) → FrontStops → (b x : List ℕ) → b ≡ header version ++ x

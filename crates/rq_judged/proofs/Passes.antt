@@ -228,13 +228,7 @@ pub log_resources : (b : List ℕ) (e : Fault) → length b ≤ log_limit → Is
 log_resources b faults.Resources short head refused = refl
 log_resources b faults.TooLong short head refused = absurd (omega (arith, refused, short))
 log_resources b faults.NotALog short head refused = absurd (refused.1 head)
-log_resources b faults.Form short head refused = absurd refused
-log_resources b faults.TooLarge short head refused = absurd refused
-log_resources b faults.BadCheckpoint short head refused = absurd refused
-log_resources b faults.NoCheckpoint short head refused = absurd refused
-log_resources b (faults.Script line) short head refused = absurd refused
-log_resources b faults.ReadFailed short head refused = absurd refused
-log_resources b faults.WriteFailed short head refused = absurd refused
+log_resources b _ short head refused = absurd refused
 
 pub only_resources : LogEnds → (version : Version) (b : List ℕ) (rs : List Record) (place limit : ℕ) (e : Fault)
     → length b ≤ log_limit → IsPassed version b rs place → place ≤ limit → limit ≤ length b

@@ -1,4 +1,4 @@
--- How far the bodies of a chain are read.
+-- How far the bodies of a chain are read, and what is known of them.
 use Rattle.std.specs.Prelude.{◌≡◌, ◌≤◌, ℕ, ⊤, List, [], ◌∷◌, ◌++◌, length, map, take, drop, Result}
 use Rattle.std.specs.Prelude.{Ok, Err}
 use Rattle.std.specs.Global.{Vec}
@@ -11,6 +11,9 @@ use Rattle.rq_record.specs.declared.fault.Fault.TheVariants.{Resources}
 use Rattle.rq_record.specs.Views as rt
 use Rattle.rq_record.specs.Views.{record_of}
 use Rattle.rq_judged.specs.declared.bodies.PartedRecords.{PartedRecords}
+use Rattle.rq_model.specs.States.{State}
+use Rattle.rq_catalog.specs.Analyses.{IsAnalysis}
+use Rattle.rq_judged.specs.declared.front.Known.{Known}
 
 -- no body, or a first one that spells no record of the version
 abbrev pub SpellsNone : Version → List (List ℕ) → Type 0
@@ -34,3 +37,15 @@ pub record AreApart (version : Version) (bodies : List (List ℕ)) (p : PartedRe
   pub within : p.count ≤ length bodies
   pub front : AreRead version (take p.count bodies) (map record_of p.front.items)
   pub back : AreRead version (drop p.count bodies) (map record_of p.back.items)
+
+-- the records that the bodies spell, and what one pass over them from a state on found
+pub record IsKnownOfBodies (version : Version) (s : State) (bodies : List (List ℕ)) (k : Known)
+    : Type 0 where
+  pub read : AreRead version bodies (map record_of k.records.items)
+  pub analysis : IsAnalysis version s (map record_of k.records.items) k.analysis
+
+-- that of the bodies whose records stand apart, or no memory
+abbrev pub KnowsBodies : Version → State → PartedRecords → Result Known Fault → Type 0
+KnowsBodies version s parts (Ok k) = (bodies : List (List ℕ)) →
+    AreApart version bodies parts → IsKnownOfBodies version s bodies k
+KnowsBodies version s parts (Err e) = e ≡ Resources

@@ -1,10 +1,9 @@
-//! A frame of a log: its body, and one more at the end.
+//! A frame of a log: its body, what it is linked to, and one more at the end.
 
 ghost use Rattle.std.specs.Prelude.{◌≡◌, ◌≤◌, length, drop, IfOk};
 ghost use Rattle.rq_model.specs.Frames.{HasFrame, IsBodyLength, before, body_in, digest, frame};
 ghost use Rattle.rq_record.specs.Writing.{Appends};
 
-use crate::links::before;
 use byteorder::{BigEndian, ByteOrder};
 use rq_front::frame;
 use rq_record::Fault;
@@ -17,6 +16,17 @@ pub fn body_at(bytes: &[u8], at: usize) -> &[u8]
     let from = &bytes[at..];
     let len = BigEndian::read_u32(from) as usize;
     &from[4..4 + len]
+}
+
+/// The 32 bytes before an offset.
+pub fn before(bytes: &[u8], offset: usize) -> [u8; 32]
+    requires after { 32 ≤ offset }
+    requires within { offset ≤ length bytes.now }
+    ensures { result ≡ before offset bytes.now }
+{
+    let mut kept = [0; 32];
+    kept.copy_from_slice(&bytes[offset - 32..offset]);
+    kept
 }
 
 /// Appends the frame of a body behind these 32 bytes, and answers its own last 32 bytes. If memory

@@ -3,19 +3,18 @@
 ghost use Rattle.std.specs.Prelude.{◌≡◌, ◌≤◌, ◌+◌, ◌++◌, ℕ, List, length, map, take, All, IfOk};
 ghost use Rattle.std.specs.Prelude.{IfErr, OnOk};
 ghost use Rattle.std.specs.Thread.{IsSync};
-ghost use Rattle.rq_model.specs.Records as records;
 ghost use Rattle.rq_model.specs.Frames.{bodies_of, log_limit};
-ghost use Rattle.rq_model.specs.States as model;
 ghost use Rattle.rq_model.specs.Fronts.{Ends};
+ghost use Rattle.rq_model.specs.Records as records;
+ghost use Rattle.rq_model.specs.States as model;
 ghost use Rattle.rq_record.specs.Views.{record_of, version_of};
 ghost use Rattle.rq_record.specs.declared.fault.Fault.TheVariants.{Resources};
-ghost use Rattle.rq_catalog.specs.Analyses.{IsAnalysis};
 ghost use Rattle.rq_front.specs.Chains.{bodies_at, rest_of};
 ghost use Rattle.rq_front.specs.Walks.{IsChecked, Walks, spans_of};
-ghost use Rattle.rq_judged.specs.Views.{why_of};
+ghost use Rattle.rq_catalog.specs.Analyses.{IsAnalysis};
 ghost use Rattle.rq_judged.specs.Ends.{IsChain, IsFrontFrom, end_at};
-ghost use Rattle.rq_judged.specs.Readings.{AreRead};
-ghost use Rattle.rq_judged.specs.Known.{IsKnownOfBodies, KnowsBodies};
+ghost use Rattle.rq_judged.specs.Readings.{AreRead, IsKnownOfBodies, KnowsBodies};
+ghost use Rattle.rq_judged.specs.Views.{why_of};
 
 use crate::bodies::{FEW, PartedRecords, put_together, read_bodies};
 use crate::checkpoint::Begun;

@@ -12,16 +12,14 @@ mod front_pass;
 mod grain;
 mod growing_front;
 mod judged;
-mod links;
 mod why;
 mod window;
 
 pub use checkpoint::{Begun, begin_at};
 pub use ends::{FrontEnd, front_end, front_end_at};
-pub use frames::{append_frame, body_at};
+pub use frames::{append_frame, before, body_at};
 pub use front::{Front, front_of, front_of_walk};
 pub use grain::grain_of;
 pub use growing_front::GrowingFront;
 pub use judged::{JudgedFront, judged_front, judged_front_at};
-pub use links::before;
 pub use why::Why;

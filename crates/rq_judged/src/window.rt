@@ -12,10 +12,10 @@ ghost use Rattle.rq_judged.specs.Windows.{AreFramed, IsFed, IsFedSome, IsStopped
 ghost use Rattle.rq_judged.specs.Windows.{IsStoppedFront, KeepsFed, Origin, RefusesPiece, HasEnd};
 ghost use Rattle.rq_judged.specs.Windows.{log_origin};
 
+use crate::frames::before;
 use crate::front::why_of;
 use crate::front_pass::{Verdict, judge_one, stays};
 use crate::judged::JudgedFront;
-use crate::links::before;
 use crate::why::Why;
 use rq_catalog::Judge;
 use rq_front::{HEADER_LEN, LOG_LIMIT, Span, chain};
@@ -98,29 +98,6 @@ impl WindowPass {
         Ok(behind)
     }
 
-    // Passes what waits as far as it is frames of lawful records, and says why these end.
-    fn look_on<R: Threads + Sync>(
-        &mut self,
-        rt: &R,
-        alloc: Global,
-        grain: u32,
-    ) -> Result<Why, Fault>
-        requires grain { 1 ≤ grain }
-        requires follows { IsFedSome self.old }
-        requires going { self.old.ended ≡ None }
-        ensures stopped { IfOk result (λ why. (o : Origin) (x : List ℕ) → IsFed o x self.old
-            → IsStopped o x self.new (why_of why)) }
-        ensures kept { IfErr result (λ e. KeepsFed self.old self.new) }
-        ensures refused { IfErr result (λ e. e ≡ Resources) }
-    {
-        let found = chain(rt, alloc, &self.window, self.place, grain)?;
-        let why = self.judge_frames(alloc, &found.spans, why_of(found.rest))?;
-        self.used = self.total - (self.window.len() - self.place);
-        self.enough = (self.total - self.used).saturating_add(WAITING);
-        self.ended = lasting(why);
-        Ok(why)
-    }
-
     /// Passes all frames of lawful records that came, and says why these end.
     ///
     /// If memory is refused, it goes along with what it went along with.
@@ -137,10 +114,15 @@ impl WindowPass {
         ensures kept { IfErr result (λ e. KeepsFed self.old self.new) }
         ensures refused { IfErr result (λ e. e ≡ Resources) }
     {
-        match self.ended {
-            Some(why) => Ok(why),
-            None => self.look_on(rt, alloc, grain),
+        if let Some(why) = self.ended {
+            return Ok(why);
         }
+        let found = chain(rt, alloc, &self.window, self.place, grain)?;
+        let why = self.judge_frames(alloc, &found.spans, why_of(found.rest))?;
+        self.used = self.total - (self.window.len() - self.place);
+        self.enough = (self.total - self.used).saturating_add(WAITING);
+        self.ended = lasting(why);
+        Ok(why)
     }
 
     // Lets go of the frames that were passed: behind the header stand the 32 bytes before the next

@@ -2,8 +2,7 @@ use Rattle.std.proofs.Common.{List, subst}
 use Rattle.rq_record.specs.Views.{version_of}
 use Rattle.rq_front.specs.Chains.{bodies_at}
 use Rattle.rq_front.specs.declared.spans.Span.{Span}
-use Rattle.rq_judged.specs.Known.{IsKnownOfBodies}
-use Rattle.rq_judged.specs.Readings.{AreApart}
+use Rattle.rq_judged.specs.Readings.{IsKnownOfBodies, AreApart}
 use Rattle.rq_judged.proofs.front.front_in.Goals as goal
 
 -- what is known of the chain's bodies

@@ -5,8 +5,7 @@ use Rattle.rq_front.specs.Chains.{body_at, bodies_at}
 use Rattle.rq_front.specs.Walks.{Walks, spans_of}
 use Rattle.rq_front.specs.declared.spans.Span.{Span}
 use Rattle.rq_judged.specs.Ends.{IsChain}
-use Rattle.rq_judged.specs.Known.{IsKnownOfBodies, KnowsBodies}
-use Rattle.rq_judged.specs.Readings.{AreApart}
+use Rattle.rq_judged.specs.Readings.{IsKnownOfBodies, KnowsBodies, AreApart}
 use Rattle.rq_judged.proofs.front.front_of_walk.Goals as goal
 
 -- what is known of the bodies of the chain
