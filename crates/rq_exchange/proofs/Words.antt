@@ -48,7 +48,7 @@ pub use Rattle.rq_pool.specs.declared.countdown.arrival.Entry.{Entry}
 pub use Rattle.rq_pool.specs.declared.countdown.fits.Fits.{Ghosts}
 pub use Rattle.rq_pool.specs.declared.countdown.pass.Pass.{Pass}
 pub use Rattle.rq_pool.specs.declared.room.Room.{Room}
-pub use Rattle.rq_queue.proofs.Gathered.{is_same, members, poured_more, with_more}
+pub use Rattle.rq_queue.proofs.Gathered.{is_same, members, poured_more}
 pub use Rattle.rq_queue.specs.Case.{IsCase}
 pub use Rattle.rq_queue.specs.Pouring.{HasPoured}
 pub use Rattle.rq_record.specs.Views.{record_of}

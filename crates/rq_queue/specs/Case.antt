@@ -3,7 +3,7 @@ use Rattle.std.specs.Prelude.{◌≡◌, ◌+◌, ◌<◌, ◌≤◌, ◌^◌, t
 use Rattle.rq_model.specs.Records.{Record, Version}
 use Rattle.rq_model.specs.States.{State}
 use Rattle.rq_model.specs.WellFormed.{IsWellFormed, Ordered}
-use Rattle.rq_model.specs.Machine.{all_lawful}
+use Rattle.rq_model.specs.Machine.{all_lawful, run}
 use Rattle.rq_model.specs.Queues as queues
 
 -- part, operations and arrivals are those of the part's queue in a lawful run of these records
@@ -15,6 +15,20 @@ pub record IsCase (version : Version) (s : State) (rs : List Record) (part : que
   pub is_part : part ≡ queues.part_of (queues.with_definitions s rs) part.queue
   pub are_ops : ops ≡ queues.touching s rs part.queue
   pub are_arrivals : arrivals ≡ queues.arrivals s rs part.queue
+
+abbrev pub HasCase : queues.Part → List queues.Op → List queues.Move → Type 0
+HasCase part ops arrivals = (version : Version) × (s : State) × (rs : List Record)
+    × IsCase version s rs part ops arrivals
+
+-- whatever case they are of, the part after its records
+abbrev pub RedoesTo : queues.Part → List queues.Op → List queues.Move → queues.Part → Type 0
+RedoesTo part ops arrivals new = (version : Version) (s : State) (rs : List Record) →
+    IsCase version s rs part ops arrivals → new ≡ queues.part_of (run s rs) part.queue
+
+-- whatever case they are of, what leaves the part
+abbrev pub RedoSends : queues.Part → List queues.Op → List queues.Move → List queues.Move → Type 0
+RedoSends part ops arrivals sent = (version : Version) (s : State) (rs : List Record) →
+    IsCase version s rs part ops arrivals → sent ≡ queues.moves s rs part.queue
 
 -- by place
 abbrev pub AreRising : List queues.Move → Type 0

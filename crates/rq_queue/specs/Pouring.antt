@@ -2,10 +2,11 @@
 use Rattle.std.specs.Prelude.{ℕ, ◌≡◌, List, ◌++◌, Result, Ok, Err}
 use Rattle.std.specs.List.Sorted.{IsPermutation}
 use Rattle.rq_model.specs.Laws.{gathered}
-use Rattle.rq_model.specs.Queues.{part_of}
+use Rattle.rq_model.specs.Queues.{Part, part_of}
 use Rattle.rq_model.specs.States.{State}
 use Rattle.rq_record.specs.declared.fault.Fault.{Fault}
 use Rattle.rq_state.specs.Inside.{Fields}
+use Rattle.rq_state.specs.declared.fields.FieldsOf.{FieldsOf}
 
 -- these members are added after what the list had, in some order; refused, it is as it was
 abbrev pub Grows : {X U : Type 0} → List X → List X → List X → Result U Fault → Type 0
@@ -17,6 +18,18 @@ Grows old members new (Err _) = new ≡ old
 abbrev pub Joins : {X U : Type 0} → List X → List X → List X → Result U Fault → Type 0
 Joins old members new (Ok _) = new ≡ old ++ members
 Joins old members new (Err _) = new ≡ old
+
+-- nothing but the members is changed
+abbrev pub KeepsRest : {E : Type 0} → FieldsOf E → FieldsOf E → Type 0
+KeepsRest old new = (new.next ≡ old.next) × (new.greatest ≡ old.greatest)
+    × (new.committed ≡ old.committed) × (new.aborted ≡ old.aborted)
+    × (new.definitions ≡ old.definitions) × (new.units ≡ old.units)
+
+-- the members of the part are added to the lists; refused, these are as they were
+abbrev pub Pours : {U : Type 0} → Fields → Part → Fields → Result U Fault → Type 0
+Pours old part new result = Grows old.elements.items part.elements new.elements.items result
+    × Grows old.registrants.items part.registrants new.registrants.items result
+    × Grows old.notes.items part.notes new.notes.items result × KeepsRest old new
 
 -- the parts of the first n queues are poured out, and nothing else is changed
 pub record HasPoured (t : State) (n : ℕ) (old new : Fields) : Type 0 where

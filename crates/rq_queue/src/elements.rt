@@ -11,16 +11,15 @@ ghost use Rattle.rq_queue.specs.Kept.{sent_from};
 ghost use Rattle.rq_record.specs.declared.fault.Fault.TheVariants.{Resources};
 ghost use Rattle.rq_state.specs.Views.{id_of};
 
-use crate::departures::send;
 use crate::lent::{LentElement, copied, lend_free, lend_marked};
-use crate::moves::KeptMove;
+use crate::moves::{KeptMove, send};
 use crate::priorities::{kept_with, learn, take_out};
 use crate::rooms::{room_after, room_after_marked};
 use crate::shelves::{
     Rank, all_freed, all_returned, free_list, mapped, parted, shelve, stow, taken, with_marked,
 };
 use rq_record::{ElemId, Fault, KeptPayload, QueueNo, UnitNo};
-use rq_state::{Definition, KeptElement, Mark, SHORTEST_ELEMENT, order};
+use rq_state::{Definition, Element, KeptElement, Mark, SHORTEST_ELEMENT, order, told_elements};
 use std::alloc::Global;
 use std::collections::BTreeMap;
 use std::marker::Model;
@@ -88,6 +87,15 @@ impl Elements {
         let mut all = free_list(alloc, self.free)?;
         with_marked(&mut all, self.marked)?;
         Ok(all)
+    }
+
+    /// The same, as a caller has them.
+    pub(crate) fn list_told(self, alloc: Global) -> Result<Vec<Element>, Fault>
+        ensures listed { IfOk result (λ v. IsPermutation self v.items) }
+        ensures refused { IfErr result (λ e. e ≡ Resources) }
+    {
+        let kept = self.list(alloc)?;
+        told_elements(alloc, &kept)
     }
 
     /// Lends all of them, in some order.

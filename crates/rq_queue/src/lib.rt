@@ -2,7 +2,6 @@
 //! other queues give two things: its part after the run, and what left it for its error queue.
 #![tactic(auto)]
 
-mod departures;
 mod draws;
 mod elements;
 mod kept_last;

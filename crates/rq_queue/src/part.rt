@@ -5,15 +5,15 @@ ghost use Rattle.std.specs.Prelude.{◌-◌, ◌≤◌, OnOk, SomeIff};
 ghost use Rattle.std.specs.List.{AllByRecursion, flat_map};
 ghost use Rattle.std.specs.List.Sorted.{IsPermutation};
 ghost use Rattle.rq_model.specs.Queues as queues;
-ghost use Rattle.rq_model.specs.Records as records;
 ghost use Rattle.rq_model.specs.Ready.{IsReady};
+ghost use Rattle.rq_model.specs.Records as records;
 ghost use Rattle.rq_model.specs.Redo as redo_words;
 ghost use Rattle.rq_model.specs.StateSpelling.{registrant_bytes};
 ghost use Rattle.rq_model.specs.States as states;
-ghost use Rattle.rq_queue.specs.Pouring.{Grows};
-ghost use Rattle.rq_queue.specs.Rooms.{member_bytes};
 ghost use Rattle.rq_record.specs.declared.fault.Fault.TheVariants.{Resources};
 ghost use Rattle.rq_state.specs.Comparing.{left_after};
+ghost use Rattle.rq_queue.specs.Pouring.{Pours};
+ghost use Rattle.rq_queue.specs.Rooms.{member_bytes};
 
 use crate::elements::Elements;
 use crate::lent::LentElement;
@@ -24,7 +24,7 @@ use crate::operations::KeptOp;
 use crate::poured_members::add_members;
 use crate::registrants::Registrants;
 use rq_record::{ElemId, Fault, KeptBy, KeptPayload, KeptRecord, Name, QueueNo, UnitNo};
-use rq_state::{Compared, Definition, Fields, KeptFields, OpKind, State, told_elements};
+use rq_state::{Compared, Definition, Fields, KeptFields, OpKind, State};
 use std::alloc::Global;
 use std::marker::Model;
 
@@ -105,22 +105,11 @@ impl Part {
     /// Adds its elements, registrants and notes to the lists. Refused with Resources: the fields
     /// are then as before.
     pub fn pour(self, fields: &mut Fields) -> Result<(), Fault>
-        ensures elements { Grows fields.old.elements.items
-            self.elements fields.new.elements.items result }
-        ensures registrants { Grows fields.old.registrants.items
-            self.registrants fields.new.registrants.items result }
-        ensures notes { Grows fields.old.notes.items self.notes fields.new.notes.items result }
-        ensures next { fields.new.next ≡ fields.old.next }
-        ensures greatest { fields.new.greatest ≡ fields.old.greatest }
-        ensures committed { fields.new.committed ≡ fields.old.committed }
-        ensures aborted { fields.new.aborted ≡ fields.old.aborted }
-        ensures definitions { fields.new.definitions ≡ fields.old.definitions }
-        ensures units { fields.new.units ≡ fields.old.units }
+        ensures pours { Pours fields.old self fields.new result }
         ensures refused { IfErr result (λ e. e ≡ Resources) }
     {
         let alloc = *fields.elements.allocator();
-        let kept = self.elements.list(alloc)?;
-        let elements = told_elements(alloc, &kept)?;
+        let elements = self.elements.list_told(alloc)?;
         let registrants = self.registrants.list(alloc)?;
         let notes = self.notes.list(alloc)?;
         add_members(fields, elements, registrants, notes)
@@ -128,17 +117,7 @@ impl Part {
 
     /// The same for fields that are kept: the elements themselves go there.
     pub fn pour_kept(self, fields: &mut KeptFields) -> Result<(), Fault>
-        ensures elements { Grows fields.old.elements.items
-            self.elements fields.new.elements.items result }
-        ensures registrants { Grows fields.old.registrants.items
-            self.registrants fields.new.registrants.items result }
-        ensures notes { Grows fields.old.notes.items self.notes fields.new.notes.items result }
-        ensures next { fields.new.next ≡ fields.old.next }
-        ensures greatest { fields.new.greatest ≡ fields.old.greatest }
-        ensures committed { fields.new.committed ≡ fields.old.committed }
-        ensures aborted { fields.new.aborted ≡ fields.old.aborted }
-        ensures definitions { fields.new.definitions ≡ fields.old.definitions }
-        ensures units { fields.new.units ≡ fields.old.units }
+        ensures pours { Pours fields.old self fields.new result }
         ensures refused { IfErr result (λ e. e ≡ Resources) }
     {
         let alloc = *fields.elements.allocator();
@@ -151,17 +130,7 @@ impl Part {
     /// Adds copies of its elements, registrants and notes to the lists. Refused with Resources: the
     /// fields are then as before.
     pub fn pour_copies(&self, fields: &mut KeptFields) -> Result<(), Fault>
-        ensures elements { Grows fields.old.elements.items
-            self.now.elements fields.new.elements.items result }
-        ensures registrants { Grows fields.old.registrants.items
-            self.now.registrants fields.new.registrants.items result }
-        ensures notes { Grows fields.old.notes.items self.now.notes fields.new.notes.items result }
-        ensures next { fields.new.next ≡ fields.old.next }
-        ensures greatest { fields.new.greatest ≡ fields.old.greatest }
-        ensures committed { fields.new.committed ≡ fields.old.committed }
-        ensures aborted { fields.new.aborted ≡ fields.old.aborted }
-        ensures definitions { fields.new.definitions ≡ fields.old.definitions }
-        ensures units { fields.new.units ≡ fields.old.units }
+        ensures pours { Pours fields.old self.now fields.new result }
         ensures refused { IfErr result (λ e. e ≡ Resources) }
     {
         let alloc = *fields.elements.allocator();

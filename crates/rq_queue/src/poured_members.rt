@@ -1,7 +1,7 @@
 //! What is poured into the fields of a state.
 
 ghost use Rattle.std.specs.Prelude.{◌≡◌, ◌≤◌, ◌<◌, ◌+◌, ◌++◌, vec_len, vec_capacity, IfErr, OnOk};
-ghost use Rattle.rq_queue.specs.Pouring.{Joins};
+ghost use Rattle.rq_queue.specs.Pouring.{Joins, KeepsRest};
 ghost use Rattle.rq_record.specs.declared.fault.Fault.TheVariants.{Resources};
 
 use rq_record::Fault;
@@ -50,12 +50,7 @@ pub(crate) fn add_members<E: Drop>(
     ensures registrants { Joins fields.old.registrants.items
         registrants.items fields.new.registrants.items result }
     ensures notes { Joins fields.old.notes.items notes.items fields.new.notes.items result }
-    ensures next { fields.new.next ≡ fields.old.next }
-    ensures greatest { fields.new.greatest ≡ fields.old.greatest }
-    ensures committed { fields.new.committed ≡ fields.old.committed }
-    ensures aborted { fields.new.aborted ≡ fields.old.aborted }
-    ensures definitions { fields.new.definitions ≡ fields.old.definitions }
-    ensures units { fields.new.units ≡ fields.old.units }
+    ensures rest { KeepsRest fields.old fields.new }
     ensures refused { IfErr result (λ e. e ≡ Resources) }
 {
     make_room(&mut fields.elements, elements.len())?;

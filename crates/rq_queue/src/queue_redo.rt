@@ -4,14 +4,10 @@ ghost use Rattle.std.specs.Prelude.{◌≡◌, ◌≤◌, ◌<◌, ◌-◌, ◌^
 ghost use Rattle.std.specs.Prelude.{IfOk, IfErr};
 ghost use Rattle.std.specs.List.{AllByRecursion};
 ghost use Rattle.rq_model.specs.Queues as queues;
-ghost use Rattle.rq_model.specs.Redo as redo_words;
-ghost use Rattle.rq_model.specs.Machine as machine;
-ghost use Rattle.rq_model.specs.Records as records;
-ghost use Rattle.rq_model.specs.States as states;
-ghost use Rattle.rq_queue.specs.Case.{IsCase};
 ghost use Rattle.rq_model.specs.Ready.{GoesWell};
-ghost use Rattle.rq_queue.specs.Case.{AreRising};
+ghost use Rattle.rq_model.specs.Redo as redo_words;
 ghost use Rattle.rq_record.specs.declared.fault.Fault.TheVariants.{Resources};
+ghost use Rattle.rq_queue.specs.Case.{AreRising, HasCase, RedoesTo, RedoSends};
 
 use crate::moves::{KeptMove, Move, kept_moves, told_moves};
 use crate::operations::{KeptOps, Op, OwnOps};
@@ -130,16 +126,9 @@ pub fn redo(
     ops: &[Op],
     arrivals: Vec<Move>,
 ) -> Result<(Part, Vec<Move>), Fault>
-    requires { (version : records.Version) × (s : states.State)
-        × (rs : List records.Record) × IsCase version s rs part ops.now arrivals.items }
-    ensures part { IfOk result
-        (λ r. (version : records.Version) (s : states.State) (rs : List records.Record) →
-        IsCase version s rs part ops.now arrivals.items
-        → r.0 ≡ queues.part_of (machine.run s rs) part.queue) }
-    ensures moves { IfOk result
-        (λ r. (version : records.Version) (s : states.State) (rs : List records.Record) →
-        IsCase version s rs part ops.now arrivals.items
-        → r.1.items ≡ queues.moves s rs part.queue) }
+    requires { HasCase part ops.now arrivals.items }
+    ensures part { IfOk result (λ r. RedoesTo part ops.now arrivals.items r.0) }
+    ensures moves { IfOk result (λ r. RedoSends part ops.now arrivals.items r.1.items) }
     ensures refused { IfErr result (λ e. e ≡ Resources) }
 {
     let own = OwnOps::of(alloc, ops)?;
@@ -157,16 +146,9 @@ pub fn redo_kept(
     ops: &KeptOps,
     arrivals: Vec<KeptMove>,
 ) -> Result<(Part, Vec<KeptMove>), Fault>
-    requires { (version : records.Version) × (s : states.State)
-        × (rs : List records.Record) × IsCase version s rs part ops.now arrivals.items }
-    ensures part { IfOk result
-        (λ r. (version : records.Version) (s : states.State) (rs : List records.Record) →
-        IsCase version s rs part ops.now arrivals.items
-        → r.0 ≡ queues.part_of (machine.run s rs) part.queue) }
-    ensures moves { IfOk result
-        (λ r. (version : records.Version) (s : states.State) (rs : List records.Record) →
-        IsCase version s rs part ops.now arrivals.items
-        → r.1.items ≡ queues.moves s rs part.queue) }
+    requires { HasCase part ops.now arrivals.items }
+    ensures part { IfOk result (λ r. RedoesTo part ops.now arrivals.items r.0) }
+    ensures moves { IfOk result (λ r. RedoSends part ops.now arrivals.items r.1.items) }
     ensures refused { IfErr result (λ e. e ≡ Resources) }
 {
     rq_model::projection();

@@ -7,9 +7,9 @@ ghost use Rattle.rq_model.specs.Machine as machine;
 ghost use Rattle.rq_model.specs.StateSpelling.{registrant_bytes};
 ghost use Rattle.rq_model.specs.States as model;
 ghost use Rattle.rq_model.specs.WellFormed.{Ordered};
-ghost use Rattle.rq_queue.specs.Roll.{registrant_of, heard};
 ghost use Rattle.rq_record.specs.declared.fault.Fault.TheVariants.{Resources};
 ghost use Rattle.rq_state.specs.Comparing.{left_after};
+ghost use Rattle.rq_queue.specs.Roll.{registrant_of, heard};
 
 use crate::kept_last::KeptLast;
 use crate::kept_note::KeptNote;
