@@ -3,8 +3,8 @@ use Rattle.std.proofs.Common.{◌≡◌, ℕ, ◌<◌, true, cond, List, [], len
 use Rattle.std.proofs.Common.{refl, sym, ap, ◌∙◌, subst, arith}
 use Rattle.std.specs.Prelude.{◌==◌}
 use Rattle.std.proofs.lemmas.Bool.{and_parts, ltb-true, eqb-true}
-use Rattle.rq_model.specs.Records.{Record, Define, Register, Deregister, Begin, Enqueue, Dequeue, Commit, Abort}
-use Rattle.rq_model.specs.Records.{Checkpoint, Kill, Version, One, Two}
+use Rattle.rq_model.specs.Records.{Record, Register, Deregister, Enqueue, Dequeue}
+use Rattle.rq_model.specs.Records.{Kill, Version, One, Two}
 use Rattle.rq_model.specs.States.{State}
 use Rattle.rq_model.specs.WellFormed.{IsWellFormed}
 use Rattle.rq_model.specs.Machine.{is_lawful, step}
@@ -90,11 +90,7 @@ one_of s (Kill q element) k e = let same = same_queue q k e in
       aborted = refl;
       units = refl;
     }
-one_of s (Define limit error name) k e = absurd (let no : ⊥ = grind (arith, e) in no)
-one_of s (Begin u) k e = absurd (let no : ⊥ = grind (arith, e) in no)
-one_of s (Commit u) k e = absurd (let no : ⊥ = grind (arith, e) in no)
-one_of s (Abort u) k e = absurd (let no : ⊥ = grind (arith, e) in no)
-one_of s (Checkpoint bytes) k e = absurd (let no : ⊥ = grind (arith, e) in no)
+one_of s _ k e = absurd (let no : ⊥ = grind (arith, e) in no)
 
 -- a record that names a queue is lawful only where the queue is defined
 pub defined : (version : Version) (s : State) (r : Record) (k : ℕ) → IsWellFormed s → is_lawful version s r ≡ true
@@ -108,11 +104,7 @@ defined version s (Dequeue u q by) k well h e = subst (λ n. n < length s.defini
     (ltb-true q (length s.definitions) (and_parts _ _ h).0)
 defined One s (Kill q element) k well h e = absurd (let no : ⊥ = grind (arith, h) in no)
 defined Two s (Kill q element) k well h e = subst (λ n. n < length s.definitions) (same_queue q k e) (ltb-true q (length s.definitions) h)
-defined version s (Define limit error name) k well h e = absurd (let no : ⊥ = grind (arith, e) in no)
-defined version s (Begin u) k well h e = absurd (let no : ⊥ = grind (arith, e) in no)
-defined version s (Commit u) k well h e = absurd (let no : ⊥ = grind (arith, e) in no)
-defined version s (Abort u) k well h e = absurd (let no : ⊥ = grind (arith, e) in no)
-defined version s (Checkpoint bytes) k well h e = absurd (let no : ⊥ = grind (arith, e) in no)
+defined version s _ k well h e = absurd (let no : ⊥ = grind (arith, e) in no)
 
 -- the parts go along with the state
 pub acted_parts : StepByParts → (s : State) (r : Record) (k : ℕ) (old new : List Part) → IsWellFormed s

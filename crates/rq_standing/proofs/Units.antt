@@ -12,8 +12,8 @@ use Rattle.std.proofs.lemmas.Cmp.{nat_cmp_total}
 use Rattle.std.proofs.lemmas.Map.Lookups.{btree_set_from_contains, exact_unsigned}
 use Rattle.std.proofs.lemmas.Map.Made.{is_some-lookup}
 use Rattle.std.proofs.lemmas.Bool.{and_parts, false≢true, ltb-true, eqb-true}
-use Rattle.rq_model.specs.Records.{Record, Define, Register, Deregister, Begin, Enqueue, Dequeue, Commit, Abort}
-use Rattle.rq_model.specs.Records.{Checkpoint, Kill, Version}
+use Rattle.rq_model.specs.Records.{Record, Begin, Enqueue, Dequeue}
+use Rattle.rq_model.specs.Records.{Version}
 use Rattle.rq_model.specs.States.{State}
 use Rattle.rq_model.specs.WellFormed.{IsWellFormed, Ordered}
 use Rattle.rq_model.specs.Machine.{is_open, is_lawful, closed_units, step}
@@ -50,16 +50,9 @@ same_number unit u = by_cases (unit == u) (λ b. (unit == u) ≡ b → is_eq (na
 -- Operations.
 
 engages_none : (r : Record) → unit_named r ≡ None → (q u : ℕ) → engages q u r ≡ false
-engages_none (Define limit error name) e q u = refl
-engages_none (Register k name) e q u = refl
-engages_none (Deregister k name) e q u = refl
-engages_none (Begin unit) e q u = refl
 engages_none (Enqueue unit k priority by payload) e q u = absurd (let no : ⊥ = grind (arith, e) in no)
 engages_none (Dequeue unit k by) e q u = absurd (let no : ⊥ = grind (arith, e) in no)
-engages_none (Commit unit) e q u = refl
-engages_none (Abort unit) e q u = refl
-engages_none (Checkpoint bytes) e q u = refl
-engages_none (Kill k element) e q u = refl
+engages_none _ e q u = refl
 
 same_some : (a b : ℕ) → Some a ≡ Some b → a ≡ b
 same_some a b e = grind (arith, e)
@@ -78,14 +71,7 @@ operation (Dequeue v k by) unit queue e f = record {
   engages = λ q u. ap (λ n. (n == u) && (k == q)) (same_some v unit e) ∙ ap (λ n. (unit == u) && (n == q)) (same_some k queue f);
   opened = λ version s h. subst (λ n. is_open s n ≡ true) (same_some v unit e) (and_parts _ _ (and_parts _ _ h).1).0;
 }
-operation (Define limit error name) unit queue e f = absurd (let no : ⊥ = grind (arith, e) in no)
-operation (Register k name) unit queue e f = absurd (let no : ⊥ = grind (arith, e) in no)
-operation (Deregister k name) unit queue e f = absurd (let no : ⊥ = grind (arith, e) in no)
-operation (Begin v) unit queue e f = absurd (let no : ⊥ = grind (arith, e) in no)
-operation (Commit v) unit queue e f = absurd (let no : ⊥ = grind (arith, e) in no)
-operation (Abort v) unit queue e f = absurd (let no : ⊥ = grind (arith, e) in no)
-operation (Checkpoint bytes) unit queue e f = absurd (let no : ⊥ = grind (arith, e) in no)
-operation (Kill k element) unit queue e f = absurd (let no : ⊥ = grind (arith, e) in no)
+operation _ unit queue e f = absurd (let no : ⊥ = grind (arith, e) in no)
 
 -- who engaged a queue before a record that engages none
 engaged_before : StepByParts → (s : State) (r : Record) → ((q u : ℕ) → engages q u r ≡ false) → (q u : ℕ)

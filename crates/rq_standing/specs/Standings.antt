@@ -3,7 +3,7 @@ use Rattle.std.specs.Prelude.{ℕ, ◌≡◌, length, Option, Some, None, option
 use Rattle.rq_model.specs.Records.{Record, Register, Deregister, Enqueue, Dequeue, Kill, Version}
 use Rattle.rq_model.specs.States.{State}
 use Rattle.rq_model.specs.WellFormed.{IsWellFormed}
-use Rattle.rq_model.specs.Machine.{is_lawful, best}
+use Rattle.rq_model.specs.Machine.{is_lawful, best, step}
 use Rattle.rq_standing.specs.Parts.{ArePartsOf}
 use Rattle.rq_standing.specs.Units.{AreUnits}
 use Rattle.rq_standing.specs.declared.queues.Queues.{Queues}
@@ -55,3 +55,14 @@ pub record Moved (x y : Queues) (t : State) : Type 0 where
 pub record May (x : Queues) (version : Version) (s : State) (r : Record) : Type 0 where
   pub holds : HoldsState x s
   pub lawful : is_lawful version s r ≡ true
+
+abbrev pub MaySome : Queues → Record → Type 0
+MaySome x r = (version : Version) × (s : State) × May x version s r
+
+-- whatever state they held, they are those of the state after the record, but for the number
+abbrev pub MovesBy : Queues → Queues → Record → Type 0
+MovesBy x y r = (version : Version) (s : State) → May x version s r → Moved x y (step s r)
+
+-- whatever state they held, this is the id of the element that the record takes there
+abbrev pub TakesElement : Queues → Record → Option ℕ → Type 0
+TakesElement x r id = (version : Version) (s : State) → May x version s r → id ≡ taken s r

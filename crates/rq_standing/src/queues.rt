@@ -8,7 +8,8 @@ ghost use Rattle.rq_record.specs.Views.{record_of};
 ghost use Rattle.rq_record.specs.declared.fault.Fault.TheVariants.{Resources};
 ghost use Rattle.rq_state.specs.Views.{id_of};
 ghost use Rattle.rq_standing.specs.Parts.{Acted};
-ghost use Rattle.rq_standing.specs.Standings.{HoldsState, Moved, May, queue_named, unit_named, taken};
+ghost use Rattle.rq_standing.specs.Standings.{HoldsState, May, MaySome, Moved, MovesBy, TakesElement};
+ghost use Rattle.rq_standing.specs.Standings.{queue_named, unit_named};
 
 use crate::open_units::OpenUnits;
 use crate::operations::{act_on, dequeue_on};
@@ -84,9 +85,7 @@ impl Queues {
     }
 
     fn begin(&mut self, alloc: Global, unit: UnitNo) -> Result<(), Fault>
-        ensures moved { OnOk result ((version : records.Version) (s : State) →
-            May self.old version s (records.Begin unit.0)
-            → Moved self.old self.new (step s (records.Begin unit.0))) }
+        ensures moved { OnOk result (MovesBy self.old self.new (records.Begin unit.0)) }
         ensures refused { IfErr result (λ e. e ≡ Resources) }
     {
         rq_model::step_by_parts();
@@ -97,8 +96,7 @@ impl Queues {
 
     // Does what names a queue to its part.
     fn act(&mut self, alloc: Global, queue: QueueNo, what: &KeptRecord) -> Result<(), Fault>
-        requires may { (version : records.Version) × (s : State)
-            × May self.old version s (record_of what.now) }
+        requires may { MaySome self.old (record_of what.now) }
         requires room { self.old.next + 1 < 2 ^ 64 }
         requires named { queue_named (record_of what.now) ≡ Some queue.0 }
         ensures frame { self.new ≡ record self.old { parts = self.new.parts } }
@@ -117,14 +115,11 @@ impl Queues {
 
     // REGISTER, DEREGISTER and KILL.
     fn alone(&mut self, alloc: Global, queue: QueueNo, what: &KeptRecord) -> Result<(), Fault>
-        requires may { (version : records.Version) × (s : State)
-            × May self.old version s (record_of what.now) }
+        requires may { MaySome self.old (record_of what.now) }
         requires room { self.old.next + 1 < 2 ^ 64 }
         requires named { queue_named (record_of what.now) ≡ Some queue.0 }
         requires nobody { unit_named (record_of what.now) ≡ None }
-        ensures moved { OnOk result ((version : records.Version) (s : State) →
-            May self.old version s (record_of what.now)
-            → Moved self.old self.new (step s (record_of what.now))) }
+        ensures moved { OnOk result (MovesBy self.old self.new (record_of what.now)) }
         ensures refused { IfErr result (λ e. e ≡ Resources) }
     {
         rq_model::step_by_parts();
@@ -139,14 +134,11 @@ impl Queues {
         queue: QueueNo,
         what: &KeptRecord,
     ) -> Result<(), Fault>
-        requires may { (version : records.Version) × (s : State)
-            × May self.old version s (record_of what.now) }
+        requires may { MaySome self.old (record_of what.now) }
         requires room { self.old.next + 1 < 2 ^ 64 }
         requires named { queue_named (record_of what.now) ≡ Some queue.0 }
         requires by { unit_named (record_of what.now) ≡ Some unit.0 }
-        ensures moved { OnOk result ((version : records.Version) (s : State) →
-            May self.old version s (record_of what.now)
-            → Moved self.old self.new (step s (record_of what.now))) }
+        ensures moved { OnOk result (MovesBy self.old self.new (record_of what.now)) }
         ensures refused { IfErr result (λ e. e ≡ Resources) }
     {
         rq_model::step_by_parts();
@@ -163,15 +155,10 @@ impl Queues {
         queue: QueueNo,
         by: &KeptBy,
     ) -> Result<Option<ElemId>, Fault>
-        requires may { (version : records.Version) × (s : State)
-            × May self.old version s (records.Dequeue unit.0 queue.0 by.now) }
+        requires may { MaySome self.old (records.Dequeue unit.0 queue.0 by.now) }
         requires room { self.old.next + 1 < 2 ^ 64 }
-        ensures moved { OnOk result ((version : records.Version) (s : State) →
-            May self.old version s (records.Dequeue unit.0 queue.0 by.now)
-            → Moved self.old self.new (step s (records.Dequeue unit.0 queue.0 by.now))) }
-        ensures took { IfOk result (λ id. (version : records.Version) (s : State) →
-            May self.old version s (records.Dequeue unit.0 queue.0 by.now)
-            → id_of id ≡ taken s (records.Dequeue unit.0 queue.0 by.now)) }
+        ensures moved { OnOk result (MovesBy self.old self.new (records.Dequeue unit.0 queue.0 by.now)) }
+        ensures took { IfOk result (λ id. TakesElement self.old (records.Dequeue unit.0 queue.0 by.now) (id_of id)) }
         ensures refused { IfErr result (λ e. e ≡ Resources) }
     {
         rq_model::step_by_parts();
@@ -181,12 +168,9 @@ impl Queues {
     }
 
     fn commit(&mut self, alloc: Global, unit: UnitNo) -> Result<(), Fault>
-        requires may { (version : records.Version) × (s : State)
-            × May self.old version s (records.Commit unit.0) }
+        requires may { MaySome self.old (records.Commit unit.0) }
         requires room { self.old.next + 1 < 2 ^ 64 }
-        ensures moved { OnOk result ((version : records.Version) (s : State) →
-            May self.old version s (records.Commit unit.0)
-            → Moved self.old self.new (step s (records.Commit unit.0))) }
+        ensures moved { OnOk result (MovesBy self.old self.new (records.Commit unit.0)) }
         ensures refused { IfErr result (λ e. e ≡ Resources) }
     {
         rq_model::step_by_parts();
@@ -198,12 +182,9 @@ impl Queues {
     }
 
     fn abort(&mut self, alloc: Global, unit: UnitNo) -> Result<(), Fault>
-        requires may { (version : records.Version) × (s : State)
-            × May self.old version s (records.Abort unit.0) }
+        requires may { MaySome self.old (records.Abort unit.0) }
         requires room { self.old.next + 2 < 2 ^ 64 }
-        ensures moved { OnOk result ((version : records.Version) (s : State) →
-            May self.old version s (records.Abort unit.0)
-            → Moved self.old self.new (step s (records.Abort unit.0))) }
+        ensures moved { OnOk result (MovesBy self.old self.new (records.Abort unit.0)) }
         ensures refused { IfErr result (λ e. e ≡ Resources) }
     {
         rq_model::step_by_parts();
@@ -218,15 +199,10 @@ impl Queues {
     // Does a record to the queues, but for its number. The id of the element that it takes, if it
     // takes one.
     fn does(&mut self, alloc: Global, what: &KeptRecord) -> Result<Option<ElemId>, Fault>
-        requires may { (version : records.Version) × (s : State)
-            × May self.old version s (record_of what.now) }
+        requires may { MaySome self.old (record_of what.now) }
         requires room { self.old.next + 2 < 2 ^ 64 }
-        ensures moved { OnOk result ((version : records.Version) (s : State) →
-            May self.old version s (record_of what.now)
-            → Moved self.old self.new (step s (record_of what.now))) }
-        ensures took { IfOk result (λ id. (version : records.Version) (s : State) →
-            May self.old version s (record_of what.now)
-            → id_of id ≡ taken s (record_of what.now)) }
+        ensures moved { OnOk result (MovesBy self.old self.new (record_of what.now)) }
+        ensures took { IfOk result (λ id. TakesElement self.old (record_of what.now) (id_of id)) }
         ensures refused { IfErr result (λ e. e ≡ Resources) }
     {
         rq_model::step_by_parts();
@@ -272,14 +248,11 @@ impl Queues {
     /// Does a lawful record. The id of the element that a DEQUEUE takes, if one is free. Refused
     /// with `Resources` alone: the queues are then of no more use.
     pub(crate) fn take(&mut self, alloc: Global, what: &KeptRecord) -> Result<Option<ElemId>, Fault>
-        requires may { (version : records.Version) × (s : State)
-            × May self.old version s (record_of what.now) }
+        requires may { MaySome self.old (record_of what.now) }
         ensures holds { OnOk result ((version : records.Version) (s : State) →
             May self.old version s (record_of what.now)
             → HoldsState self.new (step s (record_of what.now))) }
-        ensures took { IfOk result (λ id. (version : records.Version) (s : State) →
-            May self.old version s (record_of what.now)
-            → id_of id ≡ taken s (record_of what.now)) }
+        ensures took { IfOk result (λ id. TakesElement self.old (record_of what.now) (id_of id)) }
         ensures refused { IfErr result (λ e. e ≡ Resources) }
     {
         rq_model::runs_are_well_formed();
