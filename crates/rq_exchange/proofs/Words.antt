@@ -6,16 +6,14 @@ pub use Rattle.rq_exchange.specs.Boards.{HasPart, IsPart, Places, queue_of}
 pub use Rattle.rq_exchange.specs.Chains.{AreBoxes, ArePasses, HasFollowed, HasPasses, IsBare, IsChainOf, IsColumn}
 pub use Rattle.rq_exchange.specs.Chains.{IsCountdownOf, IsRedone, IsSettled, boxes_of, diaries_of, due, redone_in}
 pub use Rattle.rq_exchange.specs.Chains.{web_of}
-pub use Rattle.rq_exchange.specs.Columns.{AreColumns}
+pub use Rattle.rq_exchange.specs.Pairs.{AreColumns, EachWith, Halfway}
 pub use Rattle.rq_exchange.specs.Courses.{IsAlone, Recounts, StartsByLast, all_told, redone_by, redone_of, told_to}
 pub use Rattle.rq_exchange.specs.Coverage.{DiariesTell, HandsOn, IsWeb, IsWebClosed, Web, arrived_at, asked, lasts_at}
 pub use Rattle.rq_exchange.specs.Coverage.{source_at, told_at}
 pub use Rattle.rq_exchange.specs.Gathering.{AreParts, IsRedoneTo}
 pub use Rattle.rq_exchange.specs.Jobs.{IsJob, errors_in, records_of}
-pub use Rattle.rq_exchange.specs.Links.{AreRanks, Fall, at, naming}
+pub use Rattle.rq_exchange.specs.Links.{AreRanks, Fall, at, naming, AreBare}
 pub use Rattle.rq_exchange.specs.Openings.{AreOpened, IsFreshColumn, Opened}
-pub use Rattle.rq_exchange.specs.Pairs.{EachWith, Halfway}
-pub use Rattle.rq_exchange.specs.Tasks.{AreBare}
 pub use Rattle.rq_exchange.specs.Workers.{AllKeep, AreFreshPasses, AreHandedBack, AreSettled, HasEnded, HasKept}
 pub use Rattle.rq_exchange.specs.Workers.{HaveKept, IsFreshSeat, IsFreshWorker, Works}
 pub use Rattle.rq_exchange.specs.declared.chain.CountdownChain.{CountdownChain}

@@ -1,6 +1,5 @@
 pub mod Boards
 pub mod Chains
-pub mod Columns
 pub mod Courses
 pub mod Coverage
 pub mod Gathering
@@ -8,5 +7,4 @@ pub mod Jobs
 pub mod Links
 pub mod Openings
 pub mod Pairs
-pub mod Tasks
 pub mod Workers

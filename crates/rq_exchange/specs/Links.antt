@@ -1,6 +1,8 @@
 -- The error queue of each queue, and the queues whose error queue it is.
-use Rattle.std.specs.Prelude.{ℕ, ◌≡◌, ◌<◌, ◌==◌, List, length, slice_index_or}
-use Rattle.rq_state.specs.Orders.{indices_of}
+use Rattle.std.specs.Prelude.{ℕ, ◌≡◌, ◌<◌, ◌==◌, List, length, slice_index_or, ◌≤◌, []}
+use Rattle.rq_state.specs.Orders.{indices_of, listed}
+use Rattle.std.specs.Global.{Vec}
+use Rattle.rq_pool.specs.Ledger.{times}
 
 -- the number at an index
 abbrev pub at : List ℕ → ℕ → ℕ
@@ -21,3 +23,9 @@ pub record AreRanks (errors : List ℕ) (count m : ℕ) (ranks : List ℕ) : Typ
   pub ranked : (q : ℕ) → q < m → at errors q < count
       → (at ranks q < length (naming errors (at errors q)))
       × (at (naming errors (at errors q)) (at ranks q) ≡ q)
+
+-- those of the first m queues that have no sources, each once
+pub record AreBare (sources : List (Vec ℕ)) (m : ℕ) (tasks : List ℕ) : Type 0 where
+  pub once : (x : ℕ) → x < m → length (listed sources x) ≡ 0 → times x tasks ≡ 1
+  pub no_other : (x : ℕ) → 0 < times x tasks → (x < m) × (listed sources x ≡ [])
+  pub few : length tasks ≤ m

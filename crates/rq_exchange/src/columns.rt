@@ -4,7 +4,7 @@ ghost use Rattle.std.specs.Prelude.{◌≡◌, ◌<◌, ◌++◌, ◌∷◌, [],
 ghost use Rattle.std.specs.Prelude.{OnOk, slice_index_or};
 ghost use Rattle.rq_state.specs.Orders.{listed};
 ghost use Rattle.rq_record.specs.declared.fault.Fault.TheVariants.{Resources};
-ghost use Rattle.rq_exchange.specs.Columns.{AreColumns};
+ghost use Rattle.rq_exchange.specs.Pairs.{AreColumns};
 
 use rq_record::Fault;
 use std::alloc::Global;

@@ -9,7 +9,7 @@ ghost use Rattle.rq_pool.specs.Rooms.{IsSeatOf, taken_of, deal_of};
 ghost use Rattle.rq_record.specs.declared.fault.Fault.TheVariants.{Resources};
 ghost use Rattle.rq_exchange.specs.Chains.{IsChainOf, ArePasses, IsRedone, IsBare, HasFollowed};
 ghost use Rattle.rq_exchange.specs.Jobs.{IsJob};
-ghost use Rattle.rq_exchange.specs.Tasks.{AreBare};
+ghost use Rattle.rq_exchange.specs.Links.{AreBare};
 ghost use Rattle.rq_exchange.specs.declared.chain.CountdownChain.{CountdownChain as GhostChain};
 ghost use Rattle.rq_exchange.specs.declared.jobs.Job.{Job as GhostJob};
 ghost use Rattle.rq_exchange.specs.Workers.{Works, HandsBack, IsFreshWorker, Pairs, HaveKept};

@@ -5,7 +5,7 @@ ghost use Rattle.std.specs.Prelude.{vec_items};
 ghost use Rattle.rq_pool.specs.Ledger.{times, times_in, size};
 ghost use Rattle.rq_pool.specs.Rooms.{deal_of, seats_of};
 ghost use Rattle.rq_record.specs.declared.fault.Fault.TheVariants.{Resources};
-ghost use Rattle.rq_exchange.specs.Tasks.{AreBare};
+ghost use Rattle.rq_exchange.specs.Links.{AreBare};
 ghost use Rattle.rq_exchange.specs.Workers.{IsFreshSeat};
 
 use rq_pool::{Room, Seat};

@@ -20,4 +20,4 @@ mod thread_work;
 
 pub use course::Course;
 pub use gathered::AllRedone;
-pub use replays::{redo_analysed, replay, replay_analysed, replay_traced};
+pub use replays::{redo_analysed, replay, replay_analysed};

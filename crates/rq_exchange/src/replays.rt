@@ -73,23 +73,7 @@ pub fn replay<R: Threads + Sync, G: Gate + Sync>(
     ensures refused { IfErr result (λ e. e ≡ Resources) }
 {
     let kept = kept_records(alloc, records)?;
-    replay_kept(rt, alloc, state, &kept, plan, gate)
-}
-
-// The same for records that are kept; nothing of them is copied.
-fn replay_kept<R: Threads + Sync, G: Gate + Sync>(
-    rt: &R,
-    alloc: Global,
-    state: &State,
-    records: &[KeptRecord],
-    plan: &Plan,
-    gate: &G,
-) -> Result<State, Fault>
-    requires lawful { all_lawful Two state.now (map record_of records.now) ≡ true }
-    requires fits { state.now.next + length records.now < 2 ^ 64 }
-    ensures state { IfOk result (λ t. t ≡ run state.now (map record_of records.now)) }
-    ensures refused { IfErr result (λ e. e ≡ Resources) }
-{
+    let records = kept.as_slice();
     let analysis = analyse_kept(alloc, Version::Two, state, records)?;
     replay_analysed(rt, alloc, state, records, analysis, plan, gate)
 }
@@ -111,9 +95,9 @@ pub fn replay_analysed<R: Threads + Sync, G: Gate + Sync>(
     ensures state { IfOk result (λ t. t ≡ run state.now (map record_of records.now)) }
     ensures refused { IfErr result (λ e. e ≡ Resources) }
 {
-    let (state, course) = replay_traced(rt, alloc, state, records, analysis, plan, gate)?;
+    let (all, course) = redo_analysed(rt, alloc, state, records, analysis, plan, gate)?;
     drop(course);
-    Ok(state)
+    all.gather(alloc)
 }
 
 /// The queues after the records, which are analysed, redone as in `replay_analysed`, and how that
@@ -156,27 +140,4 @@ pub fn redo_analysed<R: Threads + Sync, G: Gate + Sync>(
     };
     let (parts, course) = redo_all(rt, alloc, &job, plan, gate)?;
     Ok((AllRedone { fields, parts }, course))
-}
-
-/// What `replay_analysed` answers, and how the replay went, as in `redo_analysed`.
-pub fn replay_traced<R: Threads + Sync, G: Gate + Sync>(
-    rt: &R,
-    alloc: Global,
-    state: &State,
-    records: &[KeptRecord],
-    analysis: Analysis,
-    plan: &Plan,
-    gate: &G,
-) -> Result<(State, Course), Fault>
-    requires lawful { all_lawful Two state.now (map record_of records.now) ≡ true }
-    requires fits { state.now.next + length records.now < 2 ^ 64 }
-    requires analysis { IsAnalysis Two state.now (map record_of records.now) analysis }
-    ensures state { IfOk result (λ r. r.0 ≡ run state.now (map record_of records.now)) }
-    ensures course { IfOk result (λ r. StartsByLast
-        (map (λ d. d.error) (run state.now (map record_of records.now)).definitions) r.1) }
-    ensures refused { IfErr result (λ e. e ≡ Resources) }
-{
-    let (all, course) = redo_analysed(rt, alloc, state, records, analysis, plan, gate)?;
-    let state = all.gather(alloc)?;
-    Ok((state, course))
 }

@@ -14,7 +14,7 @@ ghost use Rattle.rq_exchange.specs.Links.{naming};
 use super::plain::{NO_QUEUE, Plain, records_of};
 use Plain::{Abort, Begin, Commit, Define, Dequeue, Enqueue};
 use rq_catalog::{analyse_in, analyse_kept};
-use rq_exchange::{Course, replay, replay_traced};
+use rq_exchange::{Course, redo_analysed, replay};
 use rq_plan::{Gate, Open, Plan};
 use rq_record::{Fault, KeptRecord, Record, Version, kept_records};
 use rq_state::State;
@@ -108,7 +108,8 @@ fn traced<R: Threads + Sync + AllocGlobal, G: Gate + Sync>(
     let alloc = rt.alloc();
     let start = State::empty(alloc);
     let analysis = analyse_kept(alloc, Version::Two, &start, &lawful.records)?;
-    let (state, course) = replay_traced(rt, alloc, &start, &lawful.records, analysis, plan, gate)?;
+    let (all, course) = redo_analysed(rt, alloc, &start, &lawful.records, analysis, plan, gate)?;
+    let state = all.gather(alloc)?;
     Ok((state, course))
 }
 

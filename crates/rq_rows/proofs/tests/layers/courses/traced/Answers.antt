@@ -33,18 +33,18 @@ nobody_else errors course starts x near some =
 
 pub returns-clause-once : goal.returns-clause-once
 returns-clause-once g c = λ x near.
-    let starts = starts_of c.in_ok-state.state _ c.in_ok-state.course c.in_ok-state.ensures.state
-    c.in_ok-state.ensures.course in
+    let starts = starts_of c.in_ok-state.state _ c.in_ok-all.course
+    (c.in_ok-state.ensures.state _ c.in_ok-all.ensures.redone) c.in_ok-all.ensures.course in
     starts.once x (inside c.in_ok-state.state x near)
 
 pub returns-clause-begun : goal.returns-clause-begun
 returns-clause-begun g c = λ x near.
-    let starts = starts_of c.in_ok-state.state _ c.in_ok-state.course c.in_ok-state.ensures.state
-    c.in_ok-state.ensures.course in
-    begun (errors_of c.in_ok-state.state) c.in_ok-state.course starts x (inside c.in_ok-state.state x near)
+    let starts = starts_of c.in_ok-state.state _ c.in_ok-all.course
+    (c.in_ok-state.ensures.state _ c.in_ok-all.ensures.redone) c.in_ok-all.ensures.course in
+    begun (errors_of c.in_ok-state.state) c.in_ok-all.course starts x (inside c.in_ok-state.state x near)
 
 pub returns-clause-nobody_else : goal.returns-clause-nobody_else
 returns-clause-nobody_else g c = λ x near.
-    let starts = starts_of c.in_ok-state.state _ c.in_ok-state.course c.in_ok-state.ensures.state
-    c.in_ok-state.ensures.course in
-    nobody_else (errors_of c.in_ok-state.state) c.in_ok-state.course starts x (inside c.in_ok-state.state x near)
+    let starts = starts_of c.in_ok-state.state _ c.in_ok-all.course
+    (c.in_ok-state.ensures.state _ c.in_ok-all.ensures.redone) c.in_ok-all.ensures.course in
+    nobody_else (errors_of c.in_ok-state.state) c.in_ok-all.course starts x (inside c.in_ok-state.state x near)
