@@ -1,6 +1,9 @@
 //! A keeper that goes along with a log, piece by piece.
 
 ghost use Rattle.std.specs.Prelude.{◌≤◌, IfOk};
+ghost use Rattle.rq_model.specs.Records as model;
+ghost use Rattle.rq_model.specs.States as states;
+ghost use Rattle.rq_standing.specs.Stands.{Stands};
 
 use super::log_of;
 use super::scripts::{CHECKPOINT, ONE_ELEMENT, RETURN_AND_ARRIVAL};
@@ -31,16 +34,29 @@ fn record_at(alloc: Global, version: Version, log: &[u8], span: &Span) -> Result
     Ok(decode_kept(alloc, version, body)?)
 }
 
+// Lists the records whose bodies are there.
+fn list(
+    alloc: Global,
+    version: Version,
+    log: &[u8],
+    spans: &[Span],
+    records: &mut Vec<KeptRecord>,
+) -> Result<(), Fail> {
+    for span in spans {
+        records.push(record_at(alloc, version, log, span)?)?;
+    }
+    Ok(())
+}
+
 // The records of a log of a version.
 fn records<R: Threads + Sync + AllocGlobal>(
     rt: &R,
     version: Version,
     log: &[u8],
 ) -> Result<Vec<KeptRecord>, Fail> {
+    let chain = chain(rt, rt.alloc(), log, 40, 1)?;
     let mut records = Vec::new(rt.alloc());
-    for span in chain(rt, rt.alloc(), log, 40, 1)?.spans.iter() {
-        records.push(record_at(rt.alloc(), version, log, span)?)?;
-    }
+    list(rt.alloc(), version, log, &chain.spans, &mut records)?;
     Ok(records)
 }
 
@@ -98,13 +114,15 @@ fn kept_spelling(alloc: Global, keeper: &Keeper) -> Result<Vec<u8>, Fault>
     spell(alloc, &state)
 }
 
-// Whether a keeper's state spells the same as another one.
-fn spells_the_same(alloc: Global, keeper: &Keeper, other: &State) -> bool
-    requires { keeper.now.state.next ≤ 4294967295 }
-{
-    match (kept_spelling(alloc, keeper), spelling(alloc, other)) {
-        (Ok(one), Some(other)) => one == other,
-        _ => false,
+// What the state after the log's front spells.
+fn front_spelling<R: Threads + Sync + AllocGlobal>(
+    rt: &R,
+    log: &[u8],
+    plan: &Plan,
+) -> Option<Vec<u8>> {
+    match front_state(rt, rt.alloc(), log, plan) {
+        Ok(state) => spelling(rt.alloc(), &state),
+        Err(_) => None,
     }
 }
 
@@ -117,13 +135,30 @@ fn stands_behind<R: Threads + Sync + AllocGlobal>(
 ) -> bool
     requires { keeper.now.state.next ≤ 4294967295 }
 {
-    match front_state(rt, rt.alloc(), log, plan) {
-        Ok(state) => spells_the_same(rt.alloc(), keeper, &state),
-        Err(_) => false,
+    match (
+        kept_spelling(rt.alloc(), keeper),
+        front_spelling(rt, log, plan),
+    ) {
+        (Ok(kept), Some(front)) => kept == front,
+        _ => false,
     }
 }
 
-// Whether a new keeper that takes the log's records in pieces stands where its front ends.
+// Whether the keeper takes all records in pieces, and stands where the front of the log ends then.
+fn comes_to_the_end<R: Threads + Sync + AllocGlobal>(
+    rt: &R,
+    keeper: &mut Keeper,
+    log: &[u8],
+    records: &[KeptRecord],
+    ends: &[usize],
+    plan: &Plan,
+) -> bool
+    requires { keeper.old.state.next ≤ 4294967295 }
+{
+    takes_all(rt, keeper, records, ends, plan) && stands_behind(rt, keeper, log, plan)
+}
+
+// Whether a new keeper does.
 fn goes_along<R: Threads + Sync + AllocGlobal>(
     rt: &R,
     log: &[u8],
@@ -135,7 +170,7 @@ fn goes_along<R: Threads + Sync + AllocGlobal>(
         return false;
     };
     let mut keeper = Keeper::new(Version::One, State::empty(rt.alloc()));
-    takes_all(rt, &mut keeper, records, ends, &plan) && stands_behind(rt, &keeper, log, &plan)
+    comes_to_the_end(rt, &mut keeper, log, records, ends, &plan)
 }
 
 // Whether it does, whatever the pieces are.
@@ -170,8 +205,7 @@ fn read_again<R: Threads + Sync + AllocGlobal>(
 ) -> Result<State, Fail>
     ensures { IfOk result (λ s. s.next ≤ 4294967295) }
 {
-    let state = front_state(rt, rt.alloc(), log, plan)?;
-    let spelled = spelling(rt.alloc(), &state).ok_or("spelling")?;
+    let spelled = front_spelling(rt, log, plan).ok_or("spelling")?;
     Ok(read_in(rt.alloc(), Version::One, &spelled)?)
 }
 
@@ -184,8 +218,7 @@ fn goes_on_behind<R: Threads + Sync + AllocGlobal>(
 ) -> Result<bool, Fail> {
     let plan = Plan::new(2, 1).ok_or("plan")?;
     let mut keeper = Keeper::new(Version::One, read_again(rt, begins, &plan)?);
-    let all = taken(rt, &mut keeper, rest, &plan) == Some(rest.len());
-    Ok(all && stands_behind(rt, &keeper, log, &plan))
+    Ok(comes_to_the_end(rt, &mut keeper, log, rest, &[rest.len()], &plan))
 }
 
 // Whether a keeper that starts behind so many records of the log, which end there, goes on.
@@ -210,43 +243,65 @@ fn a_keeper_goes_on_from_a_checkpoint(rt: HostRuntime) -> Result<(), Fail> {
     Ok(())
 }
 
+// Adds the COMMIT of one unit, and the BEGIN of another one.
+fn add_two(records: &mut Vec<KeptRecord>, ended: u64, begun: u64) -> Result<(), Fail> {
+    records.push(KeptRecord::Commit {
+        unit: UnitNo(ended),
+    })?;
+    records.push(KeptRecord::Begin {
+        unit: UnitNo(begun),
+    })?;
+    Ok(())
+}
+
 // The records of a log, and two more, the first of which is not lawful.
 fn with_two_more<R: Threads + Sync + AllocGlobal>(
     rt: &R,
     log: &[u8],
 ) -> Result<Vec<KeptRecord>, Fail> {
     let mut records = records(rt, Version::One, log)?;
-    records.push(KeptRecord::Commit { unit: UnitNo(1) })?;
-    records.push(KeptRecord::Begin { unit: UnitNo(2) })?;
+    add_two(&mut records, 1, 2)?;
     Ok(records)
 }
 
-// The number that a keeper gives the next record.
-fn next_of(alloc: Global, keeper: &Keeper) -> Option<u64> {
+// The number that a keeper gives the next record, how many elements there are, and how many units
+// are open.
+type Numbers = (u64, usize, usize);
+
+fn numbers(alloc: Global, keeper: &Keeper) -> Option<Numbers> {
     match keeper.state(alloc) {
-        Ok(state) => Some(state.next()),
+        Ok(state) => Some((state.next(), state.element_count(), state.unit_count())),
         Err(_) => None,
     }
 }
 
 // Whether a keeper takes four of these records, stands where the log's front ends, and then takes
 // only the last one.
-fn stops<R: Threads + Sync + AllocGlobal>(rt: &R, log: &[u8], records: &[KeptRecord]) -> bool {
-    let (Some(plan), Some(last)) = (Plan::new(2, 1), records.get(5..)) else {
+fn stops<R: Threads + Sync + AllocGlobal>(
+    rt: &R,
+    keeper: &mut Keeper,
+    log: &[u8],
+    records: &[KeptRecord],
+    plan: &Plan,
+) -> bool
+    requires { keeper.old.state.next ≤ 4294967295 }
+{
+    let Some(last) = records.get(5..) else {
         return false;
     };
-    let mut keeper = Keeper::new(Version::One, State::empty(rt.alloc()));
-    let four = taken(rt, &mut keeper, records, &plan) == Some(4);
-    let stood = stands_behind(rt, &keeper, log, &plan);
-    let one = taken(rt, &mut keeper, last, &plan) == Some(1);
-    four && stood && one && next_of(rt.alloc(), &keeper) == Some(5)
+    let four = taken(rt, keeper, records, plan) == Some(4);
+    let stood = stands_behind(rt, keeper, log, plan);
+    let one = taken(rt, keeper, last, plan) == Some(1);
+    four && stood && one && numbers(rt.alloc(), keeper) == Some((5, 1, 1))
 }
 
 // Whether one does with the records of `ONE_ELEMENT` and two more.
 fn stops_behind_four<R: Threads + Sync + AllocGlobal>(rt: &R) -> Result<bool, Fail> {
+    let plan = Plan::new(2, 1).ok_or("plan")?;
     let log = log_of(rt, ONE_ELEMENT)?;
     let records = with_two_more(rt, &log)?;
-    Ok(stops(rt, &log, &records))
+    let mut keeper = Keeper::new(Version::One, State::empty(rt.alloc()));
+    Ok(stops(rt, &mut keeper, &log, &records, &plan))
 }
 
 #[test]
@@ -255,29 +310,52 @@ fn a_keeper_stops_before_an_unlawful_record(rt: HostRuntime) -> Result<(), Fail>
     Ok(())
 }
 
-// How many records a keeper takes of a script that puts in an element, and how many of a KILL after
-// it; and how many elements there are then.
-fn after_kill<R: Threads + Sync + AllocGlobal>(
+// How many records a keeper takes of a KILL of the element of record 2.
+fn killed<R: Threads + Sync + AllocGlobal>(
     rt: &R,
-    version: Version,
-) -> Result<(Option<usize>, Option<usize>, usize), Fail> {
-    let plan = Plan::new(2, 1).ok_or("plan")?;
-    let log = make_in(rt, rt.alloc(), version, ONE_ELEMENT, &plan)?;
-    let records = records(rt, version, &log)?;
+    keeper: &mut Keeper,
+    plan: &Plan,
+) -> Option<usize>
+    requires { keeper.old.state.next ≤ 4294967295 }
+{
     let kill = KeptRecord::Kill {
         queue: QueueNo(0),
         element: ElemId(2),
     };
+    taken(rt, keeper, &[kill], plan)
+}
+
+// How many records of these a keeper takes, and how many of a KILL after them; and its numbers
+// then.
+fn after_these<R: Threads + Sync + AllocGlobal>(
+    rt: &R,
+    keeper: &mut Keeper,
+    records: &[KeptRecord],
+    plan: &Plan,
+) -> (Option<usize>, Option<usize>, Option<Numbers>)
+    requires { keeper.old.state.next ≤ 4294967295 }
+{
+    let first = taken(rt, keeper, records, plan);
+    let last = killed(rt, keeper, plan);
+    (first, last, numbers(rt.alloc(), keeper))
+}
+
+// The same for a keeper of the version, and the records of `ONE_ELEMENT`.
+fn after_kill<R: Threads + Sync + AllocGlobal>(
+    rt: &R,
+    version: Version,
+) -> Result<(Option<usize>, Option<usize>, Option<Numbers>), Fail> {
+    let plan = Plan::new(2, 1).ok_or("plan")?;
+    let log = make_in(rt, rt.alloc(), version, ONE_ELEMENT, &plan)?;
+    let records = records(rt, version, &log)?;
     let mut keeper = Keeper::new(version, State::empty(rt.alloc()));
-    let first = taken(rt, &mut keeper, &records, &plan);
-    let killed = taken(rt, &mut keeper, &[kill], &plan);
-    Ok((first, killed, keeper.state(rt.alloc())?.element_count()))
+    Ok(after_these(rt, &mut keeper, &records, &plan))
 }
 
 // Whether a KILL is taken in version 2, and not in version 1.
 fn kills_by_version<R: Threads + Sync + AllocGlobal>(rt: &R) -> Result<bool, Fail> {
-    let first = after_kill(rt, Version::One)? == (Some(4), Some(0), 1);
-    Ok(first && after_kill(rt, Version::Two)? == (Some(4), Some(1), 0))
+    let first = after_kill(rt, Version::One)? == (Some(4), Some(0), Some((4, 1, 0)));
+    Ok(first && after_kill(rt, Version::Two)? == (Some(4), Some(1), Some((5, 0, 0))))
 }
 
 #[test]
@@ -293,22 +371,27 @@ fn state_before(alloc: Global, next: u64) -> Result<State, Fail> {
     Ok(read_in(alloc, Version::One, &bytes)?)
 }
 
+// What a keeper answers to the BEGIN of the first unit.
+fn begun<R: Threads + Sync + AllocGlobal>(
+    rt: &R,
+    keeper: &mut Keeper,
+    plan: &Plan,
+) -> Result<usize, Fault> {
+    let begin = KeptRecord::Begin { unit: UnitNo(1) };
+    keeper.take(rt, rt.alloc(), &[begin], plan)
+}
+
 // Whether the keeper takes one BEGIN, and then no record more.
 fn is_full_behind_one<R: Threads + Sync + AllocGlobal>(
     rt: &R,
     keeper: &mut Keeper,
     plan: &Plan,
 ) -> bool {
-    let begin = [KeptRecord::Begin { unit: UnitNo(1) }];
-    let first = keeper.take(rt, rt.alloc(), &begin, plan);
-    let second = keeper.take(rt, rt.alloc(), &begin, plan);
-    let Ok(state) = keeper.state(rt.alloc()) else {
-        return false;
-    };
+    let first = begun(rt, keeper, plan);
+    let second = begun(rt, keeper, plan);
     first == Ok(1)
         && second == Err(Fault::TooLong)
-        && state.next() == 4_294_967_295
-        && state.unit_count() == 1
+        && numbers(rt.alloc(), keeper) == Some((4_294_967_295, 0, 1))
 }
 
 // Whether one does that stands before the last record but one.
@@ -324,22 +407,43 @@ fn a_keeper_takes_no_more_records_than_a_log_may_have(rt: HostRuntime) -> Result
     Ok(())
 }
 
-// The records of a log, and behind them units that begin and commit: 128 in all.
-fn with_many_more<R: Threads + Sync + AllocGlobal>(rt: &R) -> Result<Vec<KeptRecord>, Fail> {
-    let log = log_of(rt, RETURN_AND_ARRIVAL)?;
-    let mut records = records(rt, Version::One, &log)?;
+// Adds units that begin and commit.
+fn add_units(records: &mut Vec<KeptRecord>) -> Result<(), Fail> {
     for unit in 4..=60 {
         records.push(KeptRecord::Begin { unit: UnitNo(unit) })?;
         records.push(KeptRecord::Commit { unit: UnitNo(unit) })?;
     }
+    Ok(())
+}
+
+// The records of a log, and behind them units that begin and commit: 128 in all.
+fn with_many_more<R: Threads + Sync + AllocGlobal>(rt: &R) -> Result<Vec<KeptRecord>, Fail> {
+    let log = log_of(rt, RETURN_AND_ARRIVAL)?;
+    let mut records = records(rt, Version::One, &log)?;
+    add_units(&mut records)?;
     Ok(records)
 }
 
 // Small pieces, one that is large beside the state that it finds, and small ones again.
 const BY_TURNS: &[usize] = &[3, 7, 14, 16, 120, 121, 123, 128];
 
-// What the state of a keeper spells that took the records in pieces, by a plan of this grain. None,
-// if it took fewer.
+// What the state of the keeper spells after it took the records in pieces. None, if it took fewer.
+fn spelled_in_pieces<R: Threads + Sync + AllocGlobal>(
+    rt: &R,
+    keeper: &mut Keeper,
+    records: &[KeptRecord],
+    ends: &[usize],
+    plan: &Plan,
+) -> Result<Option<Vec<u8>>, Fail>
+    requires { keeper.old.state.next ≤ 4294967295 }
+{
+    if !takes_all(rt, keeper, records, ends, plan) {
+        return Ok(None);
+    }
+    Ok(Some(kept_spelling(rt.alloc(), keeper)?))
+}
+
+// The same for a new keeper, by a plan of this grain.
 fn spelled_behind<R: Threads + Sync + AllocGlobal>(
     rt: &R,
     records: &[KeptRecord],
@@ -348,14 +452,27 @@ fn spelled_behind<R: Threads + Sync + AllocGlobal>(
 ) -> Result<Option<Vec<u8>>, Fail> {
     let plan = Plan::new(3, grain).ok_or("plan")?;
     let mut keeper = Keeper::new(Version::One, State::empty(rt.alloc()));
-    if !takes_all(rt, &mut keeper, records, ends, &plan) {
-        return Ok(None);
-    }
-    Ok(Some(kept_spelling(rt.alloc(), &keeper)?))
+    spelled_in_pieces(rt, &mut keeper, records, ends, &plan)
 }
 
-// What the state spells that a machine comes to by the records, by a plan of this grain. None, if it
-// took fewer.
+// What the state spells that the machine comes to by the records. None, if it took fewer.
+fn spelled_by_machine<R: Threads + Sync + AllocGlobal>(
+    rt: &R,
+    standing: &mut Standing,
+    records: &[KeptRecord],
+    plan: &Plan,
+) -> Result<Option<Vec<u8>>, Fail>
+    requires { (version : model.Version) × (s : states.State) × Stands version standing.old s }
+{
+    let count = go_on(rt, rt.alloc(), standing, records, plan)?;
+    if count < records.len() {
+        return Ok(None);
+    }
+    let state = standing.state(rt.alloc())?;
+    Ok(spelling(rt.alloc(), &state))
+}
+
+// The same for a new machine, by a plan of this grain.
 fn spelled_after<R: Threads + Sync + AllocGlobal>(
     rt: &R,
     records: &[KeptRecord],
@@ -363,12 +480,7 @@ fn spelled_after<R: Threads + Sync + AllocGlobal>(
 ) -> Result<Option<Vec<u8>>, Fail> {
     let plan = Plan::new(3, grain).ok_or("plan")?;
     let mut standing = Standing::new(rt.alloc(), Version::One);
-    let count = go_on(rt, rt.alloc(), &mut standing, records, &plan)?;
-    if count < records.len() {
-        return Ok(None);
-    }
-    let state = standing.state(rt.alloc())?;
-    Ok(spelling(rt.alloc(), &state))
+    spelled_by_machine(rt, &mut standing, records, &plan)
 }
 
 // Whether all ways come to one state: on the workers, one record after the other, and by turns. A
@@ -391,19 +503,25 @@ fn large_and_small_pieces_come_to_one_state(rt: HostRuntime) -> Result<(), Fail>
     Ok(())
 }
 
-// How many of these records and two more, the first of which is not lawful, a machine goes on by.
-fn went_on<R: Threads + Sync + AllocGlobal>(rt: &R, grain: u32) -> Result<usize, Fail> {
-    let mut records = with_many_more(rt)?;
-    records.push(KeptRecord::Commit { unit: UnitNo(1) })?;
-    records.push(KeptRecord::Begin { unit: UnitNo(61) })?;
-    let plan = Plan::new(2, grain).ok_or("plan")?;
+// By how many of the records a new machine goes on, by a plan of this grain.
+fn went_on<R: Threads + Sync + AllocGlobal>(
+    rt: &R,
+    records: &[KeptRecord],
+    grain: u32,
+) -> Result<usize, Fault> {
+    let Some(plan) = Plan::new(2, grain) else {
+        return Ok(0);
+    };
     let mut standing = Standing::new(rt.alloc(), Version::One);
-    Ok(go_on(rt, rt.alloc(), &mut standing, &records, &plan)?)
+    go_on(rt, rt.alloc(), &mut standing, records, &plan)
 }
 
-// Whether it stops before that one, on the workers and by itself.
+// Whether one stops before the first record that is not lawful, of these and two more, on the
+// workers and by itself.
 fn goes_on_by_all<R: Threads + Sync + AllocGlobal>(rt: &R) -> Result<bool, Fail> {
-    Ok(went_on(rt, 1)? == 128 && went_on(rt, 200)? == 128)
+    let mut records = with_many_more(rt)?;
+    add_two(&mut records, 1, 61)?;
+    Ok(went_on(rt, &records, 1) == Ok(128) && went_on(rt, &records, 200) == Ok(128))
 }
 
 #[test]

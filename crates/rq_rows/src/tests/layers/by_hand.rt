@@ -262,11 +262,20 @@ fn poured(alloc: Global, part: Part) -> Result<[usize; 2], Fault> {
 }
 
 // Whether the KILL leaves a registrant, no element, and no move.
+fn leaves_registrant(alloc: Global, state: &State) -> Result<bool, Fail>
+    requires { (queue ann payload : List ℕ) × (state.now ≡ by_hand queue ann payload) }
+{
+    let (part, moves) = killed(alloc, state)?;
+    let none = moves.is_empty();
+    drop(moves);
+    let counts = poured(alloc, part)?;
+    Ok(none && counts == [0, 1])
+}
+
+// Whether it does in that state.
 fn is_killed(alloc: Global) -> Result<bool, Fail> {
     let state = state_by_hand(alloc)?;
-    let (part, moves) = killed(alloc, &state)?;
-    let none = moves.is_empty();
-    Ok(none && poured(alloc, part)? == [0, 1])
+    leaves_registrant(alloc, &state)
 }
 
 // Whether these bytes spell a state with one element and one registrant.
@@ -275,13 +284,23 @@ fn is_read(alloc: Global, spelled: &[u8]) -> Result<bool, Fault> {
     Ok(state.element_count() == 1 && state.registrant_count() == 1)
 }
 
+// What a state spells behind two records, with one element.
+fn spelled(alloc: Global, state: &State) -> Result<Vec<u8>, Fail> {
+    if state.next() != 2 || state.element_count() != 1 {
+        return Err("counts".into());
+    }
+    Ok(spell(alloc, state)?)
+}
+
+// What the built state spells.
+fn spelled_by_hand(alloc: Global) -> Result<Vec<u8>, Fail> {
+    let state = state_by_hand(alloc)?;
+    spelled(alloc, &state)
+}
+
 // Whether the built state spells such a one.
 fn is_spelled(alloc: Global) -> Result<bool, Fail> {
-    let state = state_by_hand(alloc)?;
-    if state.next() != 2 || state.element_count() != 1 {
-        return Ok(false);
-    }
-    let spelled = spell(alloc, &state)?;
+    let spelled = spelled_by_hand(alloc)?;
     Ok(is_read(alloc, &spelled)?)
 }
 

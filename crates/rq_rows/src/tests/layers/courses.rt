@@ -51,8 +51,8 @@ struct Lawful {
     ghost lawful: { all_lawful Two empty (map record_of records.items) ≡ true },
 }
 
-/// The records as far as they are lawful after the state.
-pub(crate) fn lawful_front(
+// The records as far as they are lawful after the state.
+fn lawful_front(
     alloc: Global,
     start: &State,
     mut records: Vec<Record>,
@@ -67,21 +67,29 @@ pub(crate) fn lawful_front(
     Ok(records)
 }
 
+/// The records as far as they are lawful from the start.
+pub(crate) fn lawful_records(alloc: Global, records: Vec<Record>) -> Result<Vec<Record>, Fault>
+    ensures lawful { IfOk result (λ v. all_lawful Two empty (map record_of v.items) ≡ true) }
+    ensures refused { IfErr result (λ e. e ≡ Resources) }
+{
+    let start = State::empty(alloc);
+    lawful_front(alloc, &start, records)
+}
+
 /// The state after the records, as far as they are lawful.
 pub(super) fn state_after<R: Threads + Sync + AllocGlobal>(
     rt: &R,
     records: Vec<Record>,
     plan: &Plan,
 ) -> Result<State, Fault> {
+    let records = lawful_records(rt.alloc(), records)?;
     let start = State::empty(rt.alloc());
-    let records = lawful_front(rt.alloc(), &start, records)?;
     replay(rt, rt.alloc(), &start, &records, plan, &Open)
 }
 
 // The records as far as they are lawful from the start.
 fn lawful_of(alloc: Global, records: Vec<Record>) -> Result<Lawful, Fault> {
-    let start = State::empty(alloc);
-    let records = lawful_front(alloc, &start, records)?;
+    let records = lawful_records(alloc, records)?;
     let records = kept_records(alloc, &records)?;
     Ok(Lawful { records })
 }

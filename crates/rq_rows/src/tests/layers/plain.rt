@@ -104,11 +104,17 @@ pub fn record_of(alloc: Global, plain: &Plain) -> Result<Record, Fail> {
     }
 }
 
-/// The records of a table.
-pub fn records_of(alloc: Global, table: &[Plain]) -> Result<Vec<Record>, Fail> {
-    let mut records = Vec::new(alloc);
+// Lists the records of a table.
+fn list(alloc: Global, table: &[Plain], records: &mut Vec<Record>) -> Result<(), Fail> {
     for plain in table {
         records.push(record_of(alloc, plain)?)?;
     }
+    Ok(())
+}
+
+/// The records of a table.
+pub fn records_of(alloc: Global, table: &[Plain]) -> Result<Vec<Record>, Fail> {
+    let mut records = Vec::new(alloc);
+    list(alloc, table, &mut records)?;
     Ok(records)
 }

@@ -110,17 +110,31 @@ fn is_broken(rule: Rule, want: &Want) -> bool {
     !matches!(rule, Rule::NoKill) && matches!(want, Want::Nothing)
 }
 
+// Whether this becomes of the record.
+fn takes(
+    alloc: Global,
+    standing: &mut Standing,
+    record: &KeptRecord,
+    want: &Want,
+) -> Result<bool, Fail>
+    requires { (version : records.Version) × (s : states.State) × Stands version standing.old s }
+    ensures { IfOk result (λ _.
+        (version : records.Version) × (s : states.State) × Stands version standing.new s) }
+{
+    match standing.take(alloc, record)? {
+        Taken::Unlawful(rule) => Ok(is_broken(rule, want)),
+        Taken::Done(element) => Ok(is_done(element, want)),
+    }
+}
+
 // Whether what is noted beside the record becomes of it.
-fn takes(alloc: Global, standing: &mut Standing, case: &Case) -> Result<bool, Fail>
+fn goes_by(alloc: Global, standing: &mut Standing, case: &Case) -> Result<bool, Fail>
     requires { (version : records.Version) × (s : states.State) × Stands version standing.old s }
     ensures { IfOk result (λ _.
         (version : records.Version) × (s : states.State) × Stands version standing.new s) }
 {
     let record = kept(alloc, &case.1)?;
-    match standing.take(alloc, &record)? {
-        Taken::Unlawful(rule) => Ok(is_broken(rule, &case.0)),
-        Taken::Done(element) => Ok(is_done(element, &case.0)),
-    }
+    takes(alloc, standing, &record, &case.0)
 }
 
 // Whether what is noted beside each record becomes of it.
@@ -130,42 +144,63 @@ fn goes_on(alloc: Global, standing: &mut Standing, cases: &[Case]) -> Result<boo
         (version : records.Version) × (s : states.State) × Stands version standing.new s) }
 {
     for case in cases {
-        if !takes(alloc, standing, case)? {
+        if !goes_by(alloc, standing, case)? {
             return Ok(false);
         }
     }
     Ok(true)
 }
 
-// The state after the records, from this one on. None, if something else became of one than is
-// noted beside it.
-fn stood_from(alloc: Global, start: &State, cases: &[Case]) -> Result<Option<State>, Fail> {
-    let mut standing = Standing::of(alloc, Version::Two, start)?;
-    if !goes_on(alloc, &mut standing, cases)? {
+// The state in which the machine stands behind the records. None, if something else became of one
+// than is noted beside it.
+fn state_behind(
+    alloc: Global,
+    standing: &mut Standing,
+    cases: &[Case],
+) -> Result<Option<State>, Fail>
+    requires { (version : records.Version) × (s : states.State) × Stands version standing.old s }
+{
+    if !goes_on(alloc, standing, cases)? {
         return Ok(None);
     }
     Ok(Some(standing.state(alloc)?))
 }
 
-// The same from the beginning on. Half-way the machine is made anew of its state.
-fn stood(alloc: Global, cases: &[Case]) -> Result<Option<State>, Fail> {
-    let (first, last) = cases.split_at(cases.len() / 2);
-    let mut standing = Standing::new(alloc, Version::Two);
-    if !goes_on(alloc, &mut standing, first)? {
-        return Ok(None);
-    }
-    let state = standing.state(alloc)?;
-    stood_from(alloc, &state, last)
+// The same from this state on.
+fn stood_from(alloc: Global, start: &State, cases: &[Case]) -> Result<Option<State>, Fail> {
+    let mut standing = Standing::of(alloc, Version::Two, start)?;
+    state_behind(alloc, &mut standing, cases)
 }
 
-// The records of which something becomes.
-fn taken(alloc: Global, cases: &[Case]) -> Result<Vec<Record>, Fail> {
-    let mut records = Vec::new(alloc);
+// The same from the beginning on.
+fn stood_at_once(alloc: Global, cases: &[Case]) -> Result<Option<State>, Fail> {
+    let mut standing = Standing::new(alloc, Version::Two);
+    state_behind(alloc, &mut standing, cases)
+}
+
+// The same. Half-way the machine is made anew of its state.
+fn stood(alloc: Global, cases: &[Case]) -> Result<Option<State>, Fail> {
+    let (first, last) = cases.split_at(cases.len() / 2);
+    match stood_at_once(alloc, first)? {
+        Some(state) => stood_from(alloc, &state, last),
+        None => Ok(None),
+    }
+}
+
+// Lists the records of which something becomes.
+fn list_taken(alloc: Global, cases: &[Case], records: &mut Vec<Record>) -> Result<(), Fail> {
     for case in cases {
         if !matches!(case.0, Want::Nothing) {
             records.push(record_of(alloc, &case.1)?)?;
         }
     }
+    Ok(())
+}
+
+// The records of which something becomes.
+fn taken(alloc: Global, cases: &[Case]) -> Result<Vec<Record>, Fail> {
+    let mut records = Vec::new(alloc);
+    list_taken(alloc, cases, &mut records)?;
     Ok(records)
 }
 
@@ -185,7 +220,7 @@ fn spelled(alloc: Global, state: &State) -> Result<Vec<u8>, Fault>
     spell(alloc, state)
 }
 
-fn is_same(alloc: Global, one: &State, other: &State) -> Result<bool, Fault> {
+fn is_same(alloc: Global, one: &State, other: &State) -> Result<bool, Fail> {
     Ok(spelled(alloc, one)? == spelled(alloc, other)?)
 }
 
@@ -196,7 +231,7 @@ fn is_replayed<R: Threads + Sync + AllocGlobal>(
     cases: &[Case],
 ) -> Result<bool, Fail> {
     let replayed = replayed(rt, cases)?;
-    Ok(is_same(rt.alloc(), stood, &replayed)?)
+    is_same(rt.alloc(), stood, &replayed)
 }
 
 // Whether the machine stands in the state that a replay of the records comes to.
@@ -250,14 +285,30 @@ fn is_spelled_by_these_alone(alloc: Global, standing: &Standing, bytes: &[u8]) -
     Ok(standing.is_spelled_by(alloc, bytes)?)
 }
 
-// Whether the machine knows the spelling of its state after the records.
-fn knows_its_spelling(alloc: Global, cases: &[Case]) -> Result<bool, Fail> {
-    let mut standing = Standing::new(alloc, Version::Two);
-    if !goes_on(alloc, &mut standing, cases)? {
+// What the state spells in which the machine stands.
+fn spelled_of(alloc: Global, standing: &Standing) -> Result<Vec<u8>, Fault>
+    requires { (version : records.Version) × (s : states.State) × Stands version standing.now s }
+    ensures { IfOk result (λ v. length v.items ≤ 268435455) }
+{
+    let state = standing.state(alloc)?;
+    spelled(alloc, &state)
+}
+
+// Whether the machine knows the spelling of its state behind the records.
+fn knows_behind(alloc: Global, standing: &mut Standing, cases: &[Case]) -> Result<bool, Fail>
+    requires { (version : records.Version) × (s : states.State) × Stands version standing.old s }
+{
+    if !goes_on(alloc, standing, cases)? {
         return Ok(false);
     }
-    let bytes = spelled(alloc, &standing.state(alloc)?)?;
-    is_spelled_by_these_alone(alloc, &standing, &bytes)
+    let bytes = spelled_of(alloc, standing)?;
+    is_spelled_by_these_alone(alloc, standing, &bytes)
+}
+
+// Whether a new machine does.
+fn knows_its_spelling(alloc: Global, cases: &[Case]) -> Result<bool, Fail> {
+    let mut standing = Standing::new(alloc, Version::Two);
+    knows_behind(alloc, &mut standing, cases)
 }
 
 #[test]
@@ -271,21 +322,28 @@ fn it_knows_the_spelling_of_its_state(rt: HostRuntime) -> Result<(), Fail> {
     Ok(())
 }
 
-// Whether the machine after the records knows its version, the number of the next record, and how
+// Whether the machine behind the records knows its version, the number of the next record, and how
 // much room its state needs at least.
-fn knows_its_numbers(alloc: Global, cases: &[Case]) -> Result<bool, Fail> {
-    let mut standing = Standing::new(alloc, Version::Two);
-    if !goes_on(alloc, &mut standing, cases)? {
+fn has_its_numbers(alloc: Global, standing: &mut Standing, cases: &[Case]) -> Result<bool, Fail>
+    requires { (version : records.Version) × (s : states.State) × Stands version standing.old s }
+{
+    if !goes_on(alloc, standing, cases)? {
         return Ok(false);
     }
-    let state = standing.state(alloc)?;
-    let bytes = spelled(alloc, &state)?;
+    let next = standing.state(alloc)?.next();
+    let length = spelled_of(alloc, standing)?.len();
     Ok(
         matches!(standing.version(), Version::Two)
-            && standing.next() == state.next()
-            && standing.fits(bytes.len())
+            && standing.next() == next
+            && standing.fits(length)
             && !standing.fits(51),
     )
+}
+
+// Whether a new machine does.
+fn knows_its_numbers(alloc: Global, cases: &[Case]) -> Result<bool, Fail> {
+    let mut standing = Standing::new(alloc, Version::Two);
+    has_its_numbers(alloc, &mut standing, cases)
 }
 
 #[test]
@@ -299,12 +357,19 @@ fn it_knows_its_numbers(rt: HostRuntime) -> Result<(), Fail> {
     Ok(())
 }
 
-// Whether the machine of the version names the rule that there is no KILL.
-fn has_no_kill(alloc: Global, version: Version) -> Result<bool, Fail> {
+// Whether the machine names the rule that there is no KILL.
+fn names_no_kill(alloc: Global, standing: &mut Standing) -> Result<bool, Fail>
+    requires { (version : records.Version) × (s : states.State) × Stands version standing.old s }
+{
     let kill = kept(alloc, &Kill(0, 1))?;
-    let mut standing = Standing::new(alloc, version);
     let taken = standing.take(alloc, &kill)?;
     Ok(matches!(taken, Taken::Unlawful(Rule::NoKill)))
+}
+
+// Whether that of the version does.
+fn has_no_kill(alloc: Global, version: Version) -> Result<bool, Fail> {
+    let mut standing = Standing::new(alloc, version);
+    names_no_kill(alloc, &mut standing)
 }
 
 // Whether that of version 1 does, and that of version 2 does not.

@@ -7,7 +7,7 @@ ghost use Rattle.rq_record.specs.Views.{record_of};
 
 use super::sweeping::{Call, is_right};
 use super::{MAKE_TWO, log_in};
-use crate::tests::layers::courses::lawful_front;
+use crate::tests::layers::courses::lawful_records;
 use rq_exchange::replay;
 use rq_front::{Span, walk};
 use rq_record::{Record, Version, decode_in};
@@ -32,13 +32,12 @@ fn record_at(alloc: Global, log: &[u8], span: &Span) -> Result<Record, Fail> {
     Ok(decode_in(alloc, Version::Two, body)?)
 }
 
-// The records whose bodies are there.
-fn records_at(alloc: Global, log: &[u8], spans: &[Span]) -> Result<Vec<Record>, Fail> {
-    let mut records = Vec::new(alloc);
+// Lists the records whose bodies are there.
+fn list(alloc: Global, log: &[u8], spans: &[Span], records: &mut Vec<Record>) -> Result<(), Fail> {
     for span in spans {
         records.push(record_at(alloc, log, span)?)?;
     }
-    Ok(records)
+    Ok(())
 }
 
 // The records of a log of version 2, as its frames stand.
@@ -47,7 +46,9 @@ fn records_of(alloc: Global, log: &[u8]) -> Result<Vec<Record>, Fail> {
         return Err("header".into());
     }
     let found = walk(alloc, log, 40)?;
-    records_at(alloc, log, found.spans())
+    let mut records = Vec::new(alloc);
+    list(alloc, log, found.spans(), &mut records)?;
+    Ok(records)
 }
 
 // Records that are lawful from the start.
@@ -59,8 +60,7 @@ struct Lawful {
 
 // The records as far as they are lawful from the start.
 fn lawful_of(alloc: Global, records: Vec<Record>) -> Result<Lawful, Fault> {
-    let start = State::empty(alloc);
-    let records = lawful_front(alloc, &start, records)?;
+    let records = lawful_records(alloc, records)?;
     Ok(Lawful { records })
 }
 
