@@ -8,8 +8,9 @@ A wrong body is an edit of `crates/NAME/must-fail`, which `rt ci` tries too, of 
 `in-turn` in that. It must be refused by a goal of a function that it changes: one that stays open, or whose answer no longer proves it. It
 fails if it is not refused, if it is refused only in another function or since a proof file names what it took away, or if it no
 longer applies.
-With no words all are tried. --write then writes the receipt of each crate whose wrong bodies were all tried and all refused
-(`crates/NAME/wrong-bodies/receipt`), the only file in the checkout that is written. --said keeps what each check said.
+With no words all are tried. --write then writes the receipt of each crate of which one was refused
+(`crates/NAME/wrong-bodies/receipt`), the only file in the checkout that is written. It tells of each that was refused, and of those
+that were not tried what it told before, if the crate and those below it are the same since. --said keeps what each check said.
 --receipt proves nothing: it holds each wrong body against its receipt, which is of the toolchain's logic, of this text of the
 edit, of the crate and of all crates below it. --gate does that too, but tries all wrong bodies of crates that are not what their
 receipt is of, those of `each-time` of all crates, and of those of `in-turn` a few of one crate, drawn anew in each run. Then it
@@ -26,7 +27,7 @@ sys.dont_write_bytecode = True
 from wrong.checks import Tried, stop, tried
 from wrong.edits import EACH_TIME, IN_TURN, OTHERS, Batch, Edit, applied, batches_of, edits_of, few_of
 from wrong.places import places
-from wrong.receipts import Sums, gone, held, made_of, receipt_of, written
+from wrong.receipts import Sums, beside, gone, held, made_of, receipt_of, written
 from wrong.verdicts import Verdict
 
 TOP = os.path.dirname(os.path.dirname(os.path.abspath(__file__)))
@@ -147,10 +148,13 @@ class Run:
                 raise
 
     def write(self) -> None:
-        """Writes the receipts of the crates whose wrong bodies were all tried and refused."""
+        """Writes the receipts of the crates of which a wrong body was refused. What a receipt tells of those that were not tried
+        stays, if it is of the same sums and texts."""
         for crate, edits in self.edits.items():
-            if edits and all(it in self.found and self.found[it].is_refused for it in edits):
-                written(TOP, crate, made_of(self.sums, crate, {it: self.found[it] for it in edits}))
+            refused = {it: self.found[it] for it in edits if it in self.found and self.found[it].is_refused}
+            if refused:
+                others = [it for it in edits if it not in self.found]
+                written(TOP, crate, beside(self.sums, crate, others, made_of(self.sums, crate, refused)))
 
 
 def wanted_of(run: Run, words: List[str]) -> List[Batch]:

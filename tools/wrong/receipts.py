@@ -109,9 +109,19 @@ def receipt_of(top: str, crate: str) -> Receipt:
 
 
 def made_of(sums: Sums, crate: str, verdicts: Dict[Edit, Verdict]) -> Receipt:
-    """The receipt that these verdicts on all wrong bodies of the crate come to."""
+    """The receipt that these verdicts on wrong bodies of the crate come to."""
     lines = {it.name: Line(edit_sum(it), verdict.function, verdict.told) for it, verdict in verdicts.items()}
     return Receipt(logic(), sums.crate(crate), lines)
+
+
+def beside(sums: Sums, crate: str, others: List[Edit], made: Receipt) -> Receipt:
+    """The receipt, and what the one that stands tells of these other wrong bodies, if that is of the same sums and texts."""
+    stands = receipt_of(sums.top, crate)
+    if (stands.logic, stands.crate) != (made.logic, made.crate):
+        return made
+    told = {it.name: stands.lines[it.name] for it in others if it.name in stands.lines}
+    kept = {it.name: told[it.name] for it in others if it.name in told and told[it.name].sum == edit_sum(it)}
+    return made._replace(lines={**kept, **made.lines})
 
 
 def held(sums: Sums, crate: str, edits: List[Edit]) -> Tuple[bool, Dict[str, str]]:
