@@ -506,18 +506,20 @@ def threads_of_audits(shim: str, long: str) -> None:
     the log is long, and no more than `close`, which redoes no queue. But if records before a checkpoint are many beside what
     stands, they are redone on the workers: that starts one thread for each but the first, which no audit of the same log without
     its checkpoint does. With every plan it says the same."""
+    # (the same log without its checkpoint stands beside the one whose records are redone on the workers)
     untold = log_of(amid(b""), "untold")
-    for log, count, is_long in [(told_log(), 150, False), (redone_log(), 7, False), (long, 0, True), ("halfway.log", 1, True)]:
+    logs = [(told_log(), 150, False, ""), (redone_log(), 7, False, ""), (long, 0, True, ""), ("halfway.log", 1, True, untold)]
+    for log, count, is_long, without in logs:
         alone = run("audit", log, 1)
         counted = alone[0], alone[1].count(b" true\n"), alone[1].count(b"\n")
         check(f"audit of {count} true checkpoints", counted, (0, count, count))
         for workers in [1, 2, 3, 4, 7]:
             started, _ = threads_of(shim, "audit", log, workers)
-            closing, _ = threads_of(shim, "close", log, "audited.closed", workers)
-            fewer, _ = threads_of(shim, "audit", untold, workers)
-            redoing = started - fewer if log == "halfway.log" else max(0, started - closing)
+            other = ["audit", without] if without else ["close", log, "audited.closed"]
+            more = started - threads_of(shim, *other, workers)[0]
+            told = more if without else max(0, more)
             name = f"threads of an audit of {count} checkpoints with {workers} workers"
-            check(name, (started > 0, redoing), (is_long and workers > 1, workers - 1 if log == "halfway.log" else 0))
+            check(name, (started > 0, told), (is_long and workers > 1, workers - 1 if without else 0))
             same = run("audit", log, workers) == alone
             check(f"audit of {count} true checkpoints with {workers} workers", same, True)
 

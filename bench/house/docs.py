@@ -10,7 +10,8 @@ block, are all that it prints, on standard output and standard error. Each sessi
 one folder, which has `rq`, `rqlook`, `rqlog`, `examples` and `bench` of the clone and starts without any other file; `./rq` is then a link.
 A fenced block that names `./rq` and is no such session is counted as a difference. Other blocks are not run.
 
-With --program, --look and --write a built program stands in the place of a root script. The last line is `N passed, M failed`, by commands.
+With --program, --look and --write a built program stands in the place of a root script. Without them a root script whose program
+in dist/ is not of these sources proves and builds it first, which takes half an hour. The last line is `N passed, M failed`, by commands.
 """
 from __future__ import annotations
 import argparse, glob, os, subprocess, sys, tempfile
