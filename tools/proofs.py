@@ -87,9 +87,12 @@ def side_by_side(rt: Any, tasks: Dict[Hashable, Any]) -> Dict[Hashable, Any]:
 def main() -> int:
     # It reads its words as it is loaded.
     sys.argv = ["rt", "ci"]
-    rt = loaded("rt_main", "rt")
-    if all(hasattr(rt, it) for it in ("in_lanes", "processors", "free", "ending")):
-        rt.in_lanes = lambda tasks: side_by_side(rt, tasks)
+    try:
+        rt = loaded("rt_main", "rt")
+        rt.in_lanes, rt.processors, rt.free, rt.ending, rt.main
+    except (SyntaxError, AttributeError):
+        os.execvp("rt", ["rt", "ci"])
+    rt.in_lanes = lambda tasks: side_by_side(rt, tasks)
     return rt.main(["ci"])
 
 
