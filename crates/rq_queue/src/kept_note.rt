@@ -1,6 +1,6 @@
 //! A note as a queue keeps it.
 
-ghost use Rattle.std.specs.Prelude.{◌≡◌, ◌==◌, IfOk, IfErr};
+ghost use Rattle.std.specs.Prelude.{◌≡◌, ◌==◌, ◌&&◌, IfOk, IfErr};
 ghost use Rattle.rq_model.specs.States as model;
 ghost use Rattle.rq_record.specs.declared.fault.Fault.TheVariants.{Resources};
 
@@ -101,6 +101,20 @@ impl KeptNote {
         ensures { result ≡ (self.now.unit == unit.0) }
     {
         self.held.unit.0 == unit.0
+    }
+
+    /// Whether it is of the unit, and on the queue.
+    pub(crate) fn is_by_at(&self, unit: UnitNo, queue: QueueNo) -> bool
+        ensures { result ≡ ((self.now.unit == unit.0) && (self.now.queue == queue.0)) }
+    {
+        self.held.unit.0 == unit.0 && self.held.queue.0 == queue.0
+    }
+
+    /// The name of its registrant.
+    pub(crate) fn name(&self) -> &KeptName
+        ensures { result.now ≡ self.now.name }
+    {
+        &self.held.name
     }
 
     /// The operation.

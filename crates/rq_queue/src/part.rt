@@ -41,7 +41,9 @@ pub struct Part {
 }
 
 impl Model for Part {
+    ghost use Rattle.std.specs.Prelude.{map};
     ghost use Rattle.rq_model.specs.Queues as queues;
+    ghost use Rattle.rq_queue.specs.Roll.{registrant_of};
 
     ghost Value = { queues.Part };
 
@@ -49,7 +51,7 @@ impl Model for Part {
       queue = p.queue.0;
       definition = p.definition;
       elements = p.elements;
-      registrants = p.registrants;
+      registrants = map (registrant_of p.queue.0) p.registrants;
       notes = p.notes;
     } };
 }
@@ -64,13 +66,12 @@ impl Part {
         state.is_well_formed();
         let definition = state.definition(queue.0 as usize).copied();
         let elements = state.copied_elements_of(alloc, queue)?;
-        let registrants = state.copied_registrants_of(alloc, queue)?;
         let notes = state.copied_notes_of(alloc, queue)?;
         Ok(Part {
             queue,
             definition,
             elements: Elements::of(alloc, elements)?,
-            registrants: Registrants::of(alloc, registrants)?,
+            registrants: Registrants::of(alloc, state, queue)?,
             notes: Notes::of(alloc, notes)?,
         })
     }
@@ -110,7 +111,7 @@ impl Part {
     {
         let alloc = *fields.elements.allocator();
         let elements = self.elements.list_told(alloc)?;
-        let registrants = self.registrants.list(alloc)?;
+        let registrants = self.registrants.list_told(alloc, self.queue)?;
         let notes = self.notes.list(alloc)?;
         add_members(fields, elements, registrants, notes)
     }
@@ -122,7 +123,7 @@ impl Part {
     {
         let alloc = *fields.elements.allocator();
         let elements = self.elements.list(alloc)?;
-        let registrants = self.registrants.list(alloc)?;
+        let registrants = self.registrants.list(alloc, self.queue)?;
         let notes = self.notes.list(alloc)?;
         add_members(fields, elements, registrants, notes)
     }
@@ -135,7 +136,7 @@ impl Part {
     {
         let alloc = *fields.elements.allocator();
         let elements = self.elements.copies(alloc)?;
-        let registrants = self.registrants.copies(alloc)?;
+        let registrants = self.registrants.copies(alloc, self.queue)?;
         let notes = self.notes.copies(alloc)?;
         add_members(fields, elements, registrants, notes)
     }
@@ -169,7 +170,7 @@ impl Part {
     pub fn compare_registrants(&self, bytes: &mut Compared<'_>)
         ensures { bytes.new ≡ left_after (flat_map registrant_bytes self.now.registrants) bytes.old }
     {
-        self.registrants.compare(bytes);
+        self.registrants.compare(self.queue, bytes);
     }
 
     /// The room that its members leave of so many bytes, each member spelled in its shortest form.
@@ -244,7 +245,7 @@ impl Part {
         ensures refused { IfErr result (λ e. e ≡ Resources) }
     {
         let heard = self.notes.take(alloc, unit)?;
-        self.registrants.hear(alloc, unit, &heard)?;
+        self.registrants.hear(alloc, self.queue, unit, &heard)?;
         // The elements need room for themselves, and the unit may have many of both.
         drop(heard);
         self.elements.commit(alloc, unit)
@@ -273,21 +274,21 @@ impl Part {
         Ok(())
     }
 
-    fn register(&mut self, alloc: Global, queue: QueueNo, name: &Name) -> Result<(), Fault>
+    fn register(&mut self, alloc: Global, name: &Name) -> Result<(), Fault>
         ensures done { OnOk result
-            (self.new ≡ redo_words.act 0 (records.Register queue.0 name.now) self.old) }
+            (self.new ≡ redo_words.act 0 (records.Register self.old.queue name.now) self.old) }
         ensures refused { IfErr result (λ e. e ≡ Resources) }
     {
-        self.registrants.register(alloc, queue, name)
+        self.registrants.register(alloc, name)
     }
 
-    fn deregister(&mut self, alloc: Global, queue: QueueNo, name: &Name) -> Result<(), Fault>
+    fn deregister(&mut self, alloc: Global, name: &Name) -> Result<(), Fault>
         ensures done { OnOk result
-            (self.new ≡ redo_words.act 0 (records.Deregister queue.0 name.now) self.old) }
+            (self.new ≡ redo_words.act 0 (records.Deregister self.old.queue name.now) self.old) }
         ensures refused { IfErr result (λ e. e ≡ Resources) }
     {
-        self.registrants.deregister(alloc, queue, name)?;
-        self.notes.forget(alloc, queue, name)
+        self.registrants.deregister(alloc, name)?;
+        self.notes.forget(alloc, self.queue, name)
     }
 
     fn kill(&mut self, alloc: Global, queue: QueueNo, element: ElemId) -> Result<(), Fault>
@@ -313,8 +314,8 @@ impl Part {
         match op.record() {
             KeptRecord::Define { .. } | KeptRecord::Begin { .. } | KeptRecord::Checkpoint { .. } =>
                 Ok(()),
-            KeptRecord::Register { queue, name } => self.register(alloc, *queue, &name.name()),
-            KeptRecord::Deregister { queue, name } => self.deregister(alloc, *queue, &name.name()),
+            KeptRecord::Register { name, .. } => self.register(alloc, &name.name()),
+            KeptRecord::Deregister { name, .. } => self.deregister(alloc, &name.name()),
             KeptRecord::Enqueue {
                 unit,
                 queue,

@@ -1,6 +1,7 @@
 pub mod Comparing
 pub mod Inside
 pub mod Keeping
+pub mod KeptRegistrants
 pub mod Laws
 pub mod Orders
 pub mod Reading

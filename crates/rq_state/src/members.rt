@@ -1,7 +1,6 @@
 //! What a state is made of.
 
 ghost use Rattle.std.specs.Prelude.{◌≡◌};
-ghost use Rattle.rq_model.specs.States as model;
 
 use rq_record::{ElemId, Name, Payload, QueueNo, UnitNo};
 use std::marker::Model;
@@ -210,34 +209,4 @@ impl Model for Registrant {
     ghost Value = { model.Registrant };
 
     ghost view = { λ r. record { queue = r.queue.0; name = r.name; last = r.last } };
-}
-
-impl Registrant {
-    /// Its queue and name, by which registrants are ordered.
-    pub fn key(&self) -> (u32, Name)
-        ensures { result ≡ (self.now.queue, self.now.name) }
-    {
-        (self.queue.0, self.name)
-    }
-
-    /// Whether it comes before the other, by queue and then by name.
-    pub(crate) fn is_before(&self, other: &Registrant) -> bool
-        ensures { result ≡ model.registrant_before self.now other.now }
-    {
-        self.queue.0 < other.queue.0 || (self.queue.0 == other.queue.0 && self.name < other.name)
-    }
-
-    /// The same registrant again.
-    pub fn copied(&self) -> Registrant
-        ensures { result ≡ self.now }
-    {
-        Registrant {
-            queue: self.queue,
-            name: self.name,
-            last: match &self.last {
-                Some(last) => Some(last.copied()),
-                None => None,
-            },
-        }
-    }
 }

@@ -12,7 +12,8 @@ ghost use Rattle.rq_state.specs.Views.{unit_of};
 
 use crate::fields::{Fields, KeptFields};
 use crate::kept_element::KeptElement;
-use crate::members::{Definition, Note, Registrant};
+use crate::kept_registrant::KeptRegistrant;
+use crate::members::{Definition, Note};
 use crate::orders::{order, order_registrants, order_units};
 use crate::tables::{listed_at, table_of};
 use rq_record::{Fault, QueueNo, UnitNo};
@@ -163,7 +164,7 @@ impl State {
     }
 
     /// The registrants, by queue and name.
-    pub fn registrants(&self) -> &[Registrant]
+    pub fn registrants(&self) -> &[KeptRegistrant]
         ensures { result.now ≡ self.now.registrants }
     {
         &self.fields.registrants

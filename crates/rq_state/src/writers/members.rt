@@ -1,6 +1,6 @@
 //! Appends members of a state to what is spelled already.
 
-ghost use Rattle.std.specs.Prelude.{◌≡◌, ◌++◌, ◌∷◌, [], ℕ, List, length};
+ghost use Rattle.std.specs.Prelude.{◌≡◌, ◌++◌, ◌∷◌, [], ℕ, List, length, option_map};
 ghost use Rattle.std.specs.Int.{w16, w64, to_be_bytes};
 ghost use Rattle.rq_model.specs.StateSpelling.{name_bytes, element_number, kind_byte};
 ghost use Rattle.rq_model.specs.StateSpelling.{definition_bytes, last_bytes, registrant_bytes};
@@ -9,7 +9,8 @@ ghost use Rattle.rq_state.specs.Views.{mark_of};
 ghost use Rattle.rq_state.specs.Writing.{PutsSpelling};
 
 use crate::kept_element::KeptElement;
-use crate::members::{Definition, Last, Mark, Note, Registrant};
+use crate::kept_registrant::KeptRegistrant;
+use crate::members::{Definition, Last, Mark, Note};
 use crate::writers::output::{put_id, put_kind, put_name, put_payload};
 use crate::writers::sizes::{definition_size, element_size, note_size, registrant_size};
 use rq_bytes::{put_u8, put_u16, put_u32, put_u64};
@@ -56,8 +57,9 @@ fn put_operation(out: &mut Vec<u8>, last: &Last) -> Result<(), AllocError>
     put_operation_end(out, last)
 }
 
-fn put_last(out: &mut Vec<u8>, last: &Option<Last>) -> Result<(), AllocError>
-    ensures { PutsSpelling out.old.items out.new.items (last_bytes last.now) result }
+fn put_last(out: &mut Vec<u8>, last: Option<&Last>) -> Result<(), AllocError>
+    ensures { PutsSpelling out.old.items out.new.items
+        (last_bytes (option_map (λ l. l.now) last.entry)) result }
 {
     match last {
         None => put_u8(out, 0),
@@ -73,12 +75,15 @@ pub(crate) fn put_definition(out: &mut Vec<u8>, definition: &Definition) -> Resu
     put_name(out, &definition.name)
 }
 
-pub(crate) fn put_registrant(out: &mut Vec<u8>, registrant: &Registrant) -> Result<(), AllocError>
+pub(crate) fn put_registrant(
+    out: &mut Vec<u8>,
+    registrant: &KeptRegistrant,
+) -> Result<(), AllocError>
     ensures { PutsSpelling out.old.items out.new.items (registrant_bytes registrant.now) result }
 {
-    put_u32(out, registrant.queue.0)?;
-    put_name(out, &registrant.name)?;
-    put_last(out, &registrant.last)
+    put_u32(out, registrant.queue().0)?;
+    put_name(out, &registrant.name().name())?;
+    put_last(out, registrant.last())
 }
 
 fn put_element_end(out: &mut Vec<u8>, element: &KeptElement) -> Result<(), AllocError>
@@ -155,7 +160,7 @@ impl Spell for Definition {
     }
 }
 
-impl Spell for Registrant {
+impl Spell for KeptRegistrant {
     ghost spelling = { registrant_bytes };
 
     fn put(&self, out: &mut Vec<u8>) -> Result<(), AllocError> {

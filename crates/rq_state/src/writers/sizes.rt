@@ -1,6 +1,6 @@
 //! How long a spelling is, known before its first byte is written.
 
-ghost use Rattle.std.specs.Prelude.{◌≡◌, ◌≤◌, ◌*◌, length, map};
+ghost use Rattle.std.specs.Prelude.{◌≡◌, ◌≤◌, ◌*◌, length, map, option_map};
 ghost use Rattle.std.specs.List.{flat_map};
 ghost use Rattle.std.specs.Int.{w64, to_be_bytes};
 ghost use Rattle.rq_model.specs.StateSpelling.{definition_bytes, last_bytes, registrant_bytes};
@@ -10,7 +10,8 @@ ghost use Rattle.rq_state.specs.Views.{mark_of, unit_of};
 
 use crate::fields::KeptFields;
 use crate::kept_element::KeptElement;
-use crate::members::{Definition, Last, Mark, Note, Registrant};
+use crate::kept_registrant::KeptRegistrant;
+use crate::members::{Definition, Last, Mark, Note};
 use crate::state::State;
 use crate::writers::members::Spell;
 use rq_record::UnitNo;
@@ -34,8 +35,8 @@ pub(crate) fn definition_size(definition: &Definition) -> u32
     SHORTEST_DEFINITION + definition.name.bytes().len() as u32
 }
 
-fn last_size(last: &Option<Last>) -> u32
-    ensures size { result ≡ length (last_bytes last.now) }
+fn last_size(last: Option<&Last>) -> u32
+    ensures size { result ≡ length (last_bytes (option_map (λ l. l.now) last.entry)) }
     ensures small { result ≤ 25 }
 {
     match last {
@@ -44,10 +45,10 @@ fn last_size(last: &Option<Last>) -> u32
     }
 }
 
-pub(crate) fn registrant_size(registrant: &Registrant) -> u32
+pub(crate) fn registrant_size(registrant: &KeptRegistrant) -> u32
     ensures { result ≡ length (registrant_bytes registrant.now) }
 {
-    SHORTEST_REGISTRANT - 1 + registrant.name.bytes().len() as u32 + last_size(&registrant.last)
+    SHORTEST_REGISTRANT - 1 + registrant.name().bytes().len() as u32 + last_size(registrant.last())
 }
 
 fn mark_size(mark: Mark) -> u32

@@ -131,11 +131,11 @@ fn has_registrant(state: &State) -> bool {
         return false;
     }
     let registrant = state.registrant(0);
-    let last = match &registrant.last {
+    let last = match registrant.last() {
         Some(last) => last.kind == OpKind::Enqueue && last.tag == 70 && last.place == 3,
         None => false,
     };
-    last && registrant.name.bytes() == b"ann".as_slice()
+    last && registrant.name().bytes() == b"ann".as_slice()
 }
 
 // Whether that is the state after the records.
