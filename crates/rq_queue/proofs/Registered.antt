@@ -240,40 +240,38 @@ module _ (queue : ℕ) (rs : List Registrant) (at : ℕ → Registrant) (indices
   abbrev pub Rolling : List RollEntry → ℕ → Type 0
   Rolling es i = map (registrant_of queue) es ++ map at (drop i indices) ≡ map at indices
 
-  next_one : (es : List RollEntry) (i index : ℕ) (r : Registrant) → i < length indices
-      → index ≡ slice_index_or indices i index → r ≡ at index → Rolling es i
+  next_one : (es : List RollEntry) (i d : ℕ) (r : Registrant) → i < length indices
+      → r ≡ at (slice_index_or indices i d) → Rolling es i
       → map (registrant_of queue) es ++ r ∷ map at (drop (i + 1) indices) ≡ map at indices
-  next_one es i index r l is e h =
+  next_one es i d r l e h =
       ap (λ (x : Registrant). map (registrant_of queue) es ++ x ∷ map at (drop (i + 1) indices)) e
-      ∙ (ap (λ (js : List ℕ). map (registrant_of queue) es ++ map at js)
-      (ap (λ j. j ∷ drop (i + 1) indices) is ∙ sym (drop_more indices i index l)) ∙ h)
+      ∙ (ap (λ (js : List ℕ). map (registrant_of queue) es ++ map at js) (sym (drop_more indices i d l)) ∙ h)
 
-  is_own : (es : List RollEntry) (i index : ℕ) (r : Registrant) → i < length indices
-      → index ≡ slice_index_or indices i index → r ≡ at index → Rolling es i → r.queue ≡ queue
-  is_own es i index r l is e h = own_queue queue rs (map (registrant_of queue) es) r (map at (drop (i + 1) indices))
-      (next_one es i index r l is e h ∙ are)
+  is_own : (es : List RollEntry) (i d : ℕ) (r : Registrant) → i < length indices
+      → r ≡ at (slice_index_or indices i d) → Rolling es i → r.queue ≡ queue
+  is_own es i d r l e h = own_queue queue rs (map (registrant_of queue) es) r (map at (drop (i + 1) indices))
+      (next_one es i d r l e h ∙ are)
 
   -- the next name comes after all so far
-  pub comes_last : (es : List RollEntry) (i index : ℕ) (r : Registrant) → i < length indices
-      → index ≡ slice_index_or indices i index → r ≡ at index → Rolling es i
-      → Ordered (λ a b. registrant_before a b ≡ true) rs
+  pub comes_last : (es : List RollEntry) (i d : ℕ) (r : Registrant) → i < length indices
+      → r ≡ at (slice_index_or indices i d) → Rolling es i → Ordered (λ a b. registrant_before a b ≡ true) rs
       → AllByRecursion (λ (e : RollEntry). name_before e.0 r.name ≡ true) es
-  comes_last es i index r l is e h up = names_before queue es r (is_own es i index r l is e h)
+  comes_last es i d r l e h up = names_before queue es r (is_own es i d r l e h)
       (all_before (map (registrant_of queue) es) r (map at (drop (i + 1) indices))
-      (subst (Ordered (λ a b. registrant_before a b ≡ true)) (sym (next_one es i index r l is e h ∙ are))
+      (subst (Ordered (λ a b. registrant_before a b ≡ true)) (sym (next_one es i d r l e h ∙ are))
       (ordered_filter (λ a b. registrant_before a b ≡ true) (λ x. x.queue == queue) rs up)))
 
-  pub rolls_on : (old new : List RollEntry) (i index : ℕ) (r : Registrant) → i < length indices
-      → index ≡ slice_index_or indices i index → r ≡ at index → Rolling old i
-      → new ≡ old ++ (r.name, r.last) ∷ [] → Rolling new (i + 1)
-  rolls_on old new i index r l is e h grown =
-      let own = is_own old i index r l is e h in
+  pub rolls_on : (old new : List RollEntry) (i d : ℕ) (r : Registrant) → i < length indices
+      → r ≡ at (slice_index_or indices i d) → Rolling old i → new ≡ old ++ (r.name, r.last) ∷ []
+      → Rolling new (i + 1)
+  rolls_on old new i d r l e h grown =
+      let own = is_own old i d r l e h in
       let rest = map at (drop (i + 1) indices) in
       ap (λ (es : List RollEntry). map (registrant_of queue) es ++ rest) grown
       ∙ (ap (λ (xs : List Registrant). xs ++ rest) (map-append (registrant_of queue) old ((r.name, r.last) ∷ []))
       ∙ (append_assoc (map (registrant_of queue) old) (registrant_of queue (r.name, r.last) ∷ []) rest
       ∙ (ap (λ q. map (registrant_of queue) old ++ (record { queue = q; name = r.name; last = r.last }) ∷ rest) (sym own)
-      ∙ next_one old i index r l is e h)))
+      ∙ next_one old i d r l e h)))
 
   pub rolled : (es : List RollEntry) (i : ℕ) → length indices ≤ i → Rolling es i
       → map (registrant_of queue) es ≡ registrants_at queue rs

@@ -39,18 +39,18 @@ returns-clause-done c =
     let own = sym c.is_by_at.ensures ∙ c.if-not-is_by_at.false in
     let seen = ap (λ (es : List RollEntry). map (heard unit n) (map (registrant_of queue) es)) c.self.view_is in
     elim c.match-get_mut.branch [
-  | in-Some+in_ok-hear w ↦ let was = w.in-Some.last.now in
-      let found = subst (λ (k : List ℕ). lookup (is_at (slice_cmp nat_cmp k)) es ≡ Some was)
-      c.name.ensures (sym w.in-Some.ensures.value) in
-      ap (λ (a : Inside). map (registrant_of queue) a.lasts.entries) w.self-inside-is
-      ∙ (ap (map (registrant_of queue)) ((c.get_mut.follows.holds w.hear.new.self).0
-      ∙ (λ i. set_value (is_at (slice_cmp nat_cmp (c.name.ensures i))) es
-      ((w.in_ok-hear.ensures.later ∙ ap (later was) w.last.ensures) i)))
-      ∙ (one_hears unit queue n was es c.self.invariant own found ∙ seen))
-  | in_default w ↦
-      let none = subst (λ (k : List ℕ). lookup (is_at (slice_cmp nat_cmp k)) es ≡ None)
-      c.name.ensures (sym w.in_default.ensures.value) in
-      ap (λ (a : Inside). map (registrant_of queue) a.lasts.entries) w.self-inside-is
-      ∙ (ap (λ m. map (registrant_of queue) m.entries) c.get_mut.follows.holds-at-none
-      ∙ (nobody_hears unit queue n es own none ∙ seen))
-]
+      | in-Some+in_ok-hear w ↦ let was = w.in-Some.last.now in
+          let found = subst (λ (k : List ℕ). lookup (is_at (slice_cmp nat_cmp k)) es ≡ Some was)
+          c.name.ensures (sym w.in-Some.ensures.value) in
+          ap (λ (a : Inside). map (registrant_of queue) a.lasts.entries) w.self-inside-is
+          ∙ (ap (map (registrant_of queue)) ((c.get_mut.follows.holds w.hear.new.self).0
+          ∙ (λ i. set_value (is_at (slice_cmp nat_cmp (c.name.ensures i))) es
+          ((w.in_ok-hear.ensures.later ∙ ap (later was) w.last.ensures) i)))
+          ∙ (one_hears unit queue n was es c.self.invariant own found ∙ seen))
+      | in_default w ↦
+          let none = subst (λ (k : List ℕ). lookup (is_at (slice_cmp nat_cmp k)) es ≡ None)
+          c.name.ensures (sym w.in_default.ensures.value) in
+          ap (λ (a : Inside). map (registrant_of queue) a.lasts.entries) w.self-inside-is
+          ∙ (ap (λ m. map (registrant_of queue) m.entries) c.get_mut.follows.holds-at-none
+          ∙ (nobody_hears unit queue n es own none ∙ seen))
+    ]
