@@ -1,5 +1,5 @@
 pub mod Restarts
-pub mod FrontsAt
+pub mod FoundFronts
 pub mod RedoneFronts
 pub mod Tails
 pub mod Upgrades
