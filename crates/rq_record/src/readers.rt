@@ -6,7 +6,7 @@ ghost use Rattle.std.specs.Prelude.{◌≡◌, ◌+◌, ◌≤◌, [], length, s
 ghost use Rattle.rq_bytes.specs.Readers.{made};
 ghost use Rattle.rq_model.specs.Records.{One, Checkpoint};
 ghost use Rattle.rq_model.specs.RecordReading.{name_left, who_read, define_from, define_read};
-ghost use Rattle.rq_model.specs.RecordReading.{register_from, deregister_from, registration_read};
+ghost use Rattle.rq_model.specs.RecordReading.{registration_read};
 ghost use Rattle.rq_model.specs.RecordReading.{unit_read, enqueue_from, enqueue_read, dequeue_from};
 ghost use Rattle.rq_model.specs.RecordReading.{dequeue_read, checkpoint_read, kill_from, kill_read};
 ghost use Rattle.rq_model.specs.RecordReading.{at_most, record_behind, record_read};
@@ -70,29 +70,13 @@ fn define(alloc: Global, bytes: Cursor<'_>) -> Result<KeptRecord, Fault>
 }
 
 #[tactic(auto, unfolding(rq_model::specs::RecordReading::registration_read))]
-fn register(alloc: Global, bytes: Cursor<'_>) -> Result<KeptRecord, Fault>
-    ensures { KeepsRead record_of result (made register_from registration_read bytes.entry) }
+fn registration(alloc: Global, bytes: Cursor<'_>) -> Result<(QueueNo, KeptName), Fault>
+    ensures { KeepsRead (λ r. (r.0.0, r.1)) result (registration_read bytes.entry) }
 {
     let mut bytes = bytes;
     let queue = bytes.u32().ok_or(Fault::Form)?;
     let name = name_left(alloc, bytes)?;
-    Ok(KeptRecord::Register {
-        queue: QueueNo(queue),
-        name,
-    })
-}
-
-#[tactic(auto, unfolding(rq_model::specs::RecordReading::registration_read))]
-fn deregister(alloc: Global, bytes: Cursor<'_>) -> Result<KeptRecord, Fault>
-    ensures { KeepsRead record_of result (made deregister_from registration_read bytes.entry) }
-{
-    let mut bytes = bytes;
-    let queue = bytes.u32().ok_or(Fault::Form)?;
-    let name = name_left(alloc, bytes)?;
-    Ok(KeptRecord::Deregister {
-        queue: QueueNo(queue),
-        name,
-    })
+    Ok((QueueNo(queue), name))
 }
 
 #[tactic(auto, unfolding(rq_model::specs::RecordReading::unit_read))]
@@ -162,23 +146,7 @@ fn dequeue(alloc: Global, bytes: Cursor<'_>) -> Result<KeptRecord, Fault>
     })
 }
 
-#[tactic(auto, unfolding(rq_model::specs::RecordReading::at_most))]
-fn check_bytes(
-    alloc: Global,
-    log: &LogBytes<'_>,
-    end: usize,
-    bytes: Cursor<'_>,
-) -> Result<CheckBytes, Fault>
-    requires { EndsAt log.now end bytes }
-    ensures { KeepsRead (λ b. b) result (at_most 268435455 bytes.entry) }
-{
-    match CheckBytes::before(alloc, log, end, bytes.rest())? {
-        Some(bytes) => Ok(bytes),
-        None => Err(Fault::Form),
-    }
-}
-
-#[tactic(auto, unfolding(rq_model::specs::RecordReading::checkpoint_read))]
+#[tactic(auto, unfolding(rq_model::specs::RecordReading::at_most, rq_model::specs::RecordReading::checkpoint_read))]
 fn checkpoint(
     alloc: Global,
     log: &LogBytes<'_>,
@@ -188,8 +156,10 @@ fn checkpoint(
     requires { EndsAt log.now end bytes }
     ensures { KeepsRead record_of result (made Checkpoint checkpoint_read bytes.entry) }
 {
-    let bytes = check_bytes(alloc, log, end, bytes)?;
-    Ok(KeptRecord::Checkpoint { bytes })
+    match CheckBytes::before(alloc, log, end, bytes.rest())? {
+        Some(bytes) => Ok(KeptRecord::Checkpoint { bytes }),
+        None => Err(Fault::Form),
+    }
 }
 
 #[tactic(auto, unfolding(rq_model::specs::RecordReading::kill_read))]
@@ -224,8 +194,14 @@ fn of_kind(
 {
     match kind {
         1 => define(alloc, bytes),
-        2 => register(alloc, bytes),
-        3 => deregister(alloc, bytes),
+        2 => {
+            let (queue, name) = registration(alloc, bytes)?;
+            Ok(KeptRecord::Register { queue, name })
+        }
+        3 => {
+            let (queue, name) = registration(alloc, bytes)?;
+            Ok(KeptRecord::Deregister { queue, name })
+        }
         4 => Ok(KeptRecord::Begin {
             unit: unit(bytes).ok_or(Fault::Form)?,
         }),
@@ -303,10 +279,7 @@ pub fn decode_kept(alloc: Global, version: Version, body: &[u8]) -> Result<KeptR
     decode_before(alloc, version, &LogBytes::borrowed(body), body.len(), body)
 }
 
-/// The record that a body of this version spells.
-///
-/// `Form` is returned exactly if the body spells none; this is found before memory is asked for.
-/// `Resources` is returned if the body spells one whose names or bytes could not be kept.
+/// The record that a body of this version spells. Refused as `decode_kept` is.
 pub fn decode_in(alloc: Global, version: Version, body: &[u8]) -> Result<Record, Fault>
     ensures decodes { Decodes (version_of version) body.now result }
 {
