@@ -1,7 +1,7 @@
 //! The catalogue of a state.
 
 ghost use Rattle.std.specs.Prelude.{◌≡◌, ℕ, ◌==◌, ◌&&◌, ◌||◌, ◌<◌, [], map, IfOk, IfErr};
-ghost use Rattle.std.specs.Prelude.{length, OnOk, Some, None, false, if◌then◌else◌};
+ghost use Rattle.std.specs.Prelude.{OnOk, Some, None, false, if◌then◌else◌};
 ghost use Rattle.std.specs.List.{list_any};
 ghost use Rattle.std.specs.Ordering.{nat_cmp};
 ghost use Rattle.std.specs.BTreeSet as ordered;
@@ -9,7 +9,6 @@ ghost use Rattle.rq_model.specs.WellFormed.{Ordered, IsWellFormed};
 ghost use Rattle.rq_record.specs.declared.fault.Fault.TheVariants.{Resources};
 ghost use Rattle.rq_state.specs.Views.{unit_of};
 ghost use Rattle.rq_catalog.specs.declared.outcome.Outcome.TheVariants.{Open};
-ghost use Rattle.rq_state.specs.Orders.{listed};
 ghost use Rattle.rq_catalog.specs.Catalogues.{Follows};
 ghost use Rattle.rq_catalog.specs.Members.{is_marked_at, is_noted_at};
 ghost use Rattle.rq_catalog.specs.Units.{numbers, has_unit, outcome_at, engages_at};
@@ -18,7 +17,7 @@ use crate::catalogue::Catalogue;
 use crate::grounds::Grounds;
 use crate::units::Units;
 use rq_record::{Fault, UnitNo};
-use rq_state::{KeptElement, Mark, Note, State};
+use rq_state::{KeptElement, Mark, Note, State, empty_lists};
 use std::alloc::Global;
 use std::collections::BTreeSet;
 
@@ -92,18 +91,6 @@ fn engage_by_notes(units: &mut Units, notes: &[Note]) -> Result<(), Fault>
     Ok(())
 }
 
-fn touching_of(alloc: Global, count: usize) -> Result<Vec<Vec<(u64, usize)>>, Fault>
-    ensures len { IfOk result (λ touching. length touching.items ≡ count) }
-    ensures listed { IfOk result (λ touching. (q : ℕ) → listed touching.items q ≡ []) }
-    ensures refused { IfErr result (λ e. e ≡ Resources) }
-{
-    let mut touching = Vec::new(alloc);
-    while touching.len() < count {
-        touching.push(Vec::new(alloc))?;
-    }
-    Ok(touching)
-}
-
 /// The catalogue of a state, before any record.
 pub(crate) fn catalogue_of(alloc: Global, state: &State) -> Result<Catalogue, Fault>
     requires { IsWellFormed state.now }
@@ -114,7 +101,7 @@ pub(crate) fn catalogue_of(alloc: Global, state: &State) -> Result<Catalogue, Fa
     let mut units = units_of(alloc, state.units())?;
     engage_by_marks(&mut units, state.elements())?;
     engage_by_notes(&mut units, state.notes())?;
-    let touching = touching_of(alloc, state.definition_count())?;
+    let touching = empty_lists(alloc, state.definition_count())?;
     Ok(Catalogue {
         grounds,
         committed: state.committed(),

@@ -29,6 +29,7 @@ pub use members::{Definition, Element, Last, Mark, Note, OpKind, Registrant};
 pub use orders::{Ordinal, order};
 pub use readers::{read, read_in};
 pub use state::State;
+pub use tables::empty_lists;
 pub use writers::{
     SHORTEST_DEFINITION, SHORTEST_ELEMENT, SHORTEST_NOTE, SHORTEST_REGISTRANT, SHORTEST_STATE,
     SHORTEST_UNIT, spell, spelled_len,

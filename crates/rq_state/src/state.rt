@@ -35,7 +35,7 @@ impl Model for State {
 
     ghost use Rattle.rq_model.specs.WellFormed.{IsWellFormed};
     ghost use Rattle.rq_state.specs.Inside.{state_of};
-    ghost use Rattle.rq_state.specs.Tables.{IsTabled};
+    ghost use Rattle.rq_state.specs.Orders.{IsTabled};
 
     ghost view = { λ s. state_of s.fields };
 
