@@ -20,4 +20,4 @@ mod thread_work;
 
 pub use course::Course;
 pub use gathered::AllRedone;
-pub use replays::{redo_analysed, replay, replay_analysed};
+pub use replays::{front_redone, redo_analysed, replay, replay_analysed};
