@@ -11,7 +11,7 @@ ghost use Rattle.rq_queue.specs.Kept.{sent_from};
 ghost use Rattle.rq_record.specs.declared.fault.Fault.TheVariants.{Resources};
 ghost use Rattle.rq_state.specs.Views.{id_of};
 
-use crate::lent::{LentElement, copied, lend_free, lend_marked};
+use crate::lent::{LentElement, copied, lend_marked, lend_values};
 use crate::moves::{KeptMove, send};
 use crate::priorities::{kept_with, learn, take_out};
 use crate::rooms::{room_after, room_after_marked};
@@ -103,7 +103,7 @@ impl Elements {
         ensures lent { OnOk result (IsPermutation (lent.old.items ++ self.now) lent.new.items) }
         ensures refused { IfErr result (λ e. e ≡ Resources) }
     {
-        lend_free(lent, &self.free)?;
+        lend_values(lent, &self.free)?;
         lend_marked(lent, &self.marked)?;
         Ok(())
     }

@@ -8,7 +8,6 @@ mod kept_last;
 mod kept_note;
 mod keys;
 mod lent;
-mod lent_notes;
 mod lists;
 mod moves;
 mod notes;
@@ -24,8 +23,7 @@ mod shelves;
 mod whose;
 
 pub use elements::Elements;
-pub use lent::LentElement;
-pub use lent_notes::LentNote;
+pub use lent::{Lent, LentElement, LentNote};
 pub use moves::{KeptMove, Move};
 pub use notes::Notes;
 pub use operations::{KeptOp, KeptOps, Op};

@@ -16,8 +16,7 @@ ghost use Rattle.rq_queue.specs.Pouring.{Pours};
 ghost use Rattle.rq_queue.specs.Rooms.{member_bytes};
 
 use crate::elements::Elements;
-use crate::lent::LentElement;
-use crate::lent_notes::LentNote;
+use crate::lent::{LentElement, LentNote};
 use crate::moves::KeptMove;
 use crate::notes::Notes;
 use crate::operations::KeptOp;
