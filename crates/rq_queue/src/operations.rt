@@ -109,45 +109,21 @@ impl<'a> KeptOps<'a> {
     }
 }
 
-/// Operations with records of their own, made for a caller's.
-#[derive(Drop)]
-pub(crate) struct OwnOps {
-    records: Vec<KeptRecord>,
-    touching: Vec<(u64, usize)>,
-}
-
-impl Model for OwnOps {
-    ghost use Rattle.std.specs.Prelude.{◌<◌, List, All, length, map};
-    ghost use Rattle.rq_model.specs.Queues as queues;
-    ghost use Rattle.rq_queue.specs.Ops.{ops_at};
-    ghost use Rattle.rq_record.specs.Views.{record_of};
-
-    ghost Value = { List queues.Op };
-
-    ghost view = { λ o. ops_at (map record_of o.records.items) o.touching.items };
-
-    ghost invariant = { λ o. All (λ p. p.1 < length o.records.items) o.touching.items };
-}
-
-impl OwnOps {
-    /// Keeps the records of the operations.
-    pub(crate) fn of(alloc: Global, ops: &[Op]) -> Result<OwnOps, Fault>
-        ensures kept { IfOk result (λ v. v ≡ ops.now) }
-        ensures refused { IfErr result (λ e. e ≡ Resources) }
-    {
-        let mut records = Vec::with_capacity(alloc, ops.len())?;
-        let mut touching = Vec::with_capacity(alloc, ops.len())?;
-        for op in ops {
-            touching.push((op.place, records.len()))?;
-            records.push(KeptRecord::of(alloc, op.rec)?)?;
-        }
-        Ok(OwnOps { records, touching })
+/// Keeps the records of the operations: these, and the place of each operation with the index of its
+/// record.
+pub(crate) fn kept_ops(
+    alloc: Global,
+    ops: &[Op],
+) -> Result<(Vec<KeptRecord>, Vec<(u64, usize)>), Fault>
+    ensures within { IfOk result (λ r. All (λ p. p.1 < length r.0.items) r.1.items) }
+    ensures kept { IfOk result (λ r. ops_at (map record_of r.0.items) r.1.items ≡ ops.now) }
+    ensures refused { IfErr result (λ e. e ≡ Resources) }
+{
+    let mut records = Vec::with_capacity(alloc, ops.len())?;
+    let mut touching = Vec::with_capacity(alloc, ops.len())?;
+    for op in ops {
+        touching.push((op.place, records.len()))?;
+        records.push(KeptRecord::of(alloc, op.rec)?)?;
     }
-
-    /// The operations, lent.
-    pub(crate) fn lent(&self) -> KeptOps<'_>
-        ensures { result ≡ self.now }
-    {
-        KeptOps::new(&self.records, &self.touching)
-    }
+    Ok((records, touching))
 }

@@ -10,7 +10,7 @@ ghost use Rattle.rq_record.specs.declared.fault.Fault.TheVariants.{Resources};
 ghost use Rattle.rq_queue.specs.Case.{AreRising, HasCase, RedoesTo, RedoSends};
 
 use crate::moves::{KeptMove, Move, kept_moves, told_moves};
-use crate::operations::{KeptOps, Op, OwnOps};
+use crate::operations::{KeptOps, Op, kept_ops};
 use crate::part::Part;
 use rq_record::{Fault, KeptRecord};
 use std::alloc::Global;
@@ -131,8 +131,8 @@ pub fn redo(
     ensures moves { IfOk result (λ r. RedoSends part ops.now arrivals.items r.1.items) }
     ensures refused { IfErr result (λ e. e ≡ Resources) }
 {
-    let own = OwnOps::of(alloc, ops)?;
-    let ops = own.lent();
+    let (records, touching) = kept_ops(alloc, ops)?;
+    let ops = KeptOps::new(&records, &touching);
     let arrivals = kept_moves(alloc, &arrivals)?;
     let (part, moves) = redo_kept(alloc, part, &ops, arrivals)?;
     let moves = told_moves(alloc, &moves)?;
