@@ -26,8 +26,6 @@ struct Held {
 }
 
 impl Model for KeptNote {
-    ghost use Rattle.rq_model.specs.States as model;
-
     ghost Value = { model.Note };
 
     ghost view = { λ n. record {

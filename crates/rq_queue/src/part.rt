@@ -34,11 +34,9 @@ use std::marker::Model;
 pub struct Part {
     queue: QueueNo,
     definition: Definition,
-    /// Its elements.
-    pub elements: Elements,
+    elements: Elements,
     registrants: Registrants,
-    /// Its notes.
-    pub notes: Notes,
+    notes: Notes,
 }
 
 impl Model for Part {

@@ -29,6 +29,10 @@ state_in_order s = record s {
   notes = put_in_order place_before s.notes;
 }
 
+-- the members of a list at these indices
+abbrev pub AreAt : {X : Type 0} → List X → List ℕ → List X → Type 0
+AreAt {X} all indices members = (x : X) → map (λ index. slice_index_or all index x) indices ≡ members
+
 -- the indices of those that pass the test, counted from n
 abbrev pub indices_of : {X : Type 0} → (X → Bool) → ℕ → List X → List ℕ
 indices_of p n [] = []

@@ -124,8 +124,6 @@ pub struct Note {
 }
 
 impl Model for Note {
-    ghost use Rattle.rq_model.specs.States as model;
-
     ghost Value = { model.Note };
 
     ghost view = { λ n. record {
@@ -175,8 +173,6 @@ pub struct Definition {
 }
 
 impl Model for Definition {
-    ghost use Rattle.rq_model.specs.States as model;
-
     ghost Value = { model.Definition };
 
     ghost view = { λ d. record { limit = d.limit; error = d.error.0; name = d.name } };
