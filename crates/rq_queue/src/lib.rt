@@ -24,7 +24,7 @@ mod whose;
 
 pub use elements::Elements;
 pub use lent::{Lent, LentElement, LentNote};
-pub use moves::{KeptMove, Move};
+pub use moves::{KeptMove, Move, MoveOf};
 pub use notes::Notes;
 pub use operations::{KeptOp, KeptOps, Op};
 pub use part::Part;

@@ -9,7 +9,7 @@ ghost use Rattle.rq_model.specs.Redo as redo_words;
 ghost use Rattle.rq_record.specs.declared.fault.Fault.TheVariants.{Resources};
 ghost use Rattle.rq_queue.specs.Case.{AreRising, HasCase, Redoes};
 
-use crate::moves::{KeptMove, Move, kept_moves, told_moves};
+use crate::moves::{KeptMove, Move, moves_of};
 use crate::operations::{KeptOps, Op, kept_ops};
 use crate::part::Part;
 use rq_record::{Fault, KeptRecord};
@@ -132,9 +132,9 @@ pub fn redo(
 {
     let (records, touching) = kept_ops(alloc, ops)?;
     let ops = KeptOps::new(&records, &touching);
-    let arrivals = kept_moves(alloc, &arrivals)?;
+    let arrivals = moves_of(alloc, &arrivals)?;
     let (part, moves) = redo_kept(alloc, part, &ops, arrivals)?;
-    let moves = told_moves(alloc, &moves)?;
+    let moves = moves_of(alloc, &moves)?;
     Ok((part, moves))
 }
 
