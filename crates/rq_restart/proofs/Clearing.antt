@@ -1,5 +1,5 @@
 -- What the first record spells does nothing: records do the same without it.
-use Rattle.std.proofs.Common.{◌≡◌, ℕ, ◌+◌, Bool, ◌&&◌, List, [], ◌∷◌, ◌++◌, map, refl, sym, ap, ◌∙◌, subst}
+use Rattle.std.proofs.Common.{◌≡◌, ℕ, ◌+◌, Bool, ◌&&◌, List, [], ◌∷◌, ◌++◌, length, map, refl, sym, ap, ◌∙◌, subst}
 use Rattle.std.specs.Prelude.{◌||◌, if◌then◌else◌}
 use Rattle.std.specs.List.{list_any}
 use Rattle.rq_model.specs.Records.{Record, Define, Register, Deregister, Begin, Enqueue, Dequeue, Commit, Abort}
@@ -39,6 +39,10 @@ lawful_cleared version s (Dequeue v p by ∷ rs) = refl
 lawful_cleared version s (Commit v ∷ rs) = refl
 lawful_cleared version s (Abort v ∷ rs) = refl
 lawful_cleared version s (Kill p i ∷ rs) = refl
+
+pub length_cleared : (rs : List Record) → length (first_cleared rs) ≡ length rs
+length_cleared [] = refl
+length_cleared (r ∷ rs) = refl
 
 -- a checkpoint before a record engages nothing, whatever it spells
 touches_behind : (s : State) (q : ℕ) (bytes : List ℕ) (before : List Record) (r : Record)
