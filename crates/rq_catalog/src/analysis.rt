@@ -132,8 +132,7 @@ impl Analysis {
         let mut catalogue = self.catalogue;
         for index in 0..units.len() {
             let place = count + index;
-            let abort = KeptRecord::Abort { unit: units[index] };
-            catalogue.take(alloc, &abort, (start + place as u64, place))?;
+            catalogue.abort(alloc, units[index], (start + place as u64, place))?;
         }
         let lawful = count + units.len();
         Ok((Analysis { lawful, catalogue }, units))

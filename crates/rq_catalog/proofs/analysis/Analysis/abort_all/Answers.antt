@@ -22,3 +22,27 @@ are c = records_with_aborts c.args.records.now c.in_ok-units.units.items
 
 are_lawful : (c : In_ok-units) → all_lawful Two c.args.state.now (map record_of (all c)) ≡ true
 are_lawful c = subst (λ (l : List model.Record). all_lawful Two c.args.state.now l ≡ true) (sym (are c)) c.requires.lawful
+
+-- the catalogue follows the records
+first_follows : (c : In_ok-units) → Follows c.args.self.catalogue c.args.state.now
+    (upto (length c.args.records.now) (all c))
+first_follows c =
+    let rs = map record_of c.args.records.now in
+    let first = records_first c.args.records.now c.in_ok-units.units.items in
+    let lawful = subst (λ (l : List model.Record). all_lawful Two c.args.state.now l ≡ true) first
+    (lawful_upto Two c.args.state.now (all c) (length c.args.records.now) (are_lawful c)) in
+    subst (Follows c.args.self.catalogue c.args.state.now) (front_whole Two c.args.state.now rs lawful ∙ sym first)
+    c.requires.analysed.catalogue
+
+as_many : (c : In_ok-units) → length (all c) ≡ length c.args.records.now + length c.in_ok-units.units.items
+as_many c = omega (
+  arith,
+  length-append c.args.records.now (map abort c.in_ok-units.units.items),
+  length-map c.in_ok-units.units.items abort,
+)
+
+pub loop-index-init : goal.loop-index-init
+loop-index-init c =
+    let d = (goal.at.loop-index-init c).In_ok-units in
+    (omega arith, subst (λ (n : ℕ). Follows c.args.self.catalogue c.args.state.now (upto n (all d)))
+    (omega arith) (first_follows d))
