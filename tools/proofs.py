@@ -89,8 +89,9 @@ def main() -> int:
     sys.argv = ["rt", "ci"]
     try:
         rt = loaded("rt_main", "rt")
-        rt.in_lanes, rt.processors, rt.free, rt.ending, rt.main
-    except (SyntaxError, AttributeError):
+    except (OSError, SyntaxError, ValueError):
+        rt = None
+    if not all(hasattr(rt, it) for it in ("in_lanes", "processors", "free", "ending", "main")):
         os.execvp("rt", ["rt", "ci"])
     rt.in_lanes = lambda tasks: side_by_side(rt, tasks)
     return rt.main(["ci"])
