@@ -6,17 +6,19 @@ ghost use Rattle.rq_model.specs.Machine.{run, all_lawful};
 ghost use Rattle.rq_record.specs.Views.{record_of};
 ghost use Rattle.rq_record.specs.declared.fault.Fault.TheVariants.{Resources};
 ghost use Rattle.rq_catalog.specs.Analyses.{IsAnalysis};
+ghost use Rattle.rq_exchange.specs.Agendas.{IsAgenda};
 ghost use Rattle.rq_exchange.specs.Courses.{StartsByLast};
 ghost use Rattle.rq_exchange.specs.Gathering.{AreParts, IsRedoneTo};
 ghost use Rattle.rq_exchange.specs.Jobs.{IsJob, records_of, errors_in};
 
+use crate::agenda::Agenda;
 use crate::board::placed;
 use crate::chain::CountdownChain;
 use crate::closings::close_countdowns;
 use crate::course::Course;
 use crate::crew::all_kept;
 use crate::deals::tasks_of;
-use crate::gathered::{AllRedone, fields_after};
+use crate::gathered::AllRedone;
 use crate::jobs::Job;
 use crate::links::{errors_of, sources_of};
 use rq_catalog::{Analysis, analyse_kept};
@@ -101,10 +103,7 @@ pub fn replay_analysed<R: Threads + Sync, G: Gate + Sync>(
 }
 
 /// The queues after the records, which are analysed, redone as in `replay_analysed`, and how that
-/// went, only for contracts: each queue was redone by one thread, once, and each error queue by the
-/// one thread whose arrival was the last of its sources. Of the analysis only the lists of records
-/// that touch each queue are kept while queues are redone. The records are most of a restart's
-/// memory; they may then be dropped, before the state is gathered. Refused only with `Resources`.
+/// went: `redo` of their agenda. Refused only with `Resources`.
 pub fn redo_analysed<R: Threads + Sync, G: Gate + Sync>(
     rt: &R,
     alloc: Global,
@@ -122,11 +121,35 @@ pub fn redo_analysed<R: Threads + Sync, G: Gate + Sync>(
         (map (λ d. d.error) (run state.now (map record_of records.now)).definitions) r.1) }
     ensures refused { IfErr result (λ e. e ≡ Resources) }
 {
+    let agenda = Agenda::of(alloc, state, records.len(), analysis)?;
+    redo(rt, alloc, state, records, agenda, plan, gate)
+}
+
+/// The queues after the records, whose agenda this is, and how their redo went, only for contracts:
+/// each queue was redone by one thread, once, and each error queue by the one thread whose arrival
+/// was the last of its sources. The records are most of a restart's memory; they may be dropped
+/// before the state is gathered. Refused only with `Resources`.
+pub fn redo<R: Threads + Sync, G: Gate + Sync>(
+    rt: &R,
+    alloc: Global,
+    state: &State,
+    records: &[KeptRecord],
+    agenda: Agenda,
+    plan: &Plan,
+    gate: &G,
+) -> Result<(AllRedone, Course), Fault>
+    requires lawful { all_lawful Two state.now (map record_of records.now) ≡ true }
+    requires fits { state.now.next + length records.now < 2 ^ 64 }
+    requires agenda { IsAgenda state.now (map record_of records.now) agenda }
+    ensures redone { IfOk result (λ r. IsRedoneTo (run state.now (map record_of records.now)) r.0) }
+    ensures course { IfOk result (λ r. StartsByLast
+        (map (λ d. d.error) (run state.now (map record_of records.now)).definitions) r.1) }
+    ensures refused { IfErr result (λ e. e ≡ Resources) }
+{
     rq_model::runs_are_well_formed();
     rq_model::numbers_after();
     state.is_well_formed();
-    let fields = fields_after(alloc, state, records, &analysis)?;
-    let touching = analysis.into_touching();
+    let Agenda { fields, touching } = agenda;
     let definitions = fields.definitions.as_slice();
     let errors = errors_of(alloc, definitions)?;
     let (sources, ranks) = sources_of(alloc, errors.len(), &errors)?;

@@ -1,6 +1,6 @@
 //! The bytes of a checkpoint record.
 
-ghost use Rattle.std.specs.Prelude.{◌≡◌, ◌≤◌, ◌↔◌, length, IsSome, IfSome, IfOk, IfErr};
+ghost use Rattle.std.specs.Prelude.{◌≡◌, ◌≤◌, ◌↔◌, [], length, IsSome, IfSome, IfOk, IfErr};
 ghost use Rattle.rq_record.specs.LogParts.{EndsAt};
 ghost use Rattle.rq_record.specs.declared.fault.Fault.TheVariants.{Resources};
 
@@ -52,6 +52,13 @@ impl CheckBytes {
         }
         let bytes = Kept::Own(bytes);
         Some(CheckBytes { bytes })
+    }
+
+    /// Lets go of the bytes: there are none then. Takes no memory.
+    pub fn clear(&mut self, alloc: Global)
+        ensures { self.new ≡ [] }
+    {
+        self.bytes = Kept::Own(Vec::new(alloc));
     }
 
     /// The last bytes before an end in a log: a part of it if that is shared, else a copy.

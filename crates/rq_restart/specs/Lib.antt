@@ -1,3 +1,4 @@
+pub mod Cleared
 pub mod Restarts
 pub mod FrontsAt
 pub mod RedoneFronts

@@ -1,67 +1,46 @@
-use Rattle.std.proofs.Common.{◌≡◌, ◌≤◌, ◌+◌, List, length, map, take, ap, ◌∙◌, arith}
+use Rattle.std.proofs.Common.{◌≡◌, ◌≤◌, ◌+◌, ◌++◌, List, length, map, ap, refl, ◌∙◌, arith}
 use Rattle.std.proofs.lemmas.List.{length-map}
 use Rattle.rq_model.specs.Records as model
 use Rattle.rq_model.specs.Machine.{run}
 use Rattle.rq_record.specs.Views.{record_of, version_of}
-use Rattle.rq_catalog.specs.Analyses.{IsAnalysis, open_in}
+use Rattle.rq_state.specs.Views.{unit_of}
+use Rattle.rq_catalog.specs.Analyses.{open_in}
 use Rattle.rq_catalog.proofs.Runs.{front_whole}
-use Rattle.rq_catalog.proofs.Fronts.{analysis_of_beginning}
+use Rattle.rq_catalog.proofs.Fronts.{analysis_is_wider, lawful_in_two}
 use Rattle.rq_judged.specs.Views.{why_of}
 use Rattle.rq_restart.proofs.Closings.{AreClosed, closed, answered}
 use Rattle.rq_restart.proofs.restart_ends.finish.Goals as goal
-use Rattle.rq_restart.proofs.restart_ends.finish.Goals.{In_ok-records}
+use Rattle.rq_restart.proofs.restart_ends.finish.Goals.{After-versions}
 
-abbrev before : (g : _) → In_ok-records g → List model.Record
+abbrev before : (g : _) → After-versions g → List model.Record
 before g c = map record_of c.args.front.records.items
 
+-- the records, and behind them the aborts of the units that are open then
+abbrev all : (g : _) → After-versions g → List model.Record
+all g c = before g c ++ map model.Abort (open_in c.args.front.analysis)
+
 -- the pass found the units that are open after the records
-are_open : (g : _) (c : In_ok-records g) → open_in c.args.front.analysis ≡ (run c.args.state (before g c)).units
+are_open : (g : _) (c : After-versions g) → open_in c.args.front.analysis ≡ (run c.args.state (before g c)).units
 are_open g c = c.requires.analysis.units
     ∙ ap (λ (xs : List model.Record). (run c.args.state xs).units)
     (front_whole (version_of c.args.version) c.args.state (before g c) c.requires.lawful)
 
-are_closed : (g : _) (c : In_ok-records g)
-    → AreClosed (version_of c.args.version) c.args.state (before g c) (map record_of c.in_ok-records.records.items)
+are_closed : (g : _) (c : After-versions g)
+    → AreClosed (version_of c.args.version) c.args.state (before g c) (all g c)
 are_closed g c = closed (version_of c.args.version) c.crash_is_harmless.ensures c.runs_are_well_formed.ensures.runs
-    c.args.state (before g c) _ (open_in c.args.front.analysis) c.requires.well c.requires.lawful
-    (are_open g c) c.in_ok-records.ensures.records
+    c.args.state (before g c) (all g c) (open_in c.args.front.analysis) c.requires.well c.requires.lawful
+    (are_open g c) refl
 
--- the records that were analysed are the beginning of those with the aborts
-begins : (g : _) (c : In_ok-records g) → (c.args.front.analysis.lawful ≤ length c.in_ok-records.records.items)
-    × IsAnalysis (version_of c.args.version) c.args.state
-    (map record_of (take c.args.front.analysis.lawful c.in_ok-records.records.items)) c.args.front.analysis
-begins g c = analysis_of_beginning (version_of c.args.version) c.args.state (before g c)
-    (map model.Abort (open_in c.args.front.analysis)) c.in_ok-records.records.items c.args.front.analysis
-    c.requires.lawful c.requires.analysis c.in_ok-records.ensures.records
-
-pub redone-requires-clause-lawful : goal.redone-requires-clause-lawful
-redone-requires-clause-lawful g c κs within = (are_closed g c).lawful
-
-pub redone-requires-clause-within : goal.redone-requires-clause-within
-redone-requires-clause-within g c κs within = (begins g c).0
-
-pub redone-requires-clause-analysed : goal.redone-requires-clause-analysed
-redone-requires-clause-analysed g c κs within = (begins g c).1
-
-pub returns-clause-answer : goal.returns-clause-answer
-returns-clause-answer g c =
+-- there are no more open units than records
+few : (g : _) (c : After-versions g)
+    → length (open_in c.args.front.analysis) ≤ c.args.state.next + length c.args.front.records.items
+few g c =
+    let version = version_of c.args.version in
     let s = c.args.state in
-    let d = (goal.at.returns-clause-answer g c).In_ok-records in
-    let rs = before g d in
-    let next : c.next.result + c.len.result ≡ s.next + length rs =
     omega (
       arith,
-      c.next.ensures.next,
-      c.len.ensures,
-      c.args.front.records.ok.0,
+      (c.runs_are_well_formed.ensures.runs version s (before g c) c.requires.well c.requires.lawful).counts,
+      (c.numbers_after.ensures version s (before g c) c.requires.well c.requires.lawful).next,
+      ap length (are_open g c),
       length-map c.args.front.records.items record_of,
-    ) in
-    let here = front_whole (version_of c.args.version) s rs c.requires.lawful in
-    answered (version_of c.args.version) c.numbers_after.ensures s c.in_ok-state.state rs
-    (map record_of c.in_ok-records.records.items) _ _ _ _ _ _ _ (open_in c.args.front.analysis)
-    (why_of c.args.front.why) c.requires.well c.requires.lawful (are_closed g d) c.in_ok-state.ensures.state
-    (omega (arith, c.requires.within)) next
-    (c.committed-committed.ensures ∙ c.requires.analysis.committed
-    ∙ ap (λ (xs : List model.Record). (run s xs).committed) here)
-    (c.aborted-aborted.ensures ∙ c.requires.analysis.aborted ∙ ap (λ (xs : List model.Record). (run s xs).aborted) here)
-    (are_open g d) c.in_ok-records.ensures.count
+    )

@@ -1,39 +1,43 @@
-use Rattle.std.proofs.Common.{◌≤◌, List, length, map, take, sym, subst}
-use Rattle.rq_model.specs.Records.{Two}
-use Rattle.rq_model.specs.Machine.{run}
-use Rattle.rq_record.specs.Views.{Record, record_of, version_of}
-use Rattle.rq_catalog.specs.Analyses.{IsAnalysis}
-use Rattle.rq_catalog.proofs.Fronts.{analysis_is_wider}
+use Rattle.std.proofs.Common.{◌≡◌, List, length, map, sym, ap, ◌∙◌, subst, arith}
+use Rattle.std.proofs.lemmas.List.{length-map}
+use Rattle.rq_model.specs.Records as model
+use Rattle.rq_model.specs.Machine.{run, all_lawful}
+use Rattle.rq_record.specs.Views.{record_of}
+use Rattle.rq_exchange.specs.Agendas.{IsAgenda}
 use Rattle.rq_exchange.specs.Gathering.{IsRedoneTo}
+use Rattle.rq_restart.proofs.Clearing.{run_cleared, lawful_cleared, agenda_cleared, length_cleared}
 use Rattle.rq_restart.proofs.restart_ends.redone.Goals as goal
 
-pub go_on-requires-clause-within : goal.go_on-requires-clause-within
-go_on-requires-clause-within g c =
-    subst (λ (xs : List Record). c.args.analysis.lawful ≤ length xs) (sym c.deref.ensures.value) c.requires.within
+pub redo-requires-clause-lawful : goal.redo-requires-clause-lawful
+redo-requires-clause-lawful g c κs within =
+    let rs = map record_of c.args.records.items in
+    subst (λ (xs : List model.Record). all_lawful model.Two c.args.state xs ≡ true) (sym c.clear_first.ensures)
+    (lawful_cleared model.Two c.args.state rs ∙ c.requires.lawful)
 
-pub go_on-requires-clause-analysed : goal.go_on-requires-clause-analysed
-go_on-requires-clause-analysed g c =
-    subst (λ (xs : List Record). IsAnalysis (version_of c.args.version) c.args.state
-    (map record_of (take c.args.analysis.lawful xs)) c.args.analysis) (sym c.deref.ensures.value) c.requires.analysed
+pub redo-requires-clause-fits : goal.redo-requires-clause-fits
+redo-requires-clause-fits g c κs within =
+    omega (
+      arith,
+      c.requires.fits,
+      length-map c.args.records.items record_of,
+      length-map c.clear_first.new.records.items record_of,
+      ap length c.clear_first.ensures,
+      length_cleared (map record_of c.args.records.items),
+    )
 
-pub redo_analysed-requires-clause-analysis : goal.redo_analysed-requires-clause-analysis
-redo_analysed-requires-clause-analysis g c κs within =
-    let s = c.args.state in
-    let all = c.args.records.items in
-    let here = subst (λ (xs : List Record). IsAnalysis (version_of c.args.version) s
-    (map record_of xs) c.in_ok-analysis.analysis) c.deref.ensures.value c.in_ok-analysis.ensures.analysis in
-    subst (λ (xs : List Record). IsAnalysis Two s (map record_of xs) c.in_ok-analysis.analysis)
-    (sym c.deref-2.ensures.value)
-    (analysis_is_wider c.versions.ensures.two (version_of c.args.version) s
-    (map record_of all) c.in_ok-analysis.analysis c.requires.lawful here)
+pub redo-requires-clause-agenda : goal.redo-requires-clause-agenda
+redo-requires-clause-agenda g c κs within =
+    subst (λ (xs : List model.Record). IsAgenda c.args.state xs c.args.agenda) (sym c.clear_first.ensures)
+    (agenda_cleared c.args.state (map record_of c.args.records.items) c.args.agenda c.requires.agenda)
 
 pub gather-requires : goal.gather-requires
 gather-requires g c =
-    record { redone = (run c.args.state (map record_of c.deref-2.result.now), c.in_ok-all.ensures.redone) }
+    record { redone = (run c.args.state (map record_of c.clear_first.new.records.items), c.in_ok-all.ensures.redone) }
 
 pub returns-clause-state : goal.returns-clause-state
 returns-clause-state g c =
     let s = c.args.state in
-    c.gather.ensures.state (run s (map record_of c.args.records.items))
-    (subst (λ (xs : List Record). IsRedoneTo (run s (map record_of xs)) c.in_ok-all.all) c.deref-2.ensures.value
+    let rs = map record_of c.args.records.items in
+    c.gather.ensures.state (run s rs)
+    (subst (λ (t : _). IsRedoneTo t c.in_ok-all.all) (ap (run s) c.clear_first.ensures ∙ run_cleared s rs)
     c.in_ok-all.ensures.redone)
