@@ -2,14 +2,14 @@
 
 ghost use Rattle.std.specs.Prelude.{◌≡◌, ℕ, ◌&&◌, Bool, List, not, is_some, nat_eq, IfOk, IfErr};
 ghost use Rattle.std.specs.Prelude.{OnOk, ◌<◌, nat_lt, nat_le, length};
-ghost use Rattle.std.specs.List.{list_any};
-ghost use Rattle.std.specs.Str.{bytes_eq};
-ghost use Rattle.std.specs.Cmp.Lexicographic.{pointwise};
-ghost use Rattle.std.specs.Ordering.{nat_cmp};
 ghost use Rattle.std.specs.BTreeSet as ordered;
+ghost use Rattle.std.specs.Cmp.Lexicographic.{pointwise};
+ghost use Rattle.std.specs.List.{list_any};
+ghost use Rattle.std.specs.Ordering.{nat_cmp};
+ghost use Rattle.std.specs.Str.{bytes_eq};
 ghost use Rattle.indexmap.specs.IndexSet.{contains};
-ghost use Rattle.rq_model.specs.Records as records;
 ghost use Rattle.rq_model.specs.Machine as machine;
+ghost use Rattle.rq_model.specs.Records as records;
 ghost use Rattle.rq_model.specs.States as model;
 ghost use Rattle.rq_record.specs.Views.{record_of, version_of};
 ghost use Rattle.rq_record.specs.declared.fault.Fault.TheVariants.{Resources};

@@ -3,12 +3,12 @@
 ghost use Rattle.std.specs.Prelude.{◌≡◌, ◌<◌, ◌≤◌, ◌^◌, ◌+◌, true, length, map, IfOk, IfErr};
 ghost use Rattle.rq_model.specs.Records.{Two};
 ghost use Rattle.rq_model.specs.Machine.{run, all_lawful};
-ghost use Rattle.rq_record.specs.Views.{record_of};
+ghost use Rattle.rq_record.specs.Views.{record_of, version_of};
 ghost use Rattle.rq_record.specs.declared.fault.Fault.TheVariants.{Resources};
 ghost use Rattle.rq_catalog.specs.Analyses.{IsAnalysis};
 ghost use Rattle.rq_exchange.specs.Agendas.{IsAgenda};
 ghost use Rattle.rq_exchange.specs.Courses.{StartsByLast};
-ghost use Rattle.rq_exchange.specs.Gathering.{AreParts, IsRedoneTo};
+ghost use Rattle.rq_exchange.specs.Gathering.{AreParts, ComesTo, IsRedoneTo};
 ghost use Rattle.rq_exchange.specs.Jobs.{IsJob, records_of, errors_in};
 
 use crate::agenda::Agenda;
@@ -22,7 +22,7 @@ use crate::gathered::AllRedone;
 use crate::jobs::Job;
 use crate::links::{errors_of, sources_of};
 use rq_catalog::{Analysis, analyse_kept};
-use rq_plan::{Gate, Plan};
+use rq_plan::{Gate, Open, Plan};
 use rq_queue::Part;
 use rq_record::{Fault, KeptRecord, Record, Version, kept_records};
 use rq_state::State;
@@ -100,6 +100,29 @@ pub fn replay_analysed<R: Threads + Sync, G: Gate + Sync>(
     let (all, course) = redo_analysed(rt, alloc, state, records, analysis, plan, gate)?;
     drop(course);
     all.gather(alloc)
+}
+
+/// The state behind the records that are lawful in the version behind a state, up to the first that
+/// is not, and how many these are. Refused only with `Resources`.
+pub fn front_redone<R: Threads + Sync>(
+    rt: &R,
+    alloc: Global,
+    version: Version,
+    state: &State,
+    records: &[KeptRecord],
+    plan: &Plan,
+) -> Result<(State, usize), Fault>
+    requires { state.now.next + length records.now < 2 ^ 64 }
+    ensures redone { IfOk result (λ r.
+        ComesTo (version_of version) state.now (map record_of records.now) r.0 r.1) }
+    ensures refused { IfErr result (λ e. e ≡ Resources) }
+{
+    rq_model::versions();
+    let analysis = analyse_kept(alloc, version, state, records)?;
+    let count = analysis.lawful();
+    let lawful = &records[..count];
+    let state = replay_analysed(rt, alloc, state, lawful, analysis, plan, &Open)?;
+    Ok((state, count))
 }
 
 /// The queues after the records, which are analysed, redone as in `replay_analysed`, and how that

@@ -2,17 +2,18 @@
 
 ghost use Rattle.std.specs.Prelude.{◌≡◌, ◌==◌, ◌&&◌, IfOk, IfErr};
 ghost use Rattle.rq_model.specs.States as model;
+ghost use Rattle.rq_model.specs.StateSpelling.{note_bytes};
 ghost use Rattle.rq_record.specs.declared.fault.Fault.TheVariants.{Resources};
 
 use rq_record::{Fault, KeptName, Name, QueueNo, UnitNo};
-use rq_state::{Last, Note, Ordinal};
+use rq_state::{Compare, Compared, Last, Note, Ordinal};
 use std::alloc::Global;
 use std::marker::Model;
 
 /// A note in 8 bytes and 72 of its own; a `Note` takes 120. A unit may make many, and a map whose
 /// keys come in order has room for about twice as many as it holds.
 #[derive(Drop)]
-pub(crate) struct KeptNote {
+pub struct KeptNote {
     held: Box<Held>,
 }
 
@@ -25,8 +26,6 @@ struct Held {
 }
 
 impl Model for KeptNote {
-    ghost use Rattle.rq_model.specs.States as model;
-
     ghost Value = { model.Note };
 
     ghost view = { λ n. record {
@@ -42,6 +41,14 @@ impl Ordinal for KeptNote {
 
     fn ordinal(&self) -> u64 {
         self.place()
+    }
+}
+
+impl Compare for KeptNote {
+    ghost spelling = { note_bytes };
+
+    fn compare(&self, bytes: &mut Compared<'_>) {
+        self.note().compare(bytes);
     }
 }
 

@@ -1,9 +1,10 @@
 //! What belongs to one queue.
 
 ghost use Rattle.std.specs.Prelude.{◌≡◌, ◌≢◌, ◌+◌, ◌<◌, ◌^◌, ◌++◌, ◌∷◌, [], length, IfOk, IfErr};
-ghost use Rattle.std.specs.Prelude.{◌-◌, ◌≤◌, OnOk, SomeIff};
+ghost use Rattle.std.specs.Prelude.{◌-◌, ◌≤◌, OnOk, SomeIff, option_map};
 ghost use Rattle.std.specs.List.{AllByRecursion, flat_map};
 ghost use Rattle.std.specs.List.Sorted.{IsPermutation};
+ghost use Rattle.rq_model.specs.Machine as machine;
 ghost use Rattle.rq_model.specs.Queues as queues;
 ghost use Rattle.rq_model.specs.Ready.{IsReady};
 ghost use Rattle.rq_model.specs.Records as records;
@@ -12,19 +13,19 @@ ghost use Rattle.rq_model.specs.StateSpelling.{registrant_bytes};
 ghost use Rattle.rq_model.specs.States as states;
 ghost use Rattle.rq_record.specs.declared.fault.Fault.TheVariants.{Resources};
 ghost use Rattle.rq_state.specs.Comparing.{left_after};
+ghost use Rattle.rq_state.specs.Views.{id_of};
 ghost use Rattle.rq_queue.specs.Pouring.{Pours};
 ghost use Rattle.rq_queue.specs.Rooms.{member_bytes};
 
 use crate::elements::Elements;
-use crate::lent::LentElement;
-use crate::lent_notes::LentNote;
+use crate::lent::{LentElement, LentNote};
 use crate::moves::KeptMove;
 use crate::notes::Notes;
 use crate::operations::KeptOp;
 use crate::poured_members::add_members;
 use crate::registrants::Registrants;
 use rq_record::{ElemId, Fault, KeptBy, KeptPayload, KeptRecord, Name, QueueNo, UnitNo};
-use rq_state::{Compared, Definition, Fields, KeptFields, OpKind, State};
+use rq_state::{Compared, Definition, Fields, KeptElement, KeptFields, OpKind, State};
 use std::alloc::Global;
 use std::marker::Model;
 
@@ -33,11 +34,9 @@ use std::marker::Model;
 pub struct Part {
     queue: QueueNo,
     definition: Definition,
-    /// Its elements.
-    pub elements: Elements,
+    elements: Elements,
     registrants: Registrants,
-    /// Its notes.
-    pub notes: Notes,
+    notes: Notes,
 }
 
 impl Model for Part {
@@ -210,32 +209,37 @@ impl Part {
             (records.Enqueue unit.0 queue.0 priority by.now payload.now) self.old) }
         ensures refused { IfErr result (λ e. e ≡ Resources) }
     {
+        let e = KeptElement::fresh(place, unit, queue, priority, payload.copied()?);
+        self.elements.push(alloc, e)?;
         let id = Some(ElemId(place));
-        self.elements
-            .add(alloc, place, unit, queue, priority, payload)?;
         self.notes
             .note(alloc, place, unit, queue, by, OpKind::Enqueue, id)
     }
 
-    fn dequeue(
+    /// Dequeues from the queue. Answers the id of the element that it takes, if one is free. A part
+    /// that refuses is no longer of use.
+    pub fn dequeue(
         &mut self,
         alloc: Global,
         place: u64,
         unit: UnitNo,
         queue: QueueNo,
         by: &KeptBy,
-    ) -> Result<(), Fault>
+    ) -> Result<Option<ElemId>, Fault>
         requires homes { AllByRecursion
             (λ (e : states.Element). e.home ≡ queue.0) self.old.elements }
         requires notes { AllByRecursion
             (λ (n : states.Note). n.last.place < place) self.old.notes }
         ensures done { OnOk result
             (self.new ≡ redo_words.act place (records.Dequeue unit.0 queue.0 by.now) self.old) }
+        ensures took { IfOk result (λ id. id_of id
+            ≡ option_map (λ e. e.id) (machine.best queue.0 self.old.elements)) }
         ensures refused { IfErr result (λ e. e ≡ Resources) }
     {
         let id = self.elements.hold_best(alloc, unit, queue)?;
         self.notes
-            .note(alloc, place, unit, queue, by, OpKind::Dequeue, id)
+            .note(alloc, place, unit, queue, by, OpKind::Dequeue, id)?;
+        Ok(id)
     }
 
     /// Commits a unit in the queue. A part that refuses is no longer of use.
@@ -323,9 +327,10 @@ impl Part {
                 by,
                 payload,
             } => self.enqueue(alloc, place, *unit, *queue, *priority, by, payload),
-            KeptRecord::Dequeue { unit, queue, by } => self.dequeue(
-                alloc, place, *unit, *queue, by,
-            ),
+            KeptRecord::Dequeue { unit, queue, by } => {
+                self.dequeue(alloc, place, *unit, *queue, by)?;
+                Ok(())
+            }
             KeptRecord::Commit { unit } => self.commit(alloc, *unit),
             KeptRecord::Abort { unit } => self.abort(alloc, place, *unit, sent),
             KeptRecord::Kill { queue, element } => self.kill(alloc, *queue, *element),

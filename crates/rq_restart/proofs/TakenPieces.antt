@@ -3,14 +3,11 @@ use Rattle.std.proofs.Common.{◌≡◌, ◌+◌, ◌<◌, ◌≤◌, ℕ, Bool,
 use Rattle.std.proofs.Common.{refl, sym, ap, subst, ◌∙◌, append_assoc, arith}
 use Rattle.std.specs.Prelude.{if◌then◌else◌, slice_index_or}
 use Rattle.std.proofs.lemmas.List.{length-append, length-map, length-take, take-append-drop, take_all}
-use Rattle.rq_model.specs.Records.{Record, Version, Two}
+use Rattle.rq_model.specs.Records.{Record, Version}
 use Rattle.rq_model.specs.States.{State}
 use Rattle.rq_model.specs.Machine.{is_lawful, step, run, all_lawful, lawful_front}
-use Rattle.rq_model.specs.Laws.{VersionTwoIsWider}
 use Rattle.rq_record.specs.Views.{Record as Own, record_of}
-use Rattle.rq_catalog.specs.declared.analysis.Analysis.{Analysis}
-use Rattle.rq_catalog.specs.Analyses.{IsAnalysis}
-use Rattle.rq_catalog.proofs.Fronts.{analysis_is_wider, analysis_of_front, kept_is, lawful_in_two, parted}
+use Rattle.rq_catalog.proofs.Fronts.{kept_is, parted}
 use Rattle.rq_catalog.proofs.Runs.{front_stops, front_whole, lawful_push}
 use Rattle.rq_standing.specs.Stands.{Stands}
 use Rattle.rq_standing.specs.declared.standing.Standing.{Standing}
@@ -42,20 +39,6 @@ pub first_lawful : (version : Version) (s : State) (all : List Own) (n : ℕ) �
     → all_lawful version s (map record_of (take n all)) ≡ true
 first_lawful version s all n count =
     ap (all_lawful version s) (first_are version s all n count) ∙ (parted version s (map record_of all)).lawful
-
-pub lawful_again : VersionTwoIsWider → (version : Version) (s : State) (all : List Own) (n : ℕ)
-    → IsCount version s all n → all_lawful Two s (map record_of (take n all)) ≡ true
-lawful_again wider version s all n count =
-    lawful_in_two wider version s (map record_of (take n all)) (first_lawful version s all n count)
-
-pub analysed_again : VersionTwoIsWider → (version : Version) (s : State) (all : List Own) (n : ℕ) (a : Analysis)
-    → IsCount version s all n → IsAnalysis version s (map record_of all) a
-    → IsAnalysis Two s (map record_of (take n all)) a
-analysed_again wider version s all n a count is =
-    let rs = map record_of all in
-    subst (λ (xs : List Record). IsAnalysis Two s xs a) (sym (first_are version s all n count))
-    (analysis_is_wider wider version s (lawful_front version s rs) a (parted version s rs).lawful
-    (analysis_of_front version s rs a is))
 
 -- y stands i records behind x, and these are lawful
 abbrev pub HasTaken : Standing → List Own → ℕ → Standing → Type 0

@@ -8,12 +8,6 @@ use Rattle.rq_standing.specs.declared.standing.Standing.{Standing}
 use Rattle.rq_restart.specs.declared.position.Position.{Position}
 use Rattle.rq_restart.specs.declared.position.Position.TheVariants.{Told, Queues}
 
--- n of the records are lawful from s on, up to the first that is not, and t is the state after them
-pub record ComesTo (version : Version) (s : State) (more : List Record) (t : State) (n : ℕ)
-    : Type 0 where
-  pub count : n ≡ length (lawful_front version s more)
-  pub state : t ≡ run s (lawful_front version s more)
-
 -- n of the records are lawful where x stands, up to the first that is not, and y stands after them
 pub record WentOn (x : Standing) (more : List Record) (y : Standing) (n : ℕ) : Type 0 where
   pub count : (version : Version) (s : State) → Stands version x s

@@ -1,20 +1,18 @@
 //! Many records onto the queues as they stand, up to the first that is not lawful.
 
-ghost use Rattle.std.specs.Prelude.{◌≡◌, ◌<◌, ◌^◌, ◌+◌, length, map, if◌then◌else◌, IfOk, IfErr};
+ghost use Rattle.std.specs.Prelude.{◌≡◌, map, if◌then◌else◌, IfOk, IfErr};
 ghost use Rattle.rq_model.specs.Machine.{is_lawful, step};
 ghost use Rattle.rq_model.specs.Records as model;
 ghost use Rattle.rq_model.specs.States as states;
-ghost use Rattle.rq_record.specs.Views.{record_of, version_of};
+ghost use Rattle.rq_record.specs.Views.{record_of};
 ghost use Rattle.rq_record.specs.declared.fault.Fault.TheVariants.{Resources};
 ghost use Rattle.rq_standing.specs.Stands.{Stands};
-ghost use Rattle.rq_restart.specs.Pieces.{ComesTo, WentOn};
+ghost use Rattle.rq_restart.specs.Pieces.{WentOn};
 
-use rq_catalog::analyse_kept;
-use rq_exchange::replay_analysed;
-use rq_plan::{Open, Plan};
-use rq_record::{Fault, KeptRecord, Version};
+use rq_exchange::front_redone;
+use rq_plan::Plan;
+use rq_record::{Fault, KeptRecord};
 use rq_standing::{Standing, Taken};
-use rq_state::State;
 use std::alloc::Global;
 use std::marker::Sync;
 use std::thread::Threads;
@@ -67,29 +65,6 @@ pub(crate) fn take_each(
         }
     }
     Ok(records.len())
-}
-
-/// The state behind the records that are lawful behind a state, up to the first that is not, and how
-/// many these are. The queues are redone on the workers of the plan.
-pub(crate) fn front_redone<R: Threads + Sync>(
-    rt: &R,
-    alloc: Global,
-    version: Version,
-    state: &State,
-    records: &[KeptRecord],
-    plan: &Plan,
-) -> Result<(State, usize), Fault>
-    requires { state.now.next + length records.now < 2 ^ 64 }
-    ensures redone { IfOk result (λ r.
-        ComesTo (version_of version) state.now (map record_of records.now) r.0 r.1) }
-    ensures refused { IfErr result (λ e. e ≡ Resources) }
-{
-    rq_model::versions();
-    let analysis = analyse_kept(alloc, version, state, records)?;
-    let count = analysis.lawful();
-    let taken = &records[..count];
-    let state = replay_analysed(rt, alloc, state, taken, analysis, plan, &Open)?;
-    Ok((state, count))
 }
 
 // Takes records on the workers: the queues are told as a state, and stand anew where that comes to.

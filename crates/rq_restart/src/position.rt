@@ -7,9 +7,11 @@ ghost use Rattle.rq_model.specs.States as states;
 ghost use Rattle.rq_record.specs.Views.{record_of, version_of};
 ghost use Rattle.rq_record.specs.declared.fault.Fault.TheVariants.{Resources};
 ghost use Rattle.rq_standing.specs.Stands.{Stands};
-ghost use Rattle.rq_restart.specs.Pieces.{IsPosition, ComesTo};
+ghost use Rattle.rq_exchange.specs.Gathering.{ComesTo};
+ghost use Rattle.rq_restart.specs.Pieces.{IsPosition};
 
-use crate::pieces::{front_redone, take_each};
+use crate::pieces::take_each;
+use rq_exchange::front_redone;
 use rq_plan::Plan;
 use rq_record::{Fault, KeptRecord, Version};
 use rq_standing::Standing;

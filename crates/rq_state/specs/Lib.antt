@@ -6,7 +6,6 @@ pub mod Laws
 pub mod Orders
 pub mod Reading
 pub mod Spelling
-pub mod Tables
 pub mod Tests
 pub mod Views
 pub mod Writing

@@ -4,9 +4,9 @@ ghost use Rattle.std.specs.Prelude.{◌≡◌, IfOk, IfErr};
 ghost use Rattle.rq_record.specs.declared.fault.Fault.TheVariants.{Resources};
 ghost use Rattle.rq_state.specs.Inside.{state_of};
 
-use crate::kept_element::{KeptElement, kept_elements};
+use crate::kept_element::{Element, KeptElement, kept_elements};
 use crate::kept_registrant::{KeptRegistrant, kept_registrants};
-use crate::members::{Definition, Element, Note, Registrant};
+use crate::members::{Definition, Note, Registrant};
 use rq_record::{Fault, UnitNo};
 use std::alloc::Global;
 

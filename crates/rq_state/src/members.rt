@@ -2,7 +2,7 @@
 
 ghost use Rattle.std.specs.Prelude.{◌≡◌};
 
-use rq_record::{ElemId, Name, Payload, QueueNo, UnitNo};
+use rq_record::{ElemId, Name, QueueNo, UnitNo};
 use std::marker::Model;
 
 /// Who has an element for now.
@@ -23,42 +23,6 @@ pub enum OpKind {
     Enqueue,
     /// It took the first free element, or found none.
     Dequeue,
-}
-
-/// An element of a queue, as a caller makes it and takes it apart.
-#[derive(Drop)]
-pub struct Element {
-    /// The record number of the enqueue that made it.
-    pub id: ElemId,
-    /// The queue that it is in.
-    pub home: QueueNo,
-    /// The queue that it was put in first.
-    pub origin: QueueNo,
-    /// Greater ones are taken first.
-    pub priority: u8,
-    /// How often an aborted unit gave it back since it came to its home.
-    pub attempts: u64,
-    /// The bytes that its enqueue gave it, at most 65,535.
-    pub payload: Payload,
-    /// Which open unit put it in or took it out, if one did.
-    pub mark: Mark,
-}
-
-impl Model for Element {
-    ghost use Rattle.rq_model.specs.States as model;
-    ghost use Rattle.rq_state.specs.Views.{mark_of};
-
-    ghost Value = { model.Element };
-
-    ghost view = { λ e. record {
-      id = e.id.0;
-      home = e.home.0;
-      origin = e.origin.0;
-      priority = e.priority;
-      attempts = e.attempts;
-      payload = e.payload;
-      mark = mark_of e.mark;
-    } };
 }
 
 /// What a registrant did: an operation that named it.
@@ -123,8 +87,6 @@ pub struct Note {
 }
 
 impl Model for Note {
-    ghost use Rattle.rq_model.specs.States as model;
-
     ghost Value = { model.Note };
 
     ghost view = { λ n. record {
@@ -174,8 +136,6 @@ pub struct Definition {
 }
 
 impl Model for Definition {
-    ghost use Rattle.rq_model.specs.States as model;
-
     ghost Value = { model.Definition };
 
     ghost view = { λ d. record { limit = d.limit; error = d.error.0; name = d.name } };

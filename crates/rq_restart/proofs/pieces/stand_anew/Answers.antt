@@ -4,7 +4,7 @@ use Rattle.rq_model.specs.States.{State}
 use Rattle.rq_model.specs.Machine.{lawful_front, run}
 use Rattle.rq_record.specs.Views.{record_of, version_of}
 use Rattle.rq_standing.specs.Stands.{Stands}
-use Rattle.rq_restart.specs.Pieces.{ComesTo}
+use Rattle.rq_exchange.specs.Gathering.{ComesTo}
 use Rattle.rq_restart.proofs.pieces.stand_anew.Goals as goal
 
 pub returns-clause-went_on : goal.returns-clause-went_on

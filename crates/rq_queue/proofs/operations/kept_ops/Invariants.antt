@@ -2,7 +2,7 @@ use Rattle.std.proofs.Common.{◌≡◌, ◌<◌, ◌++◌, List, All, length, m
 use Rattle.rq_model.specs.Records.{Record}
 use Rattle.rq_queue.specs.Ops.{ops_at}
 use Rattle.rq_record.specs.Views.{record_of}
-use Rattle.rq_queue.proofs.operations.OwnOps.of.Given as goal
+use Rattle.rq_queue.proofs.operations.kept_ops.Given as goal
 
 abbrev pub invariant-loop-op : goal.invariant-loop-op
 invariant-loop-op l = record {

@@ -3,7 +3,7 @@ use Rattle.std.proofs.lemmas.List.{append-nil, take_all}
 use Rattle.rq_queue.proofs.Ops.{next_too, one_more_within}
 use Rattle.rq_queue.specs.Ops.{ops_at}
 use Rattle.rq_record.specs.Views.{record_of}
-use Rattle.rq_queue.proofs.operations.OwnOps.of.Goals as goal
+use Rattle.rq_queue.proofs.operations.kept_ops.Goals as goal
 
 pub loop-op-preserved : goal.loop-op-preserved
 loop-op-preserved c =

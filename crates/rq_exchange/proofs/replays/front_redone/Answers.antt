@@ -6,8 +6,8 @@ use Rattle.rq_model.specs.Machine.{all_lawful, lawful_front, run}
 use Rattle.rq_record.specs.Views.{record_of, version_of}
 use Rattle.rq_catalog.specs.Analyses.{IsAnalysis}
 use Rattle.rq_catalog.proofs.Fronts.{parted, kept_is, analysis_of_front, analysis_is_wider, lawful_in_two}
-use Rattle.rq_writer.proofs.front.run_lawful.Goals as goal
-use Rattle.rq_writer.proofs.front.run_lawful.Goals.{After-lawful-count}
+use Rattle.rq_exchange.proofs.replays.front_redone.Goals as goal
+use Rattle.rq_exchange.proofs.replays.front_redone.Goals.{After-lawful-count}
 
 abbrev records : (g : _) → After-lawful-count g → List model.Record
 records g c = map record_of c.args.records.now
@@ -64,9 +64,10 @@ replay_analysed-requires-clause-analysis g c = λ κs within.
     let d = (goal.at.replay_analysed-requires-clause-analysis g c).After-lawful-count in
     subst (λ l. IsAnalysis Two c.args.state.now l c.in_ok-analysis.analysis) (sym (first g d)) (analysis_in_two g d)
 
-pub returns-clause-state : goal.returns-clause-state
-returns-clause-state g c = c.in_ok-state.ensures.state
-    ∙ ap (run c.args.state.now) (first g (goal.at.returns-clause-state g c).After-lawful-count)
-
-pub returns-clause-count : goal.returns-clause-count
-returns-clause-count g c = many g (goal.at.returns-clause-count g c).After-lawful-count
+pub returns-clause-redone : goal.returns-clause-redone
+returns-clause-redone g c =
+    let d = (goal.at.returns-clause-redone g c).After-lawful-count in
+    record {
+      count = many g d;
+      state = c.in_ok-state.ensures.state ∙ ap (run c.args.state.now) (first g d);
+    }
