@@ -11,7 +11,7 @@ use Rattle.rq_catalog.proofs.Fronts.{kept_is, parted}
 use Rattle.rq_catalog.proofs.Runs.{front_stops, front_whole, lawful_push}
 use Rattle.rq_standing.specs.Stands.{Stands}
 use Rattle.rq_standing.specs.declared.standing.Standing.{Standing}
-use Rattle.rq_restart.specs.Pieces.{WentOn}
+use Rattle.rq_restart.specs.Pieces.{TakesOne, WentOn}
 use Rattle.rq_restart.proofs.Walks.{one_more, run_further}
 
 -- so many of the records are the lawful ones
@@ -46,14 +46,8 @@ HasTaken x all i y = (version : Version) (s : State) → Stands version x s
     → (all_lawful version s (take i (map record_of all)) ≡ true)
     × Stands version y (run s (take i (map record_of all)))
 
--- z is where y comes to by one record, and this says whether it is lawful
-pub record TakesOne (y : Standing) (r : Own) (z : Standing) (lawful : Bool) : Type 0 where
-  pub judged : (version : Version) (s : State) → Stands version y s → lawful ≡ is_lawful version s (record_of r)
-  pub stood : (version : Version) (s : State) → Stands version y s
-      → Stands version z (if lawful then step s (record_of r) else s)
-
 pub one_further : (x y z : Standing) (all : List Own) (i : ℕ) (r : Own) (lawful : Bool) → i < length all
-    → r ≡ slice_index_or all i r → HasTaken x all i y → TakesOne y r z lawful → lawful ≡ true → HasTaken x all (i + 1) z
+    → r ≡ slice_index_or all i r → HasTaken x all i y → TakesOne y (record_of r) z lawful → lawful ≡ true → HasTaken x all (i + 1) z
 one_further x y z all i r lawful lt is had one taken = λ version s stands.
     let rs = map record_of all in
     let t = run s (take i rs) in
@@ -77,7 +71,7 @@ ends_before version s all i r lt is so broken =
     ∙ ap (λ (xs : List Record). xs ++ drop (i + 1) rs) (sym (one_more all i r lt is)) ∙ take-append-drop (i + 1) rs)
 
 pub ends_there : (x y z : Standing) (all : List Own) (i : ℕ) (r : Own) (lawful : Bool) → i < length all
-    → r ≡ slice_index_or all i r → HasTaken x all i y → TakesOne y r z lawful → lawful ≡ false
+    → r ≡ slice_index_or all i r → HasTaken x all i y → TakesOne y (record_of r) z lawful → lawful ≡ false
     → WentOn x (map record_of all) z i
 ends_there x y z all i r lawful lt is had one broken = record {
   count = λ version s stands. omega (

@@ -1,13 +1,9 @@
 //! Many records onto the queues as they stand, up to the first that is not lawful.
 
-ghost use Rattle.std.specs.Prelude.{◌≡◌, map, if◌then◌else◌, IfOk, IfErr};
-ghost use Rattle.rq_model.specs.Machine.{is_lawful, step};
-ghost use Rattle.rq_model.specs.Records as model;
-ghost use Rattle.rq_model.specs.States as states;
+ghost use Rattle.std.specs.Prelude.{◌≡◌, map, IfOk, IfErr};
 ghost use Rattle.rq_record.specs.Views.{record_of};
 ghost use Rattle.rq_record.specs.declared.fault.Fault.TheVariants.{Resources};
-ghost use Rattle.rq_standing.specs.Stands.{Stands};
-ghost use Rattle.rq_restart.specs.Pieces.{WentOn};
+ghost use Rattle.rq_restart.specs.Pieces.{IsStanding, TakesOne, WentOn};
 
 use rq_exchange::front_redone;
 use rq_plan::Plan;
@@ -32,12 +28,8 @@ pub(crate) fn room_beside(count: usize, plan: &Plan) -> usize {
 
 // Whether a record is lawful. If it is, it is done.
 fn take_one(alloc: Global, standing: &mut Standing, rec: &KeptRecord) -> Result<bool, Fault>
-    requires { (version : model.Version) × (s : states.State) × Stands version standing.old s }
-    ensures lawful { IfOk result (λ lawful. (version : model.Version) (s : states.State) →
-        Stands version standing.old s → lawful ≡ is_lawful version s (record_of rec.now)) }
-    ensures stands { IfOk result (λ lawful. (version : model.Version) (s : states.State) →
-        Stands version standing.old s
-        → Stands version standing.new (if lawful then step s (record_of rec.now) else s)) }
+    requires { IsStanding standing.old }
+    ensures takes { IfOk result (TakesOne standing.old (record_of rec.now) standing.new) }
     ensures refused { IfErr result (λ e. e ≡ Resources) }
 {
     match standing.take(alloc, rec) {
@@ -54,7 +46,7 @@ pub(crate) fn take_each(
     standing: &mut Standing,
     records: &[KeptRecord],
 ) -> Result<usize, Fault>
-    requires { (version : model.Version) × (s : states.State) × Stands version standing.old s }
+    requires { IsStanding standing.old }
     ensures went_on { IfOk result
         (WentOn standing.old (map record_of records.now) standing.new) }
     ensures refused { IfErr result (λ e. e ≡ Resources) }
@@ -67,28 +59,6 @@ pub(crate) fn take_each(
     Ok(records.len())
 }
 
-// Takes records on the workers: the queues are told as a state, and stand anew where that comes to.
-fn stand_anew<R: Threads + Sync>(
-    rt: &R,
-    alloc: Global,
-    standing: &mut Standing,
-    records: &[KeptRecord],
-    plan: &Plan,
-) -> Result<usize, Fault>
-    requires { (version : model.Version) × (s : states.State) × Stands version standing.old s }
-    ensures went_on { IfOk result
-        (WentOn standing.old (map record_of records.now) standing.new) }
-    ensures refused { IfErr result (λ e. e ≡ Resources) }
-{
-    let version = standing.version();
-    let state = standing.state(alloc)?;
-    // No log has so many records: past here a number could run over.
-    if state.next().saturating_add(records.len() as u64) > 1 << 62 {
-        return Err(Fault::Resources);
-    }
-    let (state, count) = front_redone(rt, alloc, version, &state, records, plan)?;
-    *standing = Standing::of(alloc, version, &state)?;
-    Ok(count)
 }
 
 /// Does the records that are lawful where the queues stand, up to the first that is not, and answers
@@ -105,14 +75,21 @@ pub fn go_on<R: Threads + Sync>(
     records: &[KeptRecord],
     plan: &Plan,
 ) -> Result<usize, Fault>
-    requires stands { (version : model.Version) × (s : states.State) × Stands version standing.old s }
+    requires stands { IsStanding standing.old }
     ensures went_on { IfOk result
         (WentOn standing.old (map record_of records.now) standing.new) }
     ensures refused { IfErr result (λ e. e ≡ Resources) }
 {
-    if standing.fits(room_beside(records.len(), plan)) {
-        stand_anew(rt, alloc, standing, records, plan)
-    } else {
-        take_each(alloc, standing, records)
+    if !standing.fits(room_beside(records.len(), plan)) {
+        return take_each(alloc, standing, records);
     }
+    let version = standing.version();
+    let state = standing.state(alloc)?;
+    // No log has so many records: past here a number could run over.
+    if state.next().saturating_add(records.len() as u64) > 1 << 62 {
+        return Err(Fault::Resources);
+    }
+    let (state, count) = front_redone(rt, alloc, version, &state, records, plan)?;
+    *standing = Standing::of(alloc, version, &state)?;
+    Ok(count)
 }

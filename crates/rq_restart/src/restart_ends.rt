@@ -1,11 +1,10 @@
 //! The end of a restart: open units are aborted, and all is redone.
 
-ghost use Rattle.std.specs.Prelude.{◌≡◌, ◌≤◌, ◌<◌, ◌^◌, ◌+◌, ◌-◌, ◌++◌, true, length, map};
+ghost use Rattle.std.specs.Prelude.{◌≡◌, ◌≤◌, ◌<◌, ◌^◌, ◌+◌, ◌-◌, ◌++◌, true, ℕ, List, length, map};
 ghost use Rattle.std.specs.Prelude.{IfOk, IfErr, OnOk};
 ghost use Rattle.rq_model.specs.Fronts.{restarted};
 ghost use Rattle.rq_model.specs.Machine.{all_lawful, run};
 ghost use Rattle.rq_model.specs.Records as model;
-ghost use Rattle.rq_model.specs.WellFormed.{IsWellFormed};
 ghost use Rattle.rq_record.specs.Views.{record_of, version_of};
 ghost use Rattle.rq_record.specs.declared.fault.Fault.TheVariants.{Resources};
 ghost use Rattle.rq_state.specs.Views.{unit_of};
@@ -13,8 +12,10 @@ ghost use Rattle.rq_catalog.specs.Analyses.{IsAnalysis, open_in};
 ghost use Rattle.rq_exchange.specs.Agendas.{IsAgenda};
 ghost use Rattle.rq_judged.specs.Views.{why_of};
 ghost use Rattle.rq_restart.specs.Cleared.{first_cleared};
+ghost use Rattle.rq_restart.specs.FoundFronts.{IsFoundFrom};
 
 use crate::restarted::Restarted;
+use crate::restarts::FoundFront;
 use rq_catalog::Analysis;
 use rq_exchange::{Agenda, redo};
 use rq_judged::Front;
@@ -99,36 +100,27 @@ fn redone<R: Threads + Sync, G: Gate + Sync>(
     all.gather(alloc)
 }
 
-/// What a restart answers of a front of the version that begins in the state and ends at an offset
-/// of `total` bytes: its open units are aborted, rising, and records and aborts are redone
-/// together. The counts are those before these aborts.
+/// What a restart answers of a front of `total` bytes: its open units are aborted, rising, and records
+/// and aborts are redone together. The counts are those before these aborts.
 pub(crate) fn finish<R: Threads + Sync, G: Gate + Sync>(
     rt: &R,
     alloc: Global,
-    version: Version,
-    state: State,
-    front: Front,
+    from: FoundFront,
     total: usize,
     plan: &Plan,
     gate: &G,
 ) -> Result<Restarted, Fault>
-    requires well { IsWellFormed state }
-    requires next { state.next ≤ 4294967295 }
-    requires few { length front.records.items ≤ 4294967295 }
-    requires within { front.end ≤ total }
-    requires lawful { all_lawful (version_of version) state (map record_of front.records.items)
-        ≡ true }
-    requires analysis { IsAnalysis (version_of version) state
-        (map record_of front.records.items) front.analysis }
+    requires front { (b : List ℕ) × (offset : ℕ) × IsFoundFrom b offset from × (total ≡ length b) }
     ensures answer { IfOk result
-        (λ r. r ≡ restarted (run state (map record_of front.records.items))
-        (total - front.end) total (why_of front.why)) }
+        (λ r. r ≡ restarted (run from.state (map record_of from.front.records.items))
+        (total - from.front.end) total (why_of from.front.why)) }
     ensures refused { IfErr result (λ e. e ≡ Resources) }
 {
     rq_model::runs_are_well_formed();
     rq_model::numbers_after();
     rq_model::crash_is_harmless();
     rq_model::versions();
+    let FoundFront { state, front, .. } = from;
     let Front {
         mut records,
         analysis,

@@ -5,7 +5,7 @@ use Rattle.rq_model.specs.Machine.{lawful_front, run}
 use Rattle.rq_record.specs.Views.{record_of, version_of}
 use Rattle.rq_standing.specs.Stands.{Stands}
 use Rattle.rq_exchange.specs.Gathering.{ComesTo}
-use Rattle.rq_restart.proofs.pieces.stand_anew.Goals as goal
+use Rattle.rq_restart.proofs.pieces.go_on.Goals as goal
 
 pub returns-clause-went_on : goal.returns-clause-went_on
 returns-clause-went_on g c = record {
