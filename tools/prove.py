@@ -6,10 +6,10 @@ Run at the top of the clone. Leaves each program, for that processor, as FOLDER/
 with 70 if a crate was not proved or a program not built. With --over-proved it takes the libraries that `rt` or the gate proved in
 this clone, if all of them were proved of the files as they stand.
 
-`rt ci` proves the libraries: crates side by side, each over the statements of those below it, without their wrong bodies. A kit
-whose rt keeps what it passed, as that of rattle-kit-13f does, proves of them later only what has changed since, and the crates
-above that: here, in another clone on this machine, or in the gate. rt builds programs for one processor alone, so each program is
-proved and compiled by rattle itself, over the same statements.
+`rt ci`, as proofs.py runs it, proves the libraries: crates side by side, each over the statements of those below it, without their
+wrong bodies. A kit whose rt keeps what it passed, as that of rattle-kit-13f does, proves of them later only what has changed since,
+and the crates above that: here, in another clone on this machine, or in the gate. rt builds programs for one processor alone, so each
+program is proved and compiled by rattle itself, over the same statements.
 """
 from __future__ import annotations
 import os, re, shutil, signal, subprocess, sys, tempfile, time
@@ -206,7 +206,8 @@ class Builds:
         copy(self.place, self.lines, libraries, programs)
         if self.over_proved and self.take(libraries):
             return True
-        return self.follow({"libraries": self.start(["rt", "ci"], os.path.join(self.place, "libraries"))})
+        words = [sys.executable, os.path.join(os.path.dirname(os.path.abspath(__file__)), "proofs.py")]
+        return self.follow({"libraries": self.start(words, os.path.join(self.place, "libraries"))})
 
     def library(self, name: str) -> str:
         return os.path.join(self.place, "libraries", "crates", name, "out", "rlib", name + ".rlib")
@@ -220,7 +221,8 @@ class Builds:
         for at in [f"{kit}/rlibs", *(os.path.dirname(self.library(it)) for it in below(self.lines, program))]:
             words += ["-L", f"dependency={at}"]
         words += ["--antt-project", f"{kit}/rattle/logic/antt-project.json", "--logic-built", f"{kit}/logic_built"]
-        words += ["--links", f"{program}=", "--toolchain", f"{kit}/toolchain", "--backend", "llvm"]
+        jobs = max(1, len(os.sched_getaffinity(0)) // len(self.builds))
+        words += ["--links", f"{program}=", "--toolchain", f"{kit}/toolchain", "--backend", "llvm", "--jobs", str(jobs)]
         return [*words, f"--cpu={build[len(program) + 1:]}", "-o", os.path.join(self.place, build + ".o")]
 
     def compile(self) -> bool:
