@@ -126,7 +126,7 @@ pub fn front_redone<R: Threads + Sync>(
 }
 
 /// The queues after the records, which are analysed, redone as in `replay_analysed`, and how that
-/// went: `redo` of their agenda. Refused only with `Resources`.
+/// went: `redo_agenda` of their agenda. Refused only with `Resources`.
 pub fn redo_analysed<R: Threads + Sync, G: Gate + Sync>(
     rt: &R,
     alloc: Global,
@@ -145,14 +145,14 @@ pub fn redo_analysed<R: Threads + Sync, G: Gate + Sync>(
     ensures refused { IfErr result (λ e. e ≡ Resources) }
 {
     let agenda = Agenda::of(alloc, state, records.len(), analysis)?;
-    redo(rt, alloc, state, records, agenda, plan, gate)
+    redo_agenda(rt, alloc, state, records, agenda, plan, gate)
 }
 
 /// The queues after the records, whose agenda this is, and how their redo went, only for contracts:
 /// each queue was redone by one thread, once, and each error queue by the one thread whose arrival
 /// was the last of its sources. The records are most of a restart's memory; they may be dropped
 /// before the state is gathered. Refused only with `Resources`.
-pub fn redo<R: Threads + Sync, G: Gate + Sync>(
+pub fn redo_agenda<R: Threads + Sync, G: Gate + Sync>(
     rt: &R,
     alloc: Global,
     state: &State,

@@ -26,7 +26,7 @@ pub use elements::Elements;
 pub use lent::{Lent, LentElement, LentNote};
 pub use moves::{KeptMove, Move, MoveOf};
 pub use notes::Notes;
-pub use operations::{KeptOp, KeptOps, Op, OpOf, Recorded};
+pub use operations::{AnyRecord, KeptOp, KeptOps, Op, OpOf};
 pub use part::Part;
 pub use places::{file, unfiled};
 pub use queue_redo::{redo, redo_kept};

@@ -12,22 +12,22 @@ use std::alloc::Global;
 use std::marker::Model;
 
 /// A record, kept or not.
-pub trait Recorded: Drop {
+pub trait AnyRecord: Drop {
     ghost does: { Self → records.Record };
 }
 
-impl Recorded for Record {
+impl AnyRecord for Record {
     ghost does = { record_of };
 }
 
-impl Recorded for KeptRecord {
+impl AnyRecord for KeptRecord {
     ghost does = { record_of };
 }
 
 /// A record that touches a queue, and its place in the log. `R` is the type of the record: `Record`
 /// or `KeptRecord`.
 #[derive(Drop)]
-pub struct OpOf<'a, R: Recorded> {
+pub struct OpOf<'a, R: AnyRecord> {
     pub place: u64,
     pub rec: &'a R,
 }
@@ -38,7 +38,7 @@ pub type Op<'a> = OpOf<'a, Record>;
 /// An operation, as a restart keeps its record.
 pub type KeptOp<'a> = OpOf<'a, KeptRecord>;
 
-impl<'a, R: Recorded> Model for OpOf<'a, R> {
+impl<'a, R: AnyRecord> Model for OpOf<'a, R> {
     ghost use Rattle.rq_model.specs.Queues as queues;
 
     ghost Value = { queues.Op };

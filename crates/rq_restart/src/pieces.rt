@@ -59,8 +59,6 @@ pub(crate) fn take_each(
     Ok(records.len())
 }
 
-}
-
 /// Does the records that are lawful where the queues stand, up to the first that is not, and answers
 /// how many these are.
 ///

@@ -17,7 +17,7 @@ ghost use Rattle.rq_restart.specs.FoundFronts.{IsFoundFrom};
 use crate::restarted::Restarted;
 use crate::restarts::FoundFront;
 use rq_catalog::Analysis;
-use rq_exchange::{Agenda, redo};
+use rq_exchange::{Agenda, redo_agenda};
 use rq_judged::Front;
 use rq_plan::{Gate, Plan};
 use rq_record::{Fault, KeptRecord, UnitNo, Version};
@@ -93,7 +93,7 @@ fn redone<R: Threads + Sync, G: Gate + Sync>(
     ensures refused { IfErr result (λ e. e ≡ Resources) }
 {
     clear_first(alloc, &mut records);
-    let (all, course) = redo(rt, alloc, &state, &records, agenda, plan, gate)?;
+    let (all, course) = redo_agenda(rt, alloc, &state, &records, agenda, plan, gate)?;
     drop(course);
     drop(records);
     drop(state);

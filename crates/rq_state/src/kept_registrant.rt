@@ -11,7 +11,7 @@ use std::marker::Model;
 
 // Most registrants did nothing yet, or nothing that was committed.
 #[derive(Drop)]
-enum Form {
+enum RegistrantForm {
     Bare { queue: QueueNo, name: KeptName },
     Full(Box<Operated>),
 }
@@ -28,7 +28,7 @@ struct Operated {
 /// bytes takes no memory of its own, a last operation takes 64. It says what a `Registrant` says.
 #[derive(Drop)]
 pub struct KeptRegistrant {
-    form: Form,
+    form: RegistrantForm,
 }
 
 // A state holds all registrants at once.
@@ -67,8 +67,8 @@ impl KeptRegistrant {
         ensures refused { IfErr result (λ e. e ≡ Resources) }
     {
         let form = match last {
-            None => Form::Bare { queue, name },
-            Some(last) => Form::Full(Box::new(alloc, Operated { queue, name, last })?),
+            None => RegistrantForm::Bare { queue, name },
+            Some(last) => RegistrantForm::Full(Box::new(alloc, Operated { queue, name, last })?),
         };
         Ok(KeptRegistrant { form })
     }
@@ -87,12 +87,12 @@ impl KeptRegistrant {
         ensures { result ≡ self.now }
     {
         match &self.form {
-            Form::Bare { queue, name } => Registrant {
+            RegistrantForm::Bare { queue, name } => Registrant {
                 queue: *queue,
                 name: name.name(),
                 last: None,
             },
-            Form::Full(one) => Registrant {
+            RegistrantForm::Full(one) => Registrant {
                 queue: one.queue,
                 name: one.name.name(),
                 last: Some(one.last.copied()),
@@ -105,8 +105,8 @@ impl KeptRegistrant {
         ensures { result.0 ≡ self.now.queue }
     {
         match &self.form {
-            Form::Bare { queue, .. } => *queue,
-            Form::Full(one) => one.queue,
+            RegistrantForm::Bare { queue, .. } => *queue,
+            RegistrantForm::Full(one) => one.queue,
         }
     }
 
@@ -115,8 +115,8 @@ impl KeptRegistrant {
         ensures { result.now ≡ self.now.name }
     {
         match &self.form {
-            Form::Bare { name, .. } => name,
-            Form::Full(one) => &one.name,
+            RegistrantForm::Bare { name, .. } => name,
+            RegistrantForm::Full(one) => &one.name,
         }
     }
 
@@ -125,8 +125,8 @@ impl KeptRegistrant {
         ensures { option_map (λ l. l.now) result ≡ self.now.last }
     {
         match &self.form {
-            Form::Bare { .. } => None,
-            Form::Full(one) => Some(&one.last),
+            RegistrantForm::Bare { .. } => None,
+            RegistrantForm::Full(one) => Some(&one.last),
         }
     }
 

@@ -2,7 +2,7 @@ use Rattle.std.proofs.Common.{map, sym, ◌∙◌}
 use Rattle.rq_exchange.proofs.Words.{length-map, record_of}
 use Rattle.rq_exchange.proofs.replays.redo_analysed.Goals as goal
 
-pub redo-requires-clause-agenda : goal.redo-requires-clause-agenda
-redo-requires-clause-agenda g c κs within =
+pub redo_agenda-requires-clause-agenda : goal.redo_agenda-requires-clause-agenda
+redo_agenda-requires-clause-agenda g c κs within =
     c.in_ok-agenda.ensures.agenda (map record_of c.args.records.now)
     (length-map c.args.records.now record_of ∙ sym c.len.ensures) c.requires.lawful c.requires.analysis

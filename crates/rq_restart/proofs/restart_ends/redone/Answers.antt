@@ -8,14 +8,14 @@ use Rattle.rq_exchange.specs.Gathering.{IsRedoneTo}
 use Rattle.rq_restart.proofs.Clearing.{run_cleared, lawful_cleared, agenda_cleared, length_cleared}
 use Rattle.rq_restart.proofs.restart_ends.redone.Goals as goal
 
-pub redo-requires-clause-lawful : goal.redo-requires-clause-lawful
-redo-requires-clause-lawful g c κs within =
+pub redo_agenda-requires-clause-lawful : goal.redo_agenda-requires-clause-lawful
+redo_agenda-requires-clause-lawful g c κs within =
     let rs = map record_of c.args.records.items in
     subst (λ (xs : List model.Record). all_lawful model.Two c.args.state xs ≡ true) (sym c.clear_first.ensures)
     (lawful_cleared model.Two c.args.state rs ∙ c.requires.lawful)
 
-pub redo-requires-clause-fits : goal.redo-requires-clause-fits
-redo-requires-clause-fits g c κs within =
+pub redo_agenda-requires-clause-fits : goal.redo_agenda-requires-clause-fits
+redo_agenda-requires-clause-fits g c κs within =
     omega (
       arith,
       c.requires.fits,
@@ -25,8 +25,8 @@ redo-requires-clause-fits g c κs within =
       length_cleared (map record_of c.args.records.items),
     )
 
-pub redo-requires-clause-agenda : goal.redo-requires-clause-agenda
-redo-requires-clause-agenda g c κs within =
+pub redo_agenda-requires-clause-agenda : goal.redo_agenda-requires-clause-agenda
+redo_agenda-requires-clause-agenda g c κs within =
     subst (λ (xs : List model.Record). IsAgenda c.args.state xs c.args.agenda) (sym c.clear_first.ensures)
     (agenda_cleared c.args.state (map record_of c.args.records.items) c.args.agenda c.requires.agenda)
 

@@ -2,8 +2,8 @@ use Rattle.std.proofs.Common.{◌≡◌, ◌≤◌, ℕ, List, length, map, ◌�
 use Rattle.rq_exchange.proofs.Words.{length-map, Two, Record, Definition, IsWellFormed, AreDefinitions, run, record_of}
 use Rattle.rq_exchange.proofs.Words.{Vec, indices_of, listed, StartsByLast, AreRanks}
 use Rattle.rq_exchange.proofs.Errors.{places_map, errors_fall}
-use Rattle.rq_exchange.proofs.replays.redo.Goals as goal
-use Rattle.rq_exchange.proofs.replays.redo.Goals.{In_ok-errors}
+use Rattle.rq_exchange.proofs.replays.redo_agenda.Goals as goal
+use Rattle.rq_exchange.proofs.replays.redo_agenda.Goals.{In_ok-errors}
 
 -- the queues are those of the state after the records, which is well formed
 ends : (g : _) (c : In_ok-errors g)
