@@ -29,6 +29,19 @@ use rq_state::State;
 use std::alloc::Global;
 use std::thread::Threads;
 
+// How many of the plan's workers have something to do: as many at most as there are queues that wait
+// for nobody, since what follows each of these is redone by one thread at a time.
+fn crew_size(plan: &Plan, tasks: usize) -> u32
+    ensures { (0 < result) × (result ≤ 64) }
+{
+    let workers = plan.workers();
+    if 0 < tasks && tasks < workers as usize {
+        tasks as u32
+    } else {
+        workers
+    }
+}
+
 // Redoes all queues: those that wait for nobody are dealt, and each error queue follows the last
 // of its sources.
 fn redo_all<R: Threads + Sync, G: Gate + Sync>(
@@ -49,7 +62,8 @@ fn redo_all<R: Threads + Sync, G: Gate + Sync>(
         return Ok((Vec::new(alloc), Course::blank(alloc)));
     }
     let tasks = tasks_of(alloc, job.sources)?;
-    let (chain, rows) = CountdownChain::open(alloc, job, plan.workers())?;
+    let workers = crew_size(plan, tasks.len());
+    let (chain, rows) = CountdownChain::open(alloc, job, workers)?;
     let kept = all_kept(rt, alloc, job, &chain, gate, &tasks, rows)?;
     let (all, course) = close_countdowns(alloc, chain, kept)?;
     let parts = placed(alloc, job.definitions.len(), all)?;

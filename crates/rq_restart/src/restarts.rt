@@ -83,9 +83,10 @@ pub fn restart_own<R: Threads + Sync, G: Gate + Sync>(
 
 /// The front of a log, and the state behind it and the aborts of its open units.
 ///
-/// Every queue is redone by `plan.workers()` workers; each of them enters the gate before it redoes
-/// a queue. Refuses with `TooLong` more than 4,294,967,295 bytes, with `NotALog` bytes that begin
-/// with no version's header, and with `Resources` where memory is refused.
+/// The queues are redone by the plan's workers, but by no more of them than there are queues that
+/// wait for no other; each enters the gate before it redoes a queue. Refuses with `TooLong` more than
+/// 4,294,967,295 bytes, with `NotALog` bytes that begin with no version's header, and with
+/// `Resources` where memory is refused.
 pub fn restart<R: Threads + Sync, G: Gate + Sync>(
     rt: &R,
     alloc: Global,
