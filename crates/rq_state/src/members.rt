@@ -1,6 +1,7 @@
 //! What a state is made of.
 
 ghost use Rattle.std.specs.Prelude.{◌≡◌};
+ghost use Rattle.rq_model.specs.States as model;
 
 use rq_record::{ElemId, Name, QueueNo, UnitNo};
 use std::marker::Model;
@@ -164,8 +165,6 @@ pub struct Registrant {
 }
 
 impl Model for Registrant {
-    ghost use Rattle.rq_model.specs.States as model;
-
     ghost Value = { model.Registrant };
 
     ghost view = { λ r. record { queue = r.queue.0; name = r.name; last = r.last } };
