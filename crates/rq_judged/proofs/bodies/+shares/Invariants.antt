@@ -5,5 +5,5 @@ use Rattle.rq_judged.proofs.bodies.+shares.Given as goal
 abbrev pub decreases-read_apart : goal.decreases-read_apart
 decreases-read_apart g l = 2 * l.workers
 
-abbrev pub decreases-read_apart-join+arg2 : goal.decreases-read_apart-join+arg2
-decreases-read_apart-join+arg2 g l = 2 * l.fewer + 1
+abbrev pub decreases-join+arg2 : goal.decreases-join+arg2
+decreases-join+arg2 g l = 2 * l.fewer + 1
