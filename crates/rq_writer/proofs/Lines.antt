@@ -325,7 +325,7 @@ record_again : (version : Version) (r : Record) → IsRecord version r → IsTel
 unfolding record_at told_by
 record_again version (Define limit error name) h t = define_again version limit error name h
 record_again version (Register queue name) h t = registration_again Register queue name h.0 h.1
-record_again version (Deregister queue name) h t = deregistration_again Register queue name h.0 h.1
+record_again version (Deregister queue name) h t = registration_again Deregister queue name h.0 h.1
 record_again version (Begin unit) h t = unit_again Begin unit h
 record_again version (Enqueue unit queue priority by payload) h t =
     enqueue_again version unit queue priority by payload h t

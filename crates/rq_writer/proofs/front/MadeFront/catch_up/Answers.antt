@@ -13,8 +13,8 @@ returns-then-self-clause-state g c =
           c.one_front.ensures.from_run _ _ _ rs c.if-self.true h l,
     )
 
-pub front_redone-requires : goal.front_redone-requires
-front_redone-requires g c = λ κs within.
+pub front_redone-requires-after_bounds : goal.front_redone-requires-after_bounds
+front_redone-requires-after_bounds g c = λ κs within.
     omega (
       arith,
       behind_fits (version_of c.args.version) c.args.self.now.state c.args.self.now.since.items
