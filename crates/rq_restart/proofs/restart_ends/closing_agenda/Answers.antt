@@ -11,14 +11,13 @@ use Rattle.rq_restart.proofs.restart_ends.closing_agenda.Goals.{In_ok-closed}
 as_many : (c : In_ok-closed) → length c.in_ok-closed.units.items ≡ length (open_in c.args.analysis)
 as_many c = omega (arith, length-map c.in_ok-closed.units.items unit_of, ap length c.in_ok-closed.ensures.units)
 
-pub of-requires-clause-fits : goal.of-requires-clause-fits
-of-requires-clause-fits c =
+pub of-requires : goal.of-requires
+of-requires c =
     omega (
       arith,
       c.requires.fits,
       c.len.ensures,
-      c.len-2.ensures,
-      as_many (goal.at.of-requires-clause-fits c).In_ok-closed,
+      as_many (goal.at.of-requires c).In_ok-closed,
     )
 
 pub returns-clause-agenda : goal.returns-clause-agenda
@@ -32,7 +31,6 @@ returns-clause-agenda c =
       length-map c.args.records.now record_of,
       length-map (open_in c.args.analysis) model.Abort,
       c.len.ensures,
-      c.len-2.ensures,
       as_many (goal.at.returns-clause-agenda c).In_ok-closed,
     ))
     c.requires.lawful c.in_ok-closed.ensures.analysis
