@@ -1,6 +1,6 @@
 -- What is done to the registrants of a queue.
-use Rattle.std.proofs.Common.{◌≡◌, ◌+◌, ◌<◌, ◌≤◌, ℕ, Bool, true, false, cond, not, ◌&&◌, ◌||◌, ◌==◌, List, [], ◌∷◌, ◌++◌}
-use Rattle.std.proofs.Common.{Option, Some, None, is_some, map, length, drop, refl, sym, ap, subst, ◌∙◌, arith}
+use Rattle.std.proofs.Common.{◌≡◌, ◌+◌, ◌<◌, ◌≤◌, ℕ, Bool, true, false, cond, not, ◌&&◌, ◌||◌, ◌==◌, List, [], ◌∷◌}
+use Rattle.std.proofs.Common.{◌++◌, Option, Some, None, is_some, map, length, drop, refl, sym, ap, subst, ◌∙◌, arith}
 use Rattle.std.proofs.Common.{if◌then◌else◌, append_assoc}
 use Rattle.std.specs.Prelude.{nat_lt, slice_index_or}
 use Rattle.std.specs.List.{filter, list_any, AllByRecursion}
@@ -18,7 +18,8 @@ use Rattle.std.proofs.lemmas.Bool.Decides.{nat_tests}
 use Rattle.std.proofs.lemmas.Cmp.{nat_list_cmp_total}
 use Rattle.std.proofs.lemmas.List.{append-nil, drop_more, map-append}
 use Rattle.std.proofs.lemmas.Map.Text.{is_eq-slice_cmp}
-use Rattle.rq_model.specs.States.{Last, Note, Registrant, put, name_before, registrant_before, is_registrant, is_note_of}
+use Rattle.rq_model.specs.States.{Last, Note, Registrant, put, name_before, registrant_before}
+use Rattle.rq_model.specs.States.{is_registrant, is_note_of}
 use Rattle.rq_model.specs.Machine.{later, registered, deregistered, told}
 use Rattle.rq_model.specs.Queues.{registrants_at}
 use Rattle.rq_model.specs.WellFormed.{Ordered}
@@ -270,10 +271,12 @@ module _ (queue : ℕ) (rs : List Registrant) (at : ℕ → Registrant) (indices
       ap (λ (es : List RollEntry). map (registrant_of queue) es ++ rest) grown
       ∙ (ap (λ (xs : List Registrant). xs ++ rest) (map-append (registrant_of queue) old ((r.name, r.last) ∷ []))
       ∙ (append_assoc (map (registrant_of queue) old) (registrant_of queue (r.name, r.last) ∷ []) rest
-      ∙ (ap (λ q. map (registrant_of queue) old ++ (record { queue = q; name = r.name; last = r.last }) ∷ rest) (sym own)
+      ∙ (ap (λ q. map (registrant_of queue) old ++ (record { queue = q; name = r.name; last = r.last }) ∷ rest)
+      (sym own)
       ∙ next_one old i d r l e h)))
 
   pub rolled : (es : List RollEntry) (i : ℕ) → length indices ≤ i → Rolling es i
       → map (registrant_of queue) es ≡ registrants_at queue rs
   rolled es i l h = sym (append-nil (map (registrant_of queue) es))
-      ∙ (ap (λ (js : List ℕ). map (registrant_of queue) es ++ map at js) (sym (drop_of_length-le indices l)) ∙ (h ∙ are))
+      ∙ (ap (λ (js : List ℕ). map (registrant_of queue) es ++ map at js) (sym (drop_of_length-le indices l))
+      ∙ (h ∙ are))

@@ -113,8 +113,8 @@ impl<'a> KeptOps<'a> {
     }
 }
 
-/// Keeps the records of the operations: these, and the place of each operation with the index of its
-/// record.
+/// Keeps the records of the operations: these, and the place of each operation with the index of
+/// its record.
 pub(crate) fn kept_ops(
     alloc: Global,
     ops: &[Op],

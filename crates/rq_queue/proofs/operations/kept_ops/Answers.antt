@@ -12,7 +12,8 @@ loop-op-preserved c =
     let place = c.op.inside.place in
     let r = c.in_ok-of.field-0 in
     let records_are = c.in_ok-push-2.ensures.items in
-    let pairs_are = c.in_ok-push.ensures.items ∙ ap (λ n. ps ++ (place, n) ∷ []) (c.len.ensures ∙ c.loop-op.records.ok.0) in
+    let pairs_are = c.in_ok-push.ensures.items
+    ∙ ap (λ n. ps ++ (place, n) ∷ []) (c.len.ensures ∙ c.loop-op.records.ok.0) in
     record {
       within = subst (λ xs. All (λ p. p.1 < length xs) c.push.new.self.items) (sym records_are)
           (subst (λ xs. All (λ p. p.1 < length (rs ++ r ∷ [])) xs) (sym pairs_are)
@@ -21,7 +22,8 @@ loop-op-preserved c =
           ∙ ap (ops_at (map record_of (rs ++ r ∷ []) ++ more)) pairs_are
           ∙ next_too record_of rs r ps place c.args.ops.now c.loop-op.op-index c.loop-op-test.true
           c.op-item.result
-          ((λ j. record { place = place; does = record_of (c.in_ok-of.ensures.kept j) }) ∙ c.op.view_is ∙ c.op-item.is) c.loop-op.invariant.so_far more;
+          ((λ j. record { place = place; does = record_of (c.in_ok-of.ensures.kept j) }) ∙ c.op.view_is ∙ c.op-item.is)
+          c.loop-op.invariant.so_far more;
     }
 
 pub returns-clause-kept : goal.returns-clause-kept

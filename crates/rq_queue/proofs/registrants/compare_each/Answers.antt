@@ -15,8 +15,8 @@ loop-name-preserved c =
     one_more registrant_bytes (shown (c.in-Some.name.now, c.in-Some.last.now)) (map shown left)
     c.loop-name.bytes c.compare_one.new.bytes c.compare_one.ensures
     ∙ (ap (λ (es : List RollEntry). left_after (flat_map registrant_bytes (map shown es)) c.loop-name.bytes)
-    (sym (rest_more deref_pair c.loop-name.name-iterator left c.next.result (c.in-Some.name, c.in-Some.last) c.in-Some.is
-    c.next.ensures.steps))
+    (sym (rest_more deref_pair c.loop-name.name-iterator left c.next.result
+    (c.in-Some.name, c.in-Some.last) c.in-Some.is c.next.ensures.steps))
     ∙ c.loop-name.invariant)
 
 pub returns-then-not-agree : goal.returns-then-not-agree
@@ -28,5 +28,6 @@ pub returns : goal.returns
 returns c = sym (behind_nothing c.loop-name.bytes)
     ∙ (ap (λ (es : List RollEntry). left_after (flat_map registrant_bytes (map (registrant_of c.args.queue.0) es))
     c.loop-name.bytes)
-    (sym (rest_all deref_pair c.loop-name.name-iterator c.next.new.self c.next.result c.in-None.is c.next.ensures.steps))
+    (sym (rest_all deref_pair c.loop-name.name-iterator c.next.new.self c.next.result c.in-None.is
+    c.next.ensures.steps))
     ∙ c.loop-name.invariant)
