@@ -15,6 +15,8 @@ use Rattle.rq_record.specs.declared.record.RecordOf.TheVariants.{Abort}
 use Rattle.rq_record.specs.Views.{Record, record_of}
 use Rattle.rq_state.specs.Views.{unit_of}
 use Rattle.rq_catalog.specs.declared.catalogue.Catalogue.{Catalogue}
+use Rattle.rq_catalog.specs.declared.grounds.Grounds.{Grounds}
+use Rattle.rq_catalog.specs.Grounds.{AreGroundsOf}
 use Rattle.rq_catalog.specs.Units.{has_unit}
 use Rattle.rq_catalog.specs.Catalogues.{Follows, HasRoom, Takes}
 use Rattle.rq_catalog.specs.Analyses.{IsAnalysis}
@@ -22,6 +24,22 @@ use Rattle.rq_catalog.proofs.Ends.{upto, room_here, unit_here, one_on, ends_whol
 
 abbrev pub abort : UnitNo → Record
 abort unit = Abort unit
+
+-- an ABORT changes nothing in the grounds: whoever took it there before the catalogue takes it lost nothing
+pub takes_abort : (c d : Catalogue) (h : Grounds) (op : ℕ × ℕ) (unit : UnitNo)
+    → ((s : State) → AreGroundsOf c.grounds s → AreGroundsOf h (step s (model.Abort unit.0)))
+    → Takes (record c { grounds = h }) d op (Abort unit) → Takes c d op (Abort unit)
+takes_abort c d h op unit on t = record {
+  grounds = λ s k. let j = on s k in t.grounds s
+      (record { definitions = j.definitions; names = j.names; registrants = j.registrants; greatest = j.greatest });
+  outcomes = t.outcomes;
+  numbers = t.numbers;
+  committed = t.committed;
+  aborted = t.aborted;
+  engaged = t.engaged;
+  queues = t.queues;
+  touching = t.touching;
+}
 
 abbrev pub with_aborts : List Record → List UnitNo → List Record
 with_aborts rs units = rs ++ map abort units
