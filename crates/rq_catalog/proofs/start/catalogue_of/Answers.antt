@@ -14,9 +14,9 @@ returns-clause-follows c =
     starts _ _ _ _ _ c.units.ensures c.elements.ensures c.notes.ensures c.in_ok-grounds.ensures.knows
     c.committed.ensures c.aborted.ensures
     (noted.0 ∙ marked.0 ∙ begun.numbers)
-    (λ u. noted.1.0 u ∙ marked.1.0 u ∙ begun.outcomes u)
+    (λ u. noted.1 u ∙ marked.1 u ∙ begun.outcomes u)
     (λ u q. engaged_in_turn _ _ _ _ _ _ u q (marked.0 ∙ begun.numbers) begun.numbers
-    (noted.1.1.1 u q) (marked.1.1.1 u q) (begun.engaged u q))
+    (noted.3 u q) (marked.3 u q) (begun.engaged u q))
     (c.in_ok-touching.ensures.len ∙ c.definition_count.ensures) c.in_ok-touching.ensures.listed
     c.requires
 
