@@ -13,10 +13,10 @@ returns-clause-units c =
     all_engaged c.step_by_parts.ensures.step c.args.state.now c.begin_all.new.units c.engage_by_marks.new.units
     c.engage_by_notes.new.units c.is_well_formed.ensures
     (λ u. all_begun u _ _ _ _ c.units.ensures (c.none-units.ensures u) (c.in_ok-begin_all.ensures.opened u))
-    marked.1.1.0 noted.1.1.0
-    (λ u q. marked.1.1.1 u q
+    marked.2 noted.2
+    (λ u q. marked.3 u q
     ∙ ap (λ (es : List Element). (has_open c.begin_all.new.units u && list_any (is_marked_at u q) es)
     || engages_in c.begin_all.new.units u q) c.elements.ensures)
-    (λ u q. noted.1.1.1 u q
+    (λ u q. noted.3 u q
     ∙ ap (λ (ns : List Note). (has_open c.engage_by_marks.new.units u && list_any (is_noted_at u q) ns)
     || engages_in c.engage_by_marks.new.units u q) c.notes.ensures)
