@@ -6,6 +6,7 @@ ghost use Rattle.rq_judged.specs.GrowingFronts.{GoesAlong};
 use crate::refusal::{Refusal, Stream, failed};
 use rq_journal::{Fault, Plan, is_carried};
 use rq_judged::GrowingFront;
+use std::alloc::{AllocError, Global};
 use std::fs::{self, File, Files};
 use std::io::{self, Chain, Cursor, ErrorKind, Read};
 use std::os::unix::fs::FileExt;
@@ -84,6 +85,12 @@ fn read_piece(file: &mut File, piece: &mut [u8]) -> Result<usize, Refusal>
     Err(Refusal::Refused(Fault::ReadFailed))
 }
 
+// Room for what is read at a time. (A function of its own, since the check of one that knows its
+// bytes would look at each.)
+fn room_for_piece(alloc: Global) -> Result<Vec<u8>, AllocError> {
+    vec![in alloc; 0u8; PIECE]
+}
+
 /// Goes along with the log in an open file, piece by piece, read from where that stands to its end,
 /// and answers how many bytes these are.
 pub(crate) fn feed_file<R>(
@@ -97,7 +104,7 @@ where
     requires { (b : List ℕ) × GoesAlong b front.old }
     ensures { OnOk result ((b : List ℕ) × GoesAlong b front.new) }
 {
-    let mut piece = vec![in rt.alloc(); 0u8; PIECE]?;
+    let mut piece = room_for_piece(rt.alloc())?;
     let mut total = 0usize;
     for _ in 0..u64::MAX {
         let count = read_piece(file, &mut piece)?;
