@@ -1,12 +1,11 @@
 -- What the first record spells does nothing: records do the same without it.
-use Rattle.std.proofs.Common.{◌≡◌, ℕ, ◌+◌, Bool, ◌&&◌, List, [], ◌∷◌, ◌++◌, length, map, refl, sym, ap, ◌∙◌, subst}
-use Rattle.std.specs.Prelude.{◌||◌, if◌then◌else◌}
-use Rattle.std.specs.List.{list_any}
+use Rattle.std.proofs.Common.{◌≡◌, ℕ, ◌+◌, Bool, List, [], ◌∷◌, ◌++◌, length, map, refl, sym, ap, ◌∙◌, subst}
+use Rattle.std.specs.Prelude.{if◌then◌else◌}
 use Rattle.rq_model.specs.Records.{Record, Define, Register, Deregister, Begin, Enqueue, Dequeue, Commit, Abort}
 use Rattle.rq_model.specs.Records.{Checkpoint, Kill, Version}
 use Rattle.rq_model.specs.States.{State}
-use Rattle.rq_model.specs.Machine.{is_lawful, all_lawful, step, run}
-use Rattle.rq_model.specs.Queues.{Op, engages, touches, touching_from, is_engaged}
+use Rattle.rq_model.specs.Machine.{all_lawful, run}
+use Rattle.rq_model.specs.Queues.{Op, touches, touching_from}
 use Rattle.rq_catalog.specs.Lists.{place_and_index}
 use Rattle.rq_exchange.specs.Agendas.{IsAgenda}
 use Rattle.rq_exchange.specs.Gathering.{HasAllButMembers}
