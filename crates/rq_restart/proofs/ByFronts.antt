@@ -18,7 +18,8 @@ use Rattle.rq_restart.specs.declared.restarts.FoundFront.{FoundFront}
 
 -- it begins in the empty state
 pub from_empty : (b : List ℕ) (f : FoundFront) → IsFoundFront b f
-    → IsFrontFrom (version_of f.version) empty b 40 (map record_of f.front.records.items) f.front.end (why_of f.front.why)
+    → IsFrontFrom (version_of f.version) empty b 40 (map record_of f.front.records.items) f.front.end
+    (why_of f.front.why)
 from_empty b f is =
     subst (λ (s : State). IsFrontFrom (version_of f.version) s b 40 (map record_of f.front.records.items) f.front.end
     (why_of f.front.why)) is.start is.found.front

@@ -47,7 +47,8 @@ HasTaken x all i y = (version : Version) (s : State) → Stands version x s
     × Stands version y (run s (take i (map record_of all)))
 
 pub one_further : (x y z : Standing) (all : List Own) (i : ℕ) (r : Own) (lawful : Bool) → i < length all
-    → r ≡ slice_index_or all i r → HasTaken x all i y → TakesOne y (record_of r) z lawful → lawful ≡ true → HasTaken x all (i + 1) z
+    → r ≡ slice_index_or all i r → HasTaken x all i y → TakesOne y (record_of r) z lawful → lawful ≡ true
+    → HasTaken x all (i + 1) z
 one_further x y z all i r lawful lt is had one taken = λ version s stands.
     let rs = map record_of all in
     let t = run s (take i rs) in

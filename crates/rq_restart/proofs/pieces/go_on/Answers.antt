@@ -10,7 +10,8 @@ use Rattle.rq_restart.proofs.pieces.go_on.Goals as goal
 pub returns-clause-went_on : goal.returns-clause-went_on
 returns-clause-went_on g c = record {
   count = λ version s stands. (to version s stands).count;
-  stands = λ version s stands. subst (λ (v : Version). Stands v c.in_ok-standing.field-0 (run s (lawful_front version s rs)))
+  stands = λ version s stands.
+      subst (λ (v : Version). Stands v c.in_ok-standing.field-0 (run s (lawful_front version s rs)))
       (c.version-version.ensures version s stands)
       (subst (Stands (version_of c.version-version.result) c.in_ok-standing.field-0) (to version s stands).state
       c.in_ok-standing.ensures.stands);
@@ -24,5 +25,6 @@ returns-clause-went_on g c = record {
     to version s stands =
         subst (λ (v : Version). ComesTo v s rs c.in_ok-state-2.state c.in_ok-state-2.count)
         (c.version-version.ensures version s stands)
-        (subst (λ (t : State). ComesTo (version_of c.version-version.result) t rs c.in_ok-state-2.state c.in_ok-state-2.count)
+        (subst (λ (t : State). ComesTo (version_of c.version-version.result) t rs c.in_ok-state-2.state
+        c.in_ok-state-2.count)
         (c.in_ok-state.ensures.state version s stands) c.in_ok-state-2.ensures.redone)

@@ -8,7 +8,8 @@ found : (g : _) (c : In_ok-from g) → IsFoundFront c.args.bytes.now c.in_ok-fro
 found g c = subst (λ (b : List ℕ). IsFoundFront b c.in_ok-from.from) c.borrowed.ensures c.in_ok-from.ensures
 
 pub state_behind-requires-clause-front : goal.state_behind-requires-clause-front
-state_behind-requires-clause-front g c κs within = (40, (found g ((goal.at.state_behind-requires-clause-front g c).In_ok-from)).found)
+state_behind-requires-clause-front g c κs within =
+    (40, (found g ((goal.at.state_behind-requires-clause-front g c).In_ok-from)).found)
 
 pub returns : goal.returns
 returns g c =

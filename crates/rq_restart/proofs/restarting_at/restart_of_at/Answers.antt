@@ -2,7 +2,8 @@ use Rattle.rq_restart.proofs.ByFronts.{restarts_at}
 use Rattle.rq_restart.proofs.restarting_at.restart_of_at.Goals as goal
 
 pub finish-requires-clause-front : goal.finish-requires-clause-front
-finish-requires-clause-front g c κs within = (c.args.bytes.now, c.args.offset, c.in_ok-from.ensures.found, c.len.ensures)
+finish-requires-clause-front g c κs within =
+    (c.args.bytes.now, c.args.offset, c.in_ok-from.ensures.found, c.len.ensures)
 
 pub returns : goal.returns
 returns g c =

@@ -5,7 +5,8 @@ use Rattle.rq_restart.proofs.restarting_at.restart_own_at.Goals as goal
 use Rattle.rq_restart.proofs.restarting_at.restart_own_at.Goals.{In_ok-from}
 
 found : (g : _) (c : In_ok-from g) → IsFoundAt c.args.bytes.items c.args.offset c.in_ok-from.from
-found g c = subst (λ (b : List ℕ). IsFoundAt b c.args.offset c.in_ok-from.from) (c.shared.ensures ∙ c.in_ok-log.ensures) c.in_ok-from.ensures
+found g c = subst (λ (b : List ℕ). IsFoundAt b c.args.offset c.in_ok-from.from)
+    (c.shared.ensures ∙ c.in_ok-log.ensures) c.in_ok-from.ensures
 
 total : (g : _) (c : In_ok-from g) → c.len-total.result ≡ length c.args.bytes.items
 total g c = c.len-total.ensures ∙ c.args.bytes.ok.0

@@ -5,7 +5,8 @@ use Rattle.rq_restart.proofs.restarts.restart_own.Goals as goal
 use Rattle.rq_restart.proofs.restarts.restart_own.Goals.{In_ok-from}
 
 found : (g : _) (c : In_ok-from g) → IsFoundFront c.args.bytes.items c.in_ok-from.from
-found g c = subst (λ (b : List ℕ). IsFoundFront b c.in_ok-from.from) (c.shared.ensures ∙ c.in_ok-log.ensures) c.in_ok-from.ensures
+found g c = subst (λ (b : List ℕ). IsFoundFront b c.in_ok-from.from)
+    (c.shared.ensures ∙ c.in_ok-log.ensures) c.in_ok-from.ensures
 
 total : (g : _) (c : In_ok-from g) → c.len-total.result ≡ length c.args.bytes.items
 total g c = c.len-total.ensures ∙ c.args.bytes.ok.0

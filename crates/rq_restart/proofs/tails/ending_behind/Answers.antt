@@ -42,7 +42,8 @@ returns-then-len-front-clause-refused c =
     let count : c.len.result ≡ length (units d) =
     omega (arith, c.len.ensures, length-map c.in_ok-units.units.items unit_of) in
     too_large (version_of c.args.from.now.version) c.requires.ends c.args.bytes.now (records d) front.end
-    (why_of front.why) (units d) c.len.result is.found.short is.header (from_empty c.args.bytes.now c.args.from.now is) (are_open d) count
+    (why_of front.why) (units d) c.len.result is.found.short is.header (from_empty c.args.bytes.now c.args.from.now is)
+    (are_open d) count
     (omega (arith, c.if-len-front.true))
 
 pub returns-in_err-append_aborts-clause-refused : goal.returns-in_err-append_aborts-clause-refused
@@ -62,5 +63,6 @@ returns-clause-ending c =
     ∙ (λ i. c.new-tail.ensures.items i ++ frames_of (c.before-2.ensures i)
     (map model.Abort (map unit_of (c.deref.ensures.value i)))) in
     is_ending (version_of c.args.from.now.version) c.requires.ends c.args.bytes.now (records d) _
-    (why_of front.why) (units d) c.len.result is.found.short is.header (from_empty c.args.bytes.now c.args.from.now is) (are_open d) count
+    (why_of front.why) (units d) c.len.result is.found.short is.header (from_empty c.args.bytes.now c.args.from.now is)
+    (are_open d) count
     (omega (arith, c.if-len-front.false)) wrote
