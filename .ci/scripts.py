@@ -1,20 +1,23 @@
 #!/usr/bin/env python3
 """Tries ./rq, ./rqlook, ./rqlog, tools/ship and tools/install in a small clone, with programs and a toolchain that only tell how they were
-called: which program is run, when one is built, what is refused and installed.
+called: which program is run, when one is built, what is refused and installed. And tries in what order tools/proofs.py lets checks begin.
 
 usage: scripts.py
 Prints a line for each thing that is not as it must be, and at last `N passed, M failed`.
 """
 from __future__ import annotations
 import fcntl, os, pty, shutil, struct, subprocess, sys, tempfile, termios
-from contextlib import contextmanager
-from typing import Callable, Dict, Iterator, List, Tuple
+from contextlib import contextmanager, nullcontext
+from types import SimpleNamespace
+from typing import Any, Callable, Dict, Iterator, List, Tuple
 
 sys.dont_write_bytecode = True
 import counting  # noqa: E402
 from counting import check  # noqa: E402
 
 TOP = os.path.dirname(os.path.dirname(os.path.abspath(__file__)))
+sys.path.insert(0, os.path.join(TOP, "tools"))
+import proofs  # noqa: E402
 NOBODY = 65534
 PROCESSORS = ["x86-64-v2", "x86-64-v3"]
 # No folder that has a toolchain.
@@ -256,12 +259,56 @@ def links(clone: Clone, prefix: str) -> None:
     check("away from there", (clone.run("tools/install", "--uninstall", "/usr", DESTDIR=below)[0], files_below(below)), (0, []))
 
 
+# Checks of a crate, of one above it, of one beside them, of a program over the first two, and a wrong body of the first: for each,
+# those that it waits for, and its lines.
+LOW, HIGH, SIDE, PROGRAM = ((it, "proof") for it in ("low", "high", "side", "program"))
+WRONG = ("low", "edits", 0)
+CHECKS: Dict[Any, Tuple[List[Any], int]] = {LOW: ([], 100), SIDE: ([], 150), WRONG: ([], 300), HIGH: ([LOW], 100), PROGRAM: ([LOW, HIGH], 10)}
+
+
+def order(_: Clone) -> None:
+    """The longest chain comes first, with what is compiled for a program, and wrong bodies come last."""
+    tasks = {key: proofs.Task(waits, lines, 2, lambda given, jobs: True) for key, (waits, lines) in CHECKS.items()}
+    ranks = proofs.ranks(tasks)
+    check("order of checks", sorted(ranks, key=ranks.get, reverse=True), [LOW, SIDE, HIGH, PROGRAM, WRONG])
+    check("chain of a program", ranks[PROGRAM], (True, 30.0))
+
+    def jobs(processors: int, memory: float, is_fixed: bool, *keys: Any) -> List[int]:
+        shares = proofs.Shares(processors, memory, is_fixed, ranks)
+        return [shares.begin(it, 2, False) for it in keys]
+
+    check("on two processors", jobs(2, 100, False, LOW, SIDE, WRONG), [1, 1, 0])
+    check("on four", jobs(4, 100, False, SIDE, WRONG, LOW), [3, 2, 3])
+    check("alone", proofs.Shares(4, 100, False, ranks).begin(PROGRAM, 2, True), 4)
+    check("with little memory", jobs(4, 4, False, LOW, SIDE, WRONG), [2, 0, 0])
+    check("with less, of so many processors", jobs(2, 1, True, LOW, SIDE, WRONG), [1, 1, 0])
+
+
+def side_by_side(_: Clone) -> None:
+    """All checks run once, each once those that it waits for have ended."""
+    begun: List[Any] = []
+
+    def task(key: Any) -> Tuple[Any, ...]:
+        waits, lines = CHECKS[key]
+
+        def call(given: Dict[Any, Any], jobs: int) -> Any:
+            begun.append((key, all(it in given for it in waits)))
+            return key
+
+        return waits, lines, 2, call
+
+    rt = SimpleNamespace(processors=lambda: 2, free=lambda: 100, ending=nullcontext)
+    given = proofs.side_by_side(rt, {it: task(it) for it in CHECKS})
+    check("what checks gave", given, {it: it for it in CHECKS})
+    check("checks that began", sorted(begun, key=str), sorted(((it, True) for it in CHECKS), key=str))
+
+
 def main() -> None:
     folder = tempfile.mkdtemp(prefix="rq-scripts-")
     os.chmod(folder, 0o755)
     try:
         clone = Clone(folder)
-        for part in (words, shipping, terminals, changes, bytes_changed, building, read_only, installing):
+        for part in (words, shipping, terminals, changes, bytes_changed, building, read_only, installing, order, side_by_side):
             try:
                 part(clone)
             except Exception as fault:

@@ -4,76 +4,105 @@
 usage: proofs.py
 Run where `rt ci` runs. It says and keeps what `rt ci` does, and ends as that does. But `rt ci` gives a check more than one processor
 only if hardly anything else is ready, so the longest chain of crates takes half an hour on four processors. Here the crate that has
-the longest chain of others behind it gets several of them, all if nothing else is ready, and beside it others get one each. If the
-toolchain's rt is not made as that of rattle-kit-13f is, its `rt ci` shares them out by itself.
+the longest chain of others behind it gets several of them, all if nothing else is ready. Beside it others get up to half of them
+each, and are nicer than it, so that they take what it leaves idle. As for rt, RT_JOBS is the number of processors, and then free
+memory decides only whether a check gets more than one. If the toolchain's rt is not made as that of rattle-kit-13f is, its `rt ci`
+shares them out by itself.
 """
 from __future__ import annotations
 import os, sys
 from concurrent.futures import FIRST_COMPLETED, Future, ThreadPoolExecutor, wait
-from typing import Any, Callable, Dict, Hashable, List, NamedTuple, Tuple
+from typing import Any, Callable, Dict, List, NamedTuple, Tuple
 
 sys.dont_write_bytecode = True
 from wrong.places import loaded
 
-# What a check takes in memory for each processor after the first, in parts of what it takes with one.
-FOR_EACH_MORE = 0.6
+# What a check takes in memory for each processor after the first, in parts of what it takes with one; and the most that one was seen
+# to take, in parts of what rt guesses.
+FOR_EACH_MORE, OF_GUESS = 0.6, 0.67
+# How nice the others are to the first. On Linux a thread has a niceness of its own, and what it starts takes that over.
+NICER = 2
+# What it takes to compile a line of a library for a program or for tests, in parts of what it takes to prove one.
+COMPILED = 0.1
+# What rt calls the two checks of a crate, in the name of a task behind that of the crate; and what its wrong bodies take, which
+# fill what these leave free.
+CHECKS, FILLS = ("proof", "tests"), ("seed", "edits")
+# The name of a task: that of the crate, what is done, and a number if there are several.
+Key = Tuple[Any, ...]
 
 
 class Task(NamedTuple):
     """A task, as rt has it: those that it waits for, its work in lines, its memory, and the call that does it, which is told what each
     of the others gave, and how many processors it may use."""
 
-    waits: List[Hashable]
+    waits: List[Key]
     work: int
     memory: int
-    call: Callable[[Dict[Hashable, Any], int], Any]
+    call: Callable[[Dict[Key, Any], int], Any]
 
 
-def chains(tasks: Dict[Hashable, Task]) -> Dict[Hashable, int]:
-    """The work of the longest chain that begins with each task. Each comes behind those that it waits for."""
-    found = dict.fromkeys(tasks, 0)
+def chains(tasks: Dict[Key, Task]) -> Dict[Key, float]:
+    """The work of the longest chain that begins with each task. Each comes behind those that it waits for. A check that nobody waits
+    for is of a program, or of tests, which are compiled with all that they stand on."""
+    waited_for = {below for it in tasks.values() for below in it.waits}
+    found = dict.fromkeys(tasks, 0.0)
     for key in reversed([*tasks]):
         found[key] += tasks[key].work
+        if key[1] in CHECKS and tasks[key].work and key not in waited_for:
+            found[key] += COMPILED * sum(tasks[it].work for it in tasks[key].waits)
         for it in tasks[key].waits:
             found[it] = max(found[it], found[key])
     return found
 
 
+def ranks(tasks: Dict[Key, Task]) -> Dict[Key, Tuple[bool, float]]:
+    """Who comes first: wrong bodies last, and of the rest the longest chain first."""
+    return {key: (key[1] not in FILLS, chain) for key, chain in chains(tasks).items()}
+
+
 class Shares:
     """The tasks that run, and what each of them has: processors and memory."""
 
-    def __init__(self, processors: int, memory: float, chains: Dict[Hashable, int]) -> None:
-        self.processors, self.memory, self.chains = processors, memory, chains
-        self.running: Dict[Hashable, Tuple[int, float]] = {}
+    def __init__(self, processors: int, memory: float, is_fixed: bool, ranks: Dict[Key, Tuple[bool, float]]) -> None:
+        self.processors, self.memory, self.is_fixed, self.ranks = processors, memory, is_fixed, ranks
+        self.running: Dict[Key, Tuple[int, float]] = {}
 
-    def jobs(self, key: Hashable, is_alone: bool) -> int:
-        """How many processors the task may use, if it begins now; 0 if it has to wait. All but one, if others are ready or run."""
-        if all(self.chains[key] >= self.chains[it] for it in self.running):
+    def is_first(self, key: Key) -> bool:
+        """Whether it comes before all that run."""
+        return all(self.ranks[key] > self.ranks[it] for it in self.running)
+
+    def jobs(self, key: Key, is_alone: bool) -> int:
+        """How many processors the task may use, if it begins now; 0 if it has to wait."""
+        if self.is_first(key):
             return self.processors if is_alone else max(1, self.processors - 1)
-        return 1 if len(self.running) < self.processors else 0
+        return max(1, self.processors // 2) if len(self.running) < self.processors else 0
 
-    def begin(self, key: Hashable, memory: int, is_alone: bool) -> int:
+    def begin(self, key: Key, memory: float, is_alone: bool) -> int:
         """Lets the task begin, if it may and its memory is free: answers its processors, and else 0."""
-        jobs = self.jobs(key, is_alone)
-        needs = memory * (1 + FOR_EACH_MORE * (jobs - 1))
-        if not jobs or (self.running and needs > self.memory - sum(it for _, it in self.running.values())):
+        jobs, free = self.jobs(key, is_alone), self.memory - sum(it for _, it in self.running.values())
+        while jobs > 1 and memory * (1 + FOR_EACH_MORE * (jobs - 1)) > free:
+            jobs -= 1
+        if not jobs or (self.running and memory > free and not self.is_fixed):
             return 0
-        self.running[key] = jobs, needs
+        self.running[key] = jobs, memory * (1 + FOR_EACH_MORE * (jobs - 1))
         return jobs
 
 
-def side_by_side(rt: Any, tasks: Dict[Hashable, Any]) -> Dict[Hashable, Any]:
+def side_by_side(rt: Any, tasks: Dict[Key, Any]) -> Dict[Key, Any]:
     """Runs the tasks, each once those that it waits for have ended, and returns what each gave."""
     known = {key: Task(*it) for key, it in tasks.items()}
-    shares = Shares(rt.processors(), 0.85 * rt.free(), chains(known))
-    left, given = sorted(known, key=lambda it: -shares.chains[it]), {}
-    going: Dict[Future, Hashable] = {}
-    with rt.ending(), ThreadPoolExecutor(len(known) or 1) as pool:
+    number = os.environ.get("RT_JOBS", "")
+    shares = Shares(int(number) if number.isdigit() else rt.processors(), 0.85 * rt.free(), number.isdigit(), ranks(known))
+    left, given = sorted(known, key=shares.ranks.get, reverse=True), {}
+    going: Dict[Future, Key] = {}
+    first, others = ThreadPoolExecutor(len(known) or 1), ThreadPoolExecutor(len(known) or 1, initializer=os.nice, initargs=(NICER,))
+    with rt.ending(), first, others:
         while left or going:
             ready = [it for it in left if all(below in given for below in known[it].waits)]
             is_alone = not going and sum(1 for it in ready if known[it].work) == 1
             for key in ready:
-                jobs = shares.begin(key, known[key].memory, is_alone)
+                pool = first if shares.is_first(key) else others
+                jobs = shares.begin(key, OF_GUESS * known[key].memory, is_alone)
                 if jobs:
                     left.remove(key)
                     going[pool.submit(known[key].call, given, jobs)] = key
