@@ -110,8 +110,8 @@ impl Analysis {
         Ok(Analysis { lawful, catalogue })
     }
 
-    /// Continues an analysis of records, all of which are lawful, with the ABORT of each unit that is
-    /// open behind them, rising. Answers these units too. Refused only with `Resources`.
+    /// Continues an analysis of records, all of which are lawful, with the ABORT of each unit that
+    /// is open behind them, rising. Answers these units too. Refused only with `Resources`.
     pub fn abort_all(
         self,
         alloc: Global,

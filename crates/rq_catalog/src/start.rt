@@ -94,7 +94,8 @@ fn engage_by_mark<E: Engaging>(units: &mut E, element: &KeptElement) -> Result<(
     }
 }
 
-/// The units engage the queues in which an element is marked by them. Refused with `Resources` alone.
+/// The units engage the queues in which an element is marked by them. Refused only with
+/// `Resources`.
 pub fn engage_by_marks<E: Engaging>(units: &mut E, elements: &[KeptElement]) -> Result<(), Fault>
     ensures engaged { OnOk result (EngagesToo E.numbers_of E.outcome_in E.has E.engages units.old
         (λ u q. list_any (is_marked_at u q) elements.now) units.new) }
@@ -106,7 +107,7 @@ pub fn engage_by_marks<E: Engaging>(units: &mut E, elements: &[KeptElement]) -> 
     Ok(())
 }
 
-/// The units engage the queues in which they have a note. Refused with `Resources` alone.
+/// The units engage the queues in which they have a note. Refused only with `Resources`.
 pub fn engage_by_notes<E: Engaging>(units: &mut E, notes: &[Note]) -> Result<(), Fault>
     ensures engaged { OnOk result (EngagesToo E.numbers_of E.outcome_in E.has E.engages units.old
         (λ u q. list_any (is_noted_at u q) notes.now) units.new) }

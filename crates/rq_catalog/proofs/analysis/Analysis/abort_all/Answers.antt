@@ -7,7 +7,8 @@ use Rattle.rq_record.specs.Views.{Record, record_of}
 use Rattle.rq_state.specs.Views.{unit_of}
 use Rattle.rq_catalog.specs.Analyses.{open_in, IsAnalysis}
 use Rattle.rq_catalog.specs.Catalogues.{Follows}
-use Rattle.rq_catalog.proofs.Aborts.{with_aborts, records_with_aborts, records_first, lawful_upto, abort_room, abort_known, abort_follows, abort_ends}
+use Rattle.rq_catalog.proofs.Aborts.{with_aborts, records_with_aborts, records_first, lawful_upto, abort_room}
+use Rattle.rq_catalog.proofs.Aborts.{abort_known, abort_follows, abort_ends}
 use Rattle.rq_catalog.proofs.Ends.{upto}
 use Rattle.rq_catalog.proofs.Runs.{front_whole}
 use Rattle.rq_catalog.proofs.analysis.Analysis.abort_all.Goals as goal
@@ -23,7 +24,8 @@ are c = records_with_aborts c.args.records.now c.in_ok-units.units.items
     ∙ ap (λ (us : List ℕ). map record_of c.args.records.now ++ map model.Abort us) c.in_ok-units.ensures.units
 
 are_lawful : (c : In_ok-units) → all_lawful Two c.args.state.now (map record_of (all c)) ≡ true
-are_lawful c = subst (λ (l : List model.Record). all_lawful Two c.args.state.now l ≡ true) (sym (are c)) c.requires.lawful
+are_lawful c = subst (λ (l : List model.Record). all_lawful Two c.args.state.now l ≡ true)
+    (sym (are c)) c.requires.lawful
 
 -- the catalogue follows the records
 first_follows : (c : In_ok-units) → Follows c.args.self.catalogue c.args.state.now
