@@ -29,8 +29,8 @@ use rq_state::State;
 use std::alloc::Global;
 use std::thread::Threads;
 
-// How many of the plan's workers have something to do: as many at most as there are queues that wait
-// for nobody, since what follows each of these is redone by one thread at a time.
+// How many of the plan's workers have something to do: at most one for each queue that waits for
+// nobody, since what follows such a queue is redone by one thread at a time.
 fn crew_size(plan: &Plan, tasks: usize) -> u32
     ensures { (0 < result) × (result ≤ 64) }
 {
