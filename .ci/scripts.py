@@ -259,18 +259,19 @@ def links(clone: Clone, prefix: str) -> None:
     check("away from there", (clone.run("tools/install", "--uninstall", "/usr", DESTDIR=below)[0], files_below(below)), (0, []))
 
 
-# Checks of a crate, of one above it, of one beside them, of a program over the first two, and a wrong body of the first: for each,
+# Checks of a crate, of one above it, of one beside them, of a program over the first two, and two wrong bodies of the first: for each,
 # those that it waits for, and its lines.
 LOW, HIGH, SIDE, PROGRAM = ((it, "proof") for it in ("low", "high", "side", "program"))
-WRONG = ("low", "edits", 0)
+WRONG, WRONG_TOO = ("low", "edits", 0), ("low", "edits", 1)
 CHECKS: Dict[Any, Tuple[List[Any], int]] = {LOW: ([], 100), SIDE: ([], 150), WRONG: ([], 300), HIGH: ([LOW], 100), PROGRAM: ([LOW, HIGH], 10)}
+CHECKS[WRONG_TOO] = CHECKS[WRONG]
 
 
 def order(_: Clone) -> None:
     """The longest chain comes first, with what is compiled for a program, and wrong bodies come last."""
     tasks = {key: proofs.Task(waits, lines, 2, lambda given, jobs: True) for key, (waits, lines) in CHECKS.items()}
     ranks = proofs.ranks(tasks)
-    check("order of checks", sorted(ranks, key=ranks.get, reverse=True), [LOW, SIDE, HIGH, PROGRAM, WRONG])
+    check("order of checks", sorted(ranks, key=ranks.get, reverse=True), [LOW, SIDE, HIGH, PROGRAM, WRONG, WRONG_TOO])
     check("chain of a program", ranks[PROGRAM], (True, 30.0))
 
     def jobs(processors: int, memory: float, is_fixed: bool, *keys: Any) -> List[int]:
@@ -279,9 +280,23 @@ def order(_: Clone) -> None:
 
     check("on two processors", jobs(2, 100, False, LOW, SIDE, WRONG), [1, 1, 0])
     check("on four", jobs(4, 100, False, SIDE, WRONG, LOW), [3, 2, 3])
+    check("of one rank", jobs(4, 100, False, WRONG, WRONG_TOO), [3, 2])
     check("alone", proofs.Shares(4, 100, False, ranks).begin(PROGRAM, 2, True), 4)
     check("with little memory", jobs(4, 4, False, LOW, SIDE, WRONG), [2, 0, 0])
     check("with less, of so many processors", jobs(2, 1, True, LOW, SIDE, WRONG), [1, 1, 0])
+
+
+@contextmanager
+def set_to(name: str, value: str) -> Iterator[None]:
+    """A variable of the environment, for a while."""
+    before = os.environ.get(name)
+    os.environ[name] = value
+    try:
+        yield
+    finally:
+        del os.environ[name]
+        if before is not None:
+            os.environ[name] = before
 
 
 def side_by_side(_: Clone) -> None:
@@ -298,9 +313,12 @@ def side_by_side(_: Clone) -> None:
         return waits, lines, 2, call
 
     rt = SimpleNamespace(processors=lambda: 2, free=lambda: 100, ending=nullcontext)
-    given = proofs.side_by_side(rt, {it: task(it) for it in CHECKS})
-    check("what checks gave", given, {it: it for it in CHECKS})
-    check("checks that began", sorted(begun, key=str), sorted(((it, True) for it in CHECKS), key=str))
+    for number in ("", "0", "1", "4"):
+        begun.clear()
+        with set_to("RT_JOBS", number):
+            given = proofs.side_by_side(rt, {it: task(it) for it in CHECKS})
+        check(f"what checks gave, of RT_JOBS={number}", given, {it: it for it in CHECKS})
+        check(f"checks that began, of RT_JOBS={number}", sorted(begun, key=str), sorted(((it, True) for it in CHECKS), key=str))
 
 
 def main() -> None:

@@ -43,7 +43,7 @@ class Task(NamedTuple):
 
 def chains(tasks: Dict[Key, Task]) -> Dict[Key, float]:
     """The work of the longest chain that begins with each task. Each comes behind those that it waits for. A check that nobody waits
-    for is of a program, or of tests, which are compiled with all that they stand on."""
+    for is taken for one of a program, or of tests: these are compiled with all that they stand on."""
     waited_for = {below for it in tasks.values() for below in it.waits}
     found = dict.fromkeys(tasks, 0.0)
     for key in reversed([*tasks]):
@@ -72,7 +72,8 @@ class Shares:
         return all(self.ranks[key] > self.ranks[it] for it in self.running)
 
     def jobs(self, key: Key, is_alone: bool) -> int:
-        """How many processors the task may use, if it begins now; 0 if it has to wait."""
+        """How many processors the task may use, if it begins now; 0 if it has to wait. One that comes first finds a place: it is asked
+        for once another has ended, and before those behind it."""
         if self.is_first(key):
             return self.processors if is_alone else max(1, self.processors - 1)
         return max(1, self.processors // 2) if len(self.running) < self.processors else 0
@@ -92,7 +93,8 @@ def side_by_side(rt: Any, tasks: Dict[Key, Any]) -> Dict[Key, Any]:
     """Runs the tasks, each once those that it waits for have ended, and returns what each gave."""
     known = {key: Task(*it) for key, it in tasks.items()}
     number = os.environ.get("RT_JOBS", "")
-    shares = Shares(int(number) if number.isdigit() else rt.processors(), 0.85 * rt.free(), number.isdigit(), ranks(known))
+    fixed = int(number) if number.isdigit() else 0
+    shares = Shares(fixed or rt.processors(), 0.85 * rt.free(), fixed > 0, ranks(known))
     left, given = sorted(known, key=shares.ranks.get, reverse=True), {}
     going: Dict[Future, Key] = {}
     first, others = ThreadPoolExecutor(len(known) or 1), ThreadPoolExecutor(len(known) or 1, initializer=os.nice, initargs=(NICER,))
