@@ -2,9 +2,8 @@
 
 ghost use Rattle.std.specs.Prelude.{◌≡◌, ◌↔◌, IsTrue, option_map, is_some};
 ghost use Rattle.rq_bytes.specs.Readers.{after_of};
-ghost use Rattle.rq_model.specs.RecordReading.{name_left, who_read, define_read, registration_read};
-ghost use Rattle.rq_model.specs.RecordReading.{unit_read, enqueue_read, dequeue_read};
-ghost use Rattle.rq_model.specs.RecordReading.{at_most, checkpoint_read, kill_read, record_behind, record_read};
+ghost use Rattle.rq_model.specs.RecordReading.{name_left, who_read, at_most, enqueue_read};
+ghost use Rattle.rq_model.specs.RecordReading.{dequeue_read, kill_read, record_behind, record_read};
 ghost use Rattle.rq_record.specs.Views.{version_of};
 ghost use Rattle.rq_behind.specs.Runs.{SpellsSome};
 
@@ -41,34 +40,6 @@ fn who(bytes: &mut Cursor<'_>) -> Option<()>
     }
 }
 
-#[tactic(auto, unfolding(rq_model::specs::RecordReading::define_read))]
-fn define(bytes: Cursor<'_>) -> Option<()>
-    ensures { is_some result ≡ is_some (define_read bytes.entry) }
-{
-    let mut bytes = bytes;
-    bytes.u16()?;
-    bytes.u32()?;
-    name(bytes)
-}
-
-#[tactic(auto, unfolding(rq_model::specs::RecordReading::registration_read))]
-fn registration(bytes: Cursor<'_>) -> Option<()>
-    ensures { is_some result ≡ is_some (registration_read bytes.entry) }
-{
-    let mut bytes = bytes;
-    bytes.u32()?;
-    name(bytes)
-}
-
-#[tactic(auto, unfolding(rq_model::specs::RecordReading::unit_read))]
-fn unit(bytes: Cursor<'_>) -> Option<()>
-    ensures { is_some result ≡ is_some (unit_read bytes.entry) }
-{
-    let mut bytes = bytes;
-    bytes.u64()?;
-    bytes.end()
-}
-
 #[tactic(auto, unfolding(rq_model::specs::RecordReading::at_most))]
 fn at_most(limit: usize, bytes: Cursor<'_>) -> Option<()>
     ensures { is_some result ≡ is_some (at_most limit bytes.entry) }
@@ -81,10 +52,9 @@ fn at_most(limit: usize, bytes: Cursor<'_>) -> Option<()>
 }
 
 #[tactic(auto, unfolding(rq_model::specs::RecordReading::enqueue_read))]
-fn enqueue(bytes: Cursor<'_>) -> Option<()>
+fn enqueue(mut bytes: Cursor<'_>) -> Option<()>
     ensures { is_some result ≡ is_some (enqueue_read bytes.entry) }
 {
-    let mut bytes = bytes;
     bytes.u64()?;
     bytes.u32()?;
     bytes.u8()?;
@@ -93,47 +63,48 @@ fn enqueue(bytes: Cursor<'_>) -> Option<()>
 }
 
 #[tactic(auto, unfolding(rq_model::specs::RecordReading::dequeue_read))]
-fn dequeue(bytes: Cursor<'_>) -> Option<()>
+fn dequeue(mut bytes: Cursor<'_>) -> Option<()>
     ensures { is_some result ≡ is_some (dequeue_read bytes.entry) }
 {
-    let mut bytes = bytes;
     bytes.u64()?;
     bytes.u32()?;
     who(&mut bytes)?;
     bytes.end()
 }
 
-#[tactic(auto, unfolding(rq_model::specs::RecordReading::checkpoint_read))]
-fn checkpoint(bytes: Cursor<'_>) -> Option<()>
-    ensures { is_some result ≡ is_some (checkpoint_read bytes.entry) }
-{
-    at_most(CHECKPOINT, bytes)
-}
-
 #[tactic(auto, unfolding(rq_model::specs::RecordReading::kill_read))]
-fn kill(version: Version, bytes: Cursor<'_>) -> Option<()>
+fn kill(version: Version, mut bytes: Cursor<'_>) -> Option<()>
     ensures { is_some result ≡ is_some (kill_read (version_of version) bytes.entry) }
 {
     if version == Version::One {
         return None;
     }
-    let mut bytes = bytes;
     bytes.u32()?;
     bytes.u64()?;
     bytes.end()
 }
 
-#[tactic(auto, unfolding(rq_model::specs::RecordReading::record_behind))]
-fn fields(version: Version, kind: u8, bytes: Cursor<'_>) -> Option<()>
+#[tactic(auto, unfolding(rq_model::specs::RecordReading::record_behind, rq_model::specs::RecordReading::define_read, rq_model::specs::RecordReading::registration_read, rq_model::specs::RecordReading::unit_read, rq_model::specs::RecordReading::checkpoint_read,))]
+fn fields(version: Version, kind: u8, mut bytes: Cursor<'_>) -> Option<()>
     ensures { is_some result ≡ is_some (record_behind (version_of version) kind bytes.entry) }
 {
     match kind {
-        1 => define(bytes),
-        2 | 3 => registration(bytes),
-        4 | 7 | 8 => unit(bytes),
+        1 => {
+            bytes.u16()?;
+            bytes.u32()?;
+            name(bytes)
+        }
+        2 | 3 => {
+            bytes.u32()?;
+            name(bytes)
+        }
+        4 | 7 | 8 => {
+            bytes.u64()?;
+            bytes.end()
+        }
         5 => enqueue(bytes),
         6 => dequeue(bytes),
-        9 => checkpoint(bytes),
+        9 => at_most(CHECKPOINT, bytes),
         10 => kill(version, bytes),
         _ => None,
     }

@@ -10,8 +10,8 @@ use Rattle.rq_model.specs.Laws.{begun}
 use Rattle.rq_model.specs.States.{State}
 use Rattle.rq_model.specs.Machine.{is_lawful, all_lawful, lawful_front, is_defined, is_open, is_known, run, outcome}
 use Rattle.rq_model.specs.WellFormed.{IsWellFormed}
-use Rattle.rq_record.specs.declared.record.RecordOf.TheVariants.{Define, Register, Deregister, Begin, Enqueue, Dequeue}
-use Rattle.rq_record.specs.declared.record.RecordOf.TheVariants.{Commit, Abort, Checkpoint, Kill}
+use Rattle.rq_record.specs.declared.record.RecordOf.TheVariants.{Begin, Enqueue, Dequeue}
+use Rattle.rq_record.specs.declared.record.RecordOf.TheVariants.{Commit, Abort}
 use Rattle.rq_record.specs.Views.{Record, record_of}
 use Rattle.rq_catalog.specs.declared.catalogue.Catalogue.{Catalogue}
 use Rattle.rq_catalog.specs.Lists.{numbered}
@@ -88,11 +88,7 @@ module _ (version : Version) (c : Catalogue) (s : State) (rs : List Record) (n :
       at (Dequeue unit queue by) h = engages unit.0 queue.0 by h
       at (Commit unit) h = there unit.0 h
       at (Abort unit) h = there unit.0 h
-      at (Define limit error name) h = tt
-      at (Register queue name) h = tt
-      at (Deregister queue name) h = tt
-      at (Checkpoint bytes) h = tt
-      at (Kill queue element) h = tt
+      at _ h = tt
 
   one_further : (d : Catalogue) (x : Record) → n < length rs
       → is_lawful version (run s (upto n rs)) (record_of (get_or rs n x)) ≡ true

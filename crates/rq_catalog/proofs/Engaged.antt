@@ -14,8 +14,8 @@ use Rattle.rq_model.specs.Queues.{is_engaged, is_marked, engages}
 use Rattle.rq_model.specs.WellFormed.{IsWellFormed, IsElement, IsNote, unit_is_open}
 use Rattle.rq_model.proofs.Lists.{by_cases}
 use Rattle.rq_model.proofs.Kept.{step_kept}
-use Rattle.rq_record.specs.declared.record.RecordOf.TheVariants.{Define, Register, Deregister, Begin, Enqueue, Dequeue}
-use Rattle.rq_record.specs.declared.record.RecordOf.TheVariants.{Commit, Abort, Checkpoint, Kill}
+use Rattle.rq_record.specs.declared.record.RecordOf.TheVariants.{Begin, Enqueue, Dequeue}
+use Rattle.rq_record.specs.declared.record.RecordOf.TheVariants.{Commit, Abort}
 use Rattle.rq_record.specs.Views.{Record, record_of}
 use Rattle.rq_catalog.specs.Catalogues.{engaged_after}
 use Rattle.rq_catalog.proofs.Runs.{any_push, any_filter, open_below, greatest_rises}
@@ -113,14 +113,7 @@ begun_later version s (x ∷ xs) q u well lawful h =
         → s.greatest ≤ (run s (x ∷ xs)).greatest → u ≤ (run s (x ∷ xs)).greatest
     at (model.Enqueue v k priority by payload) e l g = of_open v k (machine.is_defined s k) (is_known s k by) e l g
     at (model.Dequeue v k by) e l g = of_open v k (machine.is_defined s k) (is_known s k by) e l g
-    at (model.Define limit error name) e l g = absurd (false≢true e)
-    at (model.Register k name) e l g = absurd (false≢true e)
-    at (model.Deregister k name) e l g = absurd (false≢true e)
-    at (model.Begin v) e l g = absurd (false≢true e)
-    at (model.Commit v) e l g = absurd (false≢true e)
-    at (model.Abort v) e l g = absurd (false≢true e)
-    at (model.Checkpoint bytes) e l g = absurd (false≢true e)
-    at (model.Kill k i) e l g = absurd (false≢true e)
+    at _ e l g = absurd (false≢true e)
 
 engaged_begun : (version : Version) (s : State) (xs : List model.Record) (q u : ℕ) → IsWellFormed s
     → all_lawful version s xs ≡ true → (is_engaged s q u || list_any (engages q u) xs) ≡ true → u ≤ (run s xs).greatest
@@ -190,11 +183,7 @@ module _ (version : Version) (s : State) (xs : List model.Record) (u q : ℕ) (w
   engaged_at (Begin unit) l = begun_unit unit.0 l
   engaged_at (Commit unit) l = closed_unit unit.0
   engaged_at (Abort unit) l = closed_unit unit.0
-  engaged_at (Define limit error name) l = engaged_same
-  engaged_at (Register queue name) l = engaged_same
-  engaged_at (Deregister queue name) l = engaged_same
-  engaged_at (Checkpoint bytes) l = engaged_same
-  engaged_at (Kill queue element) l = engaged_same
+  engaged_at _ l = engaged_same
 
 pub engaged_step : (version : Version) (s : State) (xs : List model.Record) (r : Record) (u q : ℕ) → IsWellFormed s
     → all_lawful version s xs ≡ true → is_lawful version (run s xs) (record_of r) ≡ true

@@ -1,10 +1,9 @@
 -- The lawful beginning of a list, and what an analysis of the list says of it.
-use Rattle.std.proofs.Common.{◌≡◌, ◌≤◌, ℕ, Bool, true, false, cond, List, [], ◌∷◌, ◌++◌, length, map, take, refl, sym}
+use Rattle.std.proofs.Common.{◌≡◌, ℕ, Bool, true, false, cond, List, [], ◌∷◌, ◌++◌, length, map, take, refl, sym}
 use Rattle.std.proofs.Common.{ap, subst, ◌∙◌, arith, length-append}
 use Rattle.std.specs.Prelude.{nat_lt, ⊤}
 use Rattle.std.proofs.lemmas.Bool.{and_from, lt-ltb, le-ltb}
-use Rattle.std.proofs.Math.Seq.{take-append_seam}
-use Rattle.std.proofs.lemmas.List.{length-map, take_at, take-map}
+use Rattle.std.proofs.lemmas.List.{take_at, take-map}
 use Rattle.rq_model.specs.Records.{Record, Version, One, Two}
 use Rattle.rq_record.specs.Views.{Record as Own, record_of}
 use Rattle.rq_model.specs.States.{State}
@@ -89,19 +88,6 @@ analysis_of_front version s rs a is =
       units = is.units ∙ ap (λ (xs : List Record). (run s xs).units) same;
       catalogue = subst (λ (xs : List Record). Follows a.catalogue s xs) same is.catalogue;
     }
-
--- an analysis of lawful records is one of the beginning of a list that begins with them
-pub analysis_of_beginning : (version : Version) (s : State) (rs more : List Record) (all : List Own) (a : Analysis)
-    → all_lawful version s rs ≡ true → IsAnalysis version s rs a → map record_of all ≡ rs ++ more
-    → (a.lawful ≤ length all) × IsAnalysis version s (map record_of (take a.lawful all)) a
-analysis_of_beginning version s rs more all a lawful is whole =
-    let count : a.lawful ≡ length rs = is.lawful ∙ ap length (front_whole version s rs lawful) in
-    let first : map record_of (take a.lawful all) ≡ rs =
-    sym (take-map record_of a.lawful all) ∙ ap (take a.lawful) whole ∙ ap (λ n. take n (rs ++ more)) count
-    ∙ take-append_seam rs more in (
-      omega (arith, count, ap length whole, length-append rs more, length-map all record_of),
-      subst (λ (xs : List Record). IsAnalysis version s xs a) (sym first) is,
-    )
 
 -- if records are lawful in two versions, an analysis by the one is an analysis by the other
 analysis_elsewhere : (version other : Version) (s : State) (rs : List Record) (a : Analysis)

@@ -51,8 +51,7 @@ or_true false false = refl
 
 first_open : (o : machine.Outcome) → first o machine.Open ≡ o
 first_open (machine.Committed place) = refl
-first_open (machine.Aborted place) = refl
-first_open machine.Open = refl
+first_open _ = refl
 
 opened : (b : Bool) (o : machine.Outcome) → is_open_outcome (if b then Some o else None) ≡ true
     → (b ≡ true) × (o ≡ machine.Open)
@@ -270,11 +269,9 @@ module _ (version : Version) (c : Catalogue) (s : State) (xs : List model.Record
           (is_open (run s xs) unit.0 && is_known (run s xs) queue.0 by) l).0
       at (Commit unit) l = closing unit.0 l
       at (Abort unit) l = closing unit.0 l
-      at (Define limit error name) l = refl
-      at (Begin unit) l = refl
-      at (Checkpoint bytes) l = refl
       at (Kill queue element) l = below_more queue.0 q (length (run s xs).definitions)
           (kill_defined version queue.0 element.0 l)
+      at _ l = refl
 
   -- a lawful record keeps the agreement
   pub follows_step : (d : Catalogue) (r : Record) → is_lawful version (run s xs) (record_of r) ≡ true

@@ -16,8 +16,8 @@ use Rattle.rq_model.proofs.Lists.{by_cases}
 use Rattle.rq_model.proofs.WellFormedRuns.{any_put}
 use Rattle.rq_model.proofs.Decided.{any_map}
 use Rattle.rq_model.proofs.Parts.{any_filter}
-use Rattle.rq_record.specs.declared.record.RecordOf.TheVariants.{Define, Register, Deregister, Begin, Enqueue, Dequeue}
-use Rattle.rq_record.specs.declared.record.RecordOf.TheVariants.{Commit, Abort, Checkpoint, Kill}
+use Rattle.rq_record.specs.declared.record.RecordOf.TheVariants.{Define, Register, Deregister, Begin}
+use Rattle.rq_record.specs.declared.record.RecordOf.TheVariants.{Commit, Abort}
 use Rattle.rq_record.specs.declared.record.QueueNo.{QueueNo}
 use Rattle.rq_record.specs.declared.record.UnitNo.{UnitNo}
 use Rattle.rq_record.specs.Views.{Record, record_of}
@@ -165,14 +165,8 @@ quiet g s (Register queue name) define register deregister begin k = absurd (reg
 quiet g s (Deregister queue name) define register deregister begin k = absurd (deregister queue name refl)
 quiet g s (Begin unit) define register deregister begin k = absurd (begin unit refl)
 quiet g s (Commit unit) define register deregister begin k = commits g s unit.0 k
-quiet g s (Enqueue priority queue unit by payload) define register deregister begin k =
-    record { definitions = k.definitions; names = k.names; registrants = k.registrants; greatest = k.greatest }
-quiet g s (Dequeue unit queue by) define register deregister begin k =
-    record { definitions = k.definitions; names = k.names; registrants = k.registrants; greatest = k.greatest }
 quiet g s (Abort unit) define register deregister begin k = aborts g s unit.0 k
-quiet g s (Checkpoint bytes) define register deregister begin k =
-    record { definitions = k.definitions; names = k.names; registrants = k.registrants; greatest = k.greatest }
-quiet g s (Kill queue element) define register deregister begin k =
+quiet g s _ define register deregister begin k =
     record { definitions = k.definitions; names = k.names; registrants = k.registrants; greatest = k.greatest }
 
 -- a unit that is closed is open no more, and the others are as before
@@ -198,13 +192,7 @@ pub same_units : (s : State) (r : Record) → ((unit : UnitNo) → r ≡ Begin u
 same_units s (Begin unit) begin commit abort = absurd (begin unit refl)
 same_units s (Commit unit) begin commit abort = absurd (commit unit refl)
 same_units s (Abort unit) begin commit abort = absurd (abort unit refl)
-same_units s (Define limit error name) begin commit abort = refl
-same_units s (Register queue name) begin commit abort = refl
-same_units s (Deregister queue name) begin commit abort = refl
-same_units s (Enqueue priority queue unit by payload) begin commit abort = refl
-same_units s (Dequeue unit queue by) begin commit abort = refl
-same_units s (Checkpoint bytes) begin commit abort = refl
-same_units s (Kill queue element) begin commit abort = refl
+same_units s _ begin commit abort = refl
 
 -- what follows if there is no error, and if there is one
 pub on_ok : {T E A B : Type 0} (r : Result T E) → (A → B) → OnOk r A → OnOk r B

@@ -11,4 +11,5 @@ pub mod Seen
 pub mod Keep
 pub mod Begins
 pub mod Ends
+pub mod Aborts
 pub mod Again

@@ -16,8 +16,7 @@ use Rattle.rq_model.specs.WellFormed.{Ordered, IsWellFormed}
 use Rattle.rq_model.specs.Laws.{begun, is_still_open}
 use Rattle.rq_model.proofs.Lists.{filter_same, each_weaker, each_append}
 use Rattle.rq_model.proofs.Numbers.{numbers_after}
-use Rattle.rq_record.specs.declared.record.RecordOf.TheVariants.{Define, Register, Deregister, Begin, Enqueue, Dequeue}
-use Rattle.rq_record.specs.declared.record.RecordOf.TheVariants.{Commit, Abort, Checkpoint, Kill}
+use Rattle.rq_record.specs.declared.record.RecordOf.TheVariants.{Begin}
 use Rattle.rq_record.specs.declared.record.UnitNo.{UnitNo}
 use Rattle.rq_record.specs.Views.{Record, record_of}
 use Rattle.rq_state.specs.Views.{unit_of}
@@ -164,12 +163,4 @@ numbers_step s xs r = at r ∙ ap (λ l. s.units ++ l) (sym (begun_push xs (reco
 
     at : (r : Record) → begun_after r (s.units ++ begun xs) ≡ s.units ++ (begun xs ++ begun (record_of r ∷ []))
     at (Begin unit) = append_assoc s.units (begun xs) (unit.0 ∷ [])
-    at (Commit unit) = same
-    at (Abort unit) = same
-    at (Define limit error name) = same
-    at (Register queue name) = same
-    at (Deregister queue name) = same
-    at (Enqueue priority queue unit by payload) = same
-    at (Dequeue unit queue by) = same
-    at (Checkpoint bytes) = same
-    at (Kill queue element) = same
+    at _ = same

@@ -1,5 +1,5 @@
 -- Units, each with what became of it and the queues that it engaged while it was open.
-use Rattle.std.specs.Prelude.{ℕ, Bool, false, ◌==◌, cond, List, [], ◌∷◌, map}
+use Rattle.std.specs.Prelude.{ℕ, ◌≡◌, Bool, false, ◌==◌, ◌&&◌, ◌||◌, cond, List, [], ◌∷◌, map}
 use Rattle.std.specs.Prelude.{Option, Some, None, option_map}
 use Rattle.std.specs.List.{list_any}
 use Rattle.std.specs.Option.{option_map_or}
@@ -27,3 +27,10 @@ abbrev pub engages_at : List Unit → ℕ → ℕ → Bool
 engages_at units number queue =
     option_map_or (λ (u : Unit). list_any (λ v. v == queue) u.queues.items)
     (unit_in units number) false
+
+-- each unit that is in x engages these queues too in y, and all else is as it was
+abbrev pub EngagesToo : {X : Type 0} → (X → List ℕ) → (X → ℕ → Option Outcome) → (X → ℕ → Bool)
+    → (X → ℕ → ℕ → Bool) → X → (ℕ → ℕ → Bool) → X → Type 0
+EngagesToo numbers outcome has engages x also y = (numbers y ≡ numbers x)
+    × ((u : ℕ) → outcome y u ≡ outcome x u) × ((u : ℕ) → has y u ≡ has x u)
+    × ((u q : ℕ) → engages y u q ≡ ((has x u && also u q) || engages x u q))

@@ -2,8 +2,9 @@
 
 ghost use Rattle.std.specs.Prelude.{◌≡◌, ◌≤◌, ◌^◌, ◌+◌, ◌<◌, ℕ, List, length, map, take, IfOk};
 ghost use Rattle.std.specs.Prelude.{IfErr, OnOk, ◌++◌, ◌∷◌, [], Some, None, option_map};
-ghost use Rattle.std.specs.Prelude.{if◌then◌else◌};
-ghost use Rattle.rq_model.specs.Records.{Record as ModelRecord, One};
+ghost use Rattle.std.specs.Prelude.{if◌then◌else◌, true};
+ghost use Rattle.rq_model.specs.Records.{Record as ModelRecord, Abort, One, Two};
+ghost use Rattle.rq_model.specs.Machine.{all_lawful};
 ghost use Rattle.rq_model.specs.States.{State};
 ghost use Rattle.rq_model.specs.Queues.{touching};
 ghost use Rattle.rq_record.specs.Views.{record_of, version_of};
@@ -107,6 +108,34 @@ impl Analysis {
             lawful += 1;
         }
         Ok(Analysis { lawful, catalogue })
+    }
+
+    /// Continues an analysis of records, all of which are lawful, with the ABORT of each unit that
+    /// is open behind them, rising. Answers these units too. Refused only with `Resources`.
+    pub fn abort_all(
+        self,
+        alloc: Global,
+        state: &State,
+        records: &[KeptRecord],
+    ) -> Result<(Analysis, Vec<UnitNo>), Fault>
+        requires fits { state.now.next + length records.now + length (open_in self) < 2 ^ 64 }
+        requires lawful { all_lawful Two state.now
+            (map record_of records.now ++ map Abort (open_in self)) ≡ true }
+        requires analysed { IsAnalysis Two state.now (map record_of records.now) self }
+        ensures units { IfOk result (λ r. map unit_of r.1.items ≡ open_in self) }
+        ensures analysis { IfOk result (λ r. IsAnalysis Two state.now
+            (map record_of records.now ++ map Abort (open_in self)) r.0) }
+        ensures refused { IfErr result (λ e. e ≡ Resources) }
+    {
+        let units = self.open_units(alloc)?;
+        let (start, count) = (state.next(), records.len());
+        let mut catalogue = self.catalogue;
+        for index in 0..units.len() {
+            let place = count + index;
+            catalogue.abort(alloc, units[index], (start + place as u64, place))?;
+        }
+        let lawful = count + units.len();
+        Ok((Analysis { lawful, catalogue }, units))
     }
 
     /// How many records are lawful: the length of the longest lawful beginning.

@@ -8,6 +8,7 @@ ghost use Rattle.rq_model.specs.Machine as machine;
 ghost use Rattle.rq_model.specs.States.{State};
 ghost use Rattle.rq_record.specs.Views.{record_of, version_of};
 ghost use Rattle.rq_record.specs.declared.fault.Fault.TheVariants.{Resources};
+ghost use Rattle.rq_record.specs.declared.record.RecordOf.TheVariants.{Abort};
 ghost use Rattle.rq_state.specs.Orders.{listed};
 ghost use Rattle.rq_catalog.specs.Catalogues.{HasRoom, KnowsUnit, Takes};
 ghost use Rattle.rq_catalog.specs.Grounds.{AreGroundsOf};
@@ -18,7 +19,7 @@ use crate::grounds::Grounds;
 use crate::lists::{touch, touch_all};
 use crate::outcome::Outcome;
 use crate::units::Units;
-use rq_record::{Fault, KeptRecord, Version};
+use rq_record::{Fault, KeptRecord, UnitNo, Version};
 use std::alloc::Global;
 
 /// What lawfulness depends on, and what is noted on the way: what became of each unit, the queues
@@ -69,13 +70,26 @@ impl Catalogue {
                 self.committed += 1;
                 self.close(alloc, unit.0, Outcome::Committed(op.0), op)
             }
-            KeptRecord::Abort { unit } => {
-                self.aborted += 1;
-                self.close(alloc, unit.0, Outcome::Aborted(op.0), op)
-            }
+            KeptRecord::Abort { unit } => self.abort(alloc, *unit, op),
             KeptRecord::Checkpoint { .. } => Ok(()),
             KeptRecord::Kill { queue, .. } => touch(&mut self.touching, queue.0, op),
         }
+    }
+
+    /// Takes the ABORT of a unit that is there, of this place and index.
+    pub(crate) fn abort(
+        &mut self,
+        alloc: Global,
+        unit: UnitNo,
+        op: (u64, usize),
+    ) -> Result<(), Fault>
+        requires room { HasRoom self.old op.0 }
+        requires known { has_unit self.old.units unit.0 ≡ true }
+        ensures takes { OnOk result (Takes self.old self.new op (Abort unit)) }
+        ensures refused { IfErr result (λ e. e ≡ Resources) }
+    {
+        self.aborted += 1;
+        self.close(alloc, unit.0, Outcome::Aborted(op.0), op)
     }
 
     fn engage(&mut self, unit: u64, queue: u32, op: (u64, usize)) -> Result<(), Fault>

@@ -2,14 +2,14 @@
 
 ghost use Rattle.std.specs.Prelude.{◌≡◌, ℕ, ◌&&◌, Bool, List, not, is_some, nat_eq, IfOk, IfErr};
 ghost use Rattle.std.specs.Prelude.{OnOk, ◌<◌, nat_lt, nat_le, length};
-ghost use Rattle.std.specs.List.{list_any};
-ghost use Rattle.std.specs.Str.{bytes_eq};
-ghost use Rattle.std.specs.Cmp.Lexicographic.{pointwise};
-ghost use Rattle.std.specs.Ordering.{nat_cmp};
 ghost use Rattle.std.specs.BTreeSet as ordered;
+ghost use Rattle.std.specs.Cmp.Lexicographic.{pointwise};
+ghost use Rattle.std.specs.List.{list_any};
+ghost use Rattle.std.specs.Ordering.{nat_cmp};
+ghost use Rattle.std.specs.Str.{bytes_eq};
 ghost use Rattle.indexmap.specs.IndexSet.{contains};
-ghost use Rattle.rq_model.specs.Records as records;
 ghost use Rattle.rq_model.specs.Machine as machine;
+ghost use Rattle.rq_model.specs.Records as records;
 ghost use Rattle.rq_model.specs.States as model;
 ghost use Rattle.rq_record.specs.Views.{record_of, version_of};
 ghost use Rattle.rq_record.specs.declared.fault.Fault.TheVariants.{Resources};
@@ -25,7 +25,7 @@ use crate::rules::Rule;
 use crate::units::Units;
 use indexmap::IndexSet;
 use rq_record::{Fault, KeptBy, KeptName, KeptRecord, Name, QueueNo, UnitNo, Version};
-use rq_state::{Definition, Registrant, State, copied_definitions};
+use rq_state::{Definition, KeptRegistrant, State, copied_definitions};
 use std::alloc::Global;
 use std::collections::BTreeSet;
 
@@ -83,7 +83,7 @@ fn names_of(alloc: Global, definitions: &[Definition]) -> Result<IndexSet<Name>,
 }
 
 // Who is registered with which queue.
-fn registrants_of(alloc: Global, registrants: &[Registrant]) -> Result<RegisteredNames, Fault>
+fn registrants_of(alloc: Global, registrants: &[KeptRegistrant]) -> Result<RegisteredNames, Fault>
     ensures registered { IfOk result
         (λ roll. (k : ℕ × List ℕ) →
         is_registered_in roll k ≡ list_any (has_key k) registrants.now) }
@@ -91,7 +91,7 @@ fn registrants_of(alloc: Global, registrants: &[Registrant]) -> Result<Registere
 {
     let mut roll = RegisteredNames::new(alloc);
     for registrant in registrants {
-        roll.register(registrant.queue.0, &registrant.name)?;
+        roll.register(registrant.queue().0, &registrant.name().name())?;
     }
     Ok(roll)
 }

@@ -16,3 +16,4 @@ pub use analysis::{Analysis, analyse, analyse_in, analyse_kept, indices};
 pub use judge::Judge;
 pub use outcome::Outcome;
 pub use rules::Rule;
+pub use start::{Engaging, engage_by_marks, engage_by_notes};

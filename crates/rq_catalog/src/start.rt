@@ -1,24 +1,24 @@
 //! The catalogue of a state.
 
-ghost use Rattle.std.specs.Prelude.{◌≡◌, ℕ, ◌==◌, ◌&&◌, ◌||◌, ◌<◌, [], map, IfOk, IfErr};
-ghost use Rattle.std.specs.Prelude.{length, OnOk, Some, None, false, if◌then◌else◌};
+ghost use Rattle.std.specs.Prelude.{◌≡◌, ℕ, Bool, ◌==◌, ◌&&◌, ◌<◌, List, [], map, IfOk, IfErr};
+ghost use Rattle.std.specs.Prelude.{OnOk, Option, Some, None, false, if◌then◌else◌};
 ghost use Rattle.std.specs.List.{list_any};
 ghost use Rattle.std.specs.Ordering.{nat_cmp};
 ghost use Rattle.std.specs.BTreeSet as ordered;
 ghost use Rattle.rq_model.specs.WellFormed.{Ordered, IsWellFormed};
 ghost use Rattle.rq_record.specs.declared.fault.Fault.TheVariants.{Resources};
 ghost use Rattle.rq_state.specs.Views.{unit_of};
+ghost use Rattle.rq_catalog.specs.declared.outcome.Outcome.{Outcome};
 ghost use Rattle.rq_catalog.specs.declared.outcome.Outcome.TheVariants.{Open};
-ghost use Rattle.rq_state.specs.Orders.{listed};
 ghost use Rattle.rq_catalog.specs.Catalogues.{Follows};
 ghost use Rattle.rq_catalog.specs.Members.{is_marked_at, is_noted_at};
-ghost use Rattle.rq_catalog.specs.Units.{numbers, has_unit, outcome_at, engages_at};
+ghost use Rattle.rq_catalog.specs.Units.{EngagesToo, numbers, has_unit, outcome_at, engages_at};
 
 use crate::catalogue::Catalogue;
 use crate::grounds::Grounds;
 use crate::units::Units;
-use rq_record::{Fault, UnitNo};
-use rq_state::{KeptElement, Mark, Note, State};
+use rq_record::{Fault, QueueNo, UnitNo};
+use rq_state::{KeptElement, Mark, Note, State, empty_lists};
 use std::alloc::Global;
 use std::collections::BTreeSet;
 
@@ -50,26 +50,55 @@ fn units_of(alloc: Global, units: &[UnitNo]) -> Result<Units, Fault>
     Ok(begun)
 }
 
-fn engage_by_mark(units: &mut Units, element: &KeptElement) -> Result<(), Fault>
-    ensures numbers { numbers units.new ≡ numbers units.old }
-    ensures outcomes { (u : ℕ) → outcome_at units.new u ≡ outcome_at units.old u }
-    ensures engaged { OnOk result ((u q : ℕ) → engages_at units.new u q
-        ≡ ((has_unit units.old u && is_marked_at u q element.now) || engages_at units.old u q)) }
+/// Units, each with the queues that it engaged.
+pub trait Engaging: Drop {
+    // The numbers, as they began, and what became of each unit, if that is kept.
+    ghost numbers_of: { Self → List ℕ };
+
+    ghost outcome_in: { Self → ℕ → Option Outcome };
+
+    ghost has: { Self → ℕ → Bool };
+
+    ghost engages: { Self → ℕ → ℕ → Bool };
+
+    /// A unit engages a queue, if it is there.
+    fn engage_queue(&mut self, unit: UnitNo, queue: QueueNo) -> Result<(), Fault>
+        ensures engaged { OnOk result (EngagesToo numbers_of outcome_in has engages self.old
+            (λ u q. (queue.0 == q) && (unit.0 == u)) self.new) }
+        ensures refused { IfErr result (λ e. e ≡ Resources) };
+}
+
+impl Engaging for Units {
+    ghost numbers_of = { numbers };
+
+    ghost outcome_in = { outcome_at };
+
+    ghost has = { has_unit };
+
+    ghost engages = { engages_at };
+
+    fn engage_queue(&mut self, unit: UnitNo, queue: QueueNo) -> Result<(), Fault> {
+        self.engage(unit.0, queue.0)
+    }
+}
+
+fn engage_by_mark<E: Engaging>(units: &mut E, element: &KeptElement) -> Result<(), Fault>
+    ensures engaged { OnOk result (EngagesToo E.numbers_of E.outcome_in E.has E.engages units.old
+        (λ u q. is_marked_at u q element.now) units.new) }
     ensures refused { IfErr result (λ e. e ≡ Resources) }
 {
     match element.mark {
         Mark::Free => Ok(()),
-        Mark::Fresh(unit) => units.engage(unit.0, element.home.0),
-        Mark::Held(unit) => units.engage(unit.0, element.home.0),
+        Mark::Fresh(unit) => units.engage_queue(unit, element.home),
+        Mark::Held(unit) => units.engage_queue(unit, element.home),
     }
 }
 
-fn engage_by_marks(units: &mut Units, elements: &[KeptElement]) -> Result<(), Fault>
-    ensures numbers { numbers units.new ≡ numbers units.old }
-    ensures outcomes { (u : ℕ) → outcome_at units.new u ≡ outcome_at units.old u }
-    ensures engaged { OnOk result ((u q : ℕ) → engages_at units.new u q
-        ≡ ((has_unit units.old u && list_any (is_marked_at u q) elements.now)
-        || engages_at units.old u q)) }
+/// The units engage the queues in which an element is marked by them. Refused only with
+/// `Resources`.
+pub fn engage_by_marks<E: Engaging>(units: &mut E, elements: &[KeptElement]) -> Result<(), Fault>
+    ensures engaged { OnOk result (EngagesToo E.numbers_of E.outcome_in E.has E.engages units.old
+        (λ u q. list_any (is_marked_at u q) elements.now) units.new) }
     ensures refused { IfErr result (λ e. e ≡ Resources) }
 {
     for element in elements {
@@ -78,30 +107,16 @@ fn engage_by_marks(units: &mut Units, elements: &[KeptElement]) -> Result<(), Fa
     Ok(())
 }
 
-fn engage_by_notes(units: &mut Units, notes: &[Note]) -> Result<(), Fault>
-    ensures numbers { numbers units.new ≡ numbers units.old }
-    ensures outcomes { (u : ℕ) → outcome_at units.new u ≡ outcome_at units.old u }
-    ensures engaged { OnOk result ((u q : ℕ) → engages_at units.new u q
-        ≡ ((has_unit units.old u && list_any (is_noted_at u q) notes.now)
-        || engages_at units.old u q)) }
+/// The units engage the queues in which they have a note. Refused only with `Resources`.
+pub fn engage_by_notes<E: Engaging>(units: &mut E, notes: &[Note]) -> Result<(), Fault>
+    ensures engaged { OnOk result (EngagesToo E.numbers_of E.outcome_in E.has E.engages units.old
+        (λ u q. list_any (is_noted_at u q) notes.now) units.new) }
     ensures refused { IfErr result (λ e. e ≡ Resources) }
 {
     for note in notes {
-        units.engage(note.unit.0, note.queue.0)?;
+        units.engage_queue(note.unit, note.queue)?;
     }
     Ok(())
-}
-
-fn touching_of(alloc: Global, count: usize) -> Result<Vec<Vec<(u64, usize)>>, Fault>
-    ensures len { IfOk result (λ touching. length touching.items ≡ count) }
-    ensures listed { IfOk result (λ touching. (q : ℕ) → listed touching.items q ≡ []) }
-    ensures refused { IfErr result (λ e. e ≡ Resources) }
-{
-    let mut touching = Vec::new(alloc);
-    while touching.len() < count {
-        touching.push(Vec::new(alloc))?;
-    }
-    Ok(touching)
 }
 
 /// The catalogue of a state, before any record.
@@ -114,7 +129,7 @@ pub(crate) fn catalogue_of(alloc: Global, state: &State) -> Result<Catalogue, Fa
     let mut units = units_of(alloc, state.units())?;
     engage_by_marks(&mut units, state.elements())?;
     engage_by_notes(&mut units, state.notes())?;
-    let touching = touching_of(alloc, state.definition_count())?;
+    let touching = empty_lists(alloc, state.definition_count())?;
     Ok(Catalogue {
         grounds,
         committed: state.committed(),

@@ -3,6 +3,7 @@ pub mod Chains
 pub mod Courses
 pub mod Coverage
 pub mod Gathering
+pub mod Agendas
 pub mod Jobs
 pub mod Links
 pub mod Openings

@@ -2,25 +2,12 @@
 
 ghost use Rattle.std.specs.Prelude.{◌≡◌, ◌<◌, ◌++◌, ◌∷◌, [], ℕ, length, All, IfOk, IfErr};
 ghost use Rattle.std.specs.Prelude.{OnOk, slice_index_or};
-ghost use Rattle.rq_state.specs.Orders.{listed};
 ghost use Rattle.rq_record.specs.declared.fault.Fault.TheVariants.{Resources};
 ghost use Rattle.rq_exchange.specs.Pairs.{AreColumns};
 
 use rq_record::Fault;
+use rq_state::empty_lists;
 use std::alloc::Global;
-
-/// This many lists, each empty.
-pub(crate) fn bare<T: Drop>(alloc: Global, count: usize) -> Result<Vec<Vec<T>>, Fault>
-    ensures len { IfOk result (λ lists. length lists.items ≡ count) }
-    ensures listed { IfOk result (λ lists. (x : ℕ) → listed lists.items x ≡ []) }
-    ensures refused { IfErr result (λ e. e ≡ Resources) }
-{
-    let mut lists = Vec::with_capacity(alloc, count)?;
-    while lists.len() < count {
-        lists.push(Vec::new(alloc))?;
-    }
-    Ok(lists)
-}
 
 // Puts each thing of a row at the end of its column.
 fn spread<T: Drop>(columns: &mut Vec<Vec<T>>, row: Vec<T>) -> Result<(), Fault>
@@ -49,7 +36,7 @@ pub(crate) fn columns<T: Drop>(
     ensures columns { IfOk result (λ cs. AreColumns rows.items count cs.items) }
     ensures refused { IfErr result (λ e. e ≡ Resources) }
 {
-    let mut columns = bare(alloc, count)?;
+    let mut columns = empty_lists(alloc, count)?;
     for row in rows {
         spread(&mut columns, row)?;
     }

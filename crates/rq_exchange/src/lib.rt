@@ -3,6 +3,7 @@
 //! that queue next.
 #![tactic(auto)]
 
+mod agenda;
 mod arrivals;
 mod board;
 mod chain;
@@ -18,6 +19,7 @@ mod outboxes;
 mod replays;
 mod thread_work;
 
+pub use agenda::Agenda;
 pub use course::Course;
 pub use gathered::AllRedone;
-pub use replays::{redo_analysed, replay, replay_analysed};
+pub use replays::{front_redone, redo_agenda, redo_analysed, replay, replay_analysed};

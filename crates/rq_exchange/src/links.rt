@@ -6,9 +6,8 @@ ghost use Rattle.rq_state.specs.Orders.{listed};
 ghost use Rattle.rq_record.specs.declared.fault.Fault.TheVariants.{Resources};
 ghost use Rattle.rq_exchange.specs.Links.{naming, AreRanks};
 
-use crate::columns::bare;
 use rq_record::Fault;
-use rq_state::Definition;
+use rq_state::{Definition, empty_lists};
 use std::alloc::Global;
 
 // The error queue of a queue.
@@ -64,7 +63,7 @@ pub(crate) fn sources_of(
     ensures ranks { IfOk result (λ r. AreRanks errors.now count (length errors.now) r.1.items) }
     ensures refused { IfErr result (λ e. e ≡ Resources) }
 {
-    let mut lists = bare(alloc, count)?;
+    let mut lists = empty_lists(alloc, count)?;
     let mut ranks = Vec::with_capacity(alloc, errors.len())?;
     for queue in 0..errors.len() {
         let rank = list(&mut lists, errors[queue], queue as u32)?;

@@ -3,29 +3,44 @@
 ghost use Rattle.std.specs.Prelude.{◌≡◌, ◌<◌, ◌≤◌, ◌^◌, ◌+◌, true, length, map, IfOk, IfErr};
 ghost use Rattle.rq_model.specs.Records.{Two};
 ghost use Rattle.rq_model.specs.Machine.{run, all_lawful};
-ghost use Rattle.rq_record.specs.Views.{record_of};
+ghost use Rattle.rq_record.specs.Views.{record_of, version_of};
 ghost use Rattle.rq_record.specs.declared.fault.Fault.TheVariants.{Resources};
 ghost use Rattle.rq_catalog.specs.Analyses.{IsAnalysis};
+ghost use Rattle.rq_exchange.specs.Agendas.{IsAgenda};
 ghost use Rattle.rq_exchange.specs.Courses.{StartsByLast};
-ghost use Rattle.rq_exchange.specs.Gathering.{AreParts, IsRedoneTo};
+ghost use Rattle.rq_exchange.specs.Gathering.{AreParts, ComesTo, IsRedoneTo};
 ghost use Rattle.rq_exchange.specs.Jobs.{IsJob, records_of, errors_in};
 
+use crate::agenda::Agenda;
 use crate::board::placed;
 use crate::chain::CountdownChain;
 use crate::closings::close_countdowns;
 use crate::course::Course;
 use crate::crew::all_kept;
 use crate::deals::tasks_of;
-use crate::gathered::{AllRedone, fields_after};
+use crate::gathered::AllRedone;
 use crate::jobs::Job;
 use crate::links::{errors_of, sources_of};
 use rq_catalog::{Analysis, analyse_kept};
-use rq_plan::{Gate, Plan};
+use rq_plan::{Gate, Open, Plan};
 use rq_queue::Part;
 use rq_record::{Fault, KeptRecord, Record, Version, kept_records};
 use rq_state::State;
 use std::alloc::Global;
 use std::thread::Threads;
+
+// How many of the plan's workers have something to do: at most one for each queue that waits for
+// nobody, since what follows such a queue is redone by one thread at a time.
+fn crew_size(plan: &Plan, tasks: usize) -> u32
+    ensures { (0 < result) × (result ≤ 64) }
+{
+    let workers = plan.workers();
+    if 0 < tasks && tasks < workers as usize {
+        tasks as u32
+    } else {
+        workers
+    }
+}
 
 // Redoes all queues: those that wait for nobody are dealt, and each error queue follows the last
 // of its sources.
@@ -47,7 +62,8 @@ fn redo_all<R: Threads + Sync, G: Gate + Sync>(
         return Ok((Vec::new(alloc), Course::blank(alloc)));
     }
     let tasks = tasks_of(alloc, job.sources)?;
-    let (chain, rows) = CountdownChain::open(alloc, job, plan.workers())?;
+    let workers = crew_size(plan, tasks.len());
+    let (chain, rows) = CountdownChain::open(alloc, job, workers)?;
     let kept = all_kept(rt, alloc, job, &chain, gate, &tasks, rows)?;
     let (all, course) = close_countdowns(alloc, chain, kept)?;
     let parts = placed(alloc, job.definitions.len(), all)?;
@@ -100,11 +116,31 @@ pub fn replay_analysed<R: Threads + Sync, G: Gate + Sync>(
     all.gather(alloc)
 }
 
+/// The state behind the records that are lawful in the version behind a state, up to the first that
+/// is not, and how many these are. Refused only with `Resources`.
+pub fn front_redone<R: Threads + Sync>(
+    rt: &R,
+    alloc: Global,
+    version: Version,
+    state: &State,
+    records: &[KeptRecord],
+    plan: &Plan,
+) -> Result<(State, usize), Fault>
+    requires { state.now.next + length records.now < 2 ^ 64 }
+    ensures redone { IfOk result (λ r.
+        ComesTo (version_of version) state.now (map record_of records.now) r.0 r.1) }
+    ensures refused { IfErr result (λ e. e ≡ Resources) }
+{
+    rq_model::versions();
+    let analysis = analyse_kept(alloc, version, state, records)?;
+    let count = analysis.lawful();
+    let lawful = &records[..count];
+    let state = replay_analysed(rt, alloc, state, lawful, analysis, plan, &Open)?;
+    Ok((state, count))
+}
+
 /// The queues after the records, which are analysed, redone as in `replay_analysed`, and how that
-/// went, only for contracts: each queue was redone by one thread, once, and each error queue by the
-/// one thread whose arrival was the last of its sources. Of the analysis only the lists of records
-/// that touch each queue are kept while queues are redone. The records are most of a restart's
-/// memory; they may then be dropped, before the state is gathered. Refused only with `Resources`.
+/// went: `redo_agenda` of their agenda. Refused only with `Resources`.
 pub fn redo_analysed<R: Threads + Sync, G: Gate + Sync>(
     rt: &R,
     alloc: Global,
@@ -122,11 +158,35 @@ pub fn redo_analysed<R: Threads + Sync, G: Gate + Sync>(
         (map (λ d. d.error) (run state.now (map record_of records.now)).definitions) r.1) }
     ensures refused { IfErr result (λ e. e ≡ Resources) }
 {
+    let agenda = Agenda::of(alloc, state, records.len(), analysis)?;
+    redo_agenda(rt, alloc, state, records, agenda, plan, gate)
+}
+
+/// The queues after the records, whose agenda this is, and how their redo went, only for contracts:
+/// each queue was redone by one thread, once, and each error queue by the one thread whose arrival
+/// was the last of its sources. The records are most of a restart's memory; they may be dropped
+/// before the state is gathered. Refused only with `Resources`.
+pub fn redo_agenda<R: Threads + Sync, G: Gate + Sync>(
+    rt: &R,
+    alloc: Global,
+    state: &State,
+    records: &[KeptRecord],
+    agenda: Agenda,
+    plan: &Plan,
+    gate: &G,
+) -> Result<(AllRedone, Course), Fault>
+    requires lawful { all_lawful Two state.now (map record_of records.now) ≡ true }
+    requires fits { state.now.next + length records.now < 2 ^ 64 }
+    requires agenda { IsAgenda state.now (map record_of records.now) agenda }
+    ensures redone { IfOk result (λ r. IsRedoneTo (run state.now (map record_of records.now)) r.0) }
+    ensures course { IfOk result (λ r. StartsByLast
+        (map (λ d. d.error) (run state.now (map record_of records.now)).definitions) r.1) }
+    ensures refused { IfErr result (λ e. e ≡ Resources) }
+{
     rq_model::runs_are_well_formed();
     rq_model::numbers_after();
     state.is_well_formed();
-    let fields = fields_after(alloc, state, records, &analysis)?;
-    let touching = analysis.into_touching();
+    let Agenda { fields, touching } = agenda;
     let definitions = fields.definitions.as_slice();
     let errors = errors_of(alloc, definitions)?;
     let (sources, ranks) = sources_of(alloc, errors.len(), &errors)?;

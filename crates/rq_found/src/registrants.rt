@@ -7,7 +7,7 @@ ghost use Rattle.rq_found.specs.Registrants.{last_shown, last_told, registrant_e
 use crate::objects::{JsonPiece, JsonTables, write_pieces};
 use rq_record::QueueNo;
 use rq_report::kind_word;
-use rq_state::{Last, Registrant, State};
+use rq_state::{KeptRegistrant, Last, State};
 use serde::{Described, Serialize, Serializer};
 use std::alloc::{AllocError, Global};
 
@@ -96,12 +96,12 @@ fn last_shown(last: &Last) -> LastShown<'static>
     }
 }
 
-fn registrant_shown(r: &Registrant) -> RegistrantShown<'_>
+fn registrant_shown(r: &KeptRegistrant) -> RegistrantShown<'_>
     ensures { registrant_told result ≡ registrant_entry r.now }
 {
     RegistrantShown {
-        name: r.name.text(),
-        last: match &r.last {
+        name: r.name().text(),
+        last: match r.last() {
             Some(last) => Some(last_shown(last)),
             None => None,
         },

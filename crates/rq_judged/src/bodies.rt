@@ -33,16 +33,13 @@ pub(crate) struct PartedRecords {
 fn decode_there(
     alloc: Global,
     version: Version,
-    bytes: &[u8],
-    whole: &[ArcSlice<u8>],
+    log: &LogBytes<'_>,
     span: &Span,
 ) -> Result<KeptRecord, Fault>
-    requires inside { span.now.start + span.now.len ≤ length bytes.now }
-    requires whole { All (λ log. arc_slice_items log ≡ bytes.now) whole.now }
-    ensures decodes { Decodes (version_of version) (body_at bytes.now span.now) result }
+    requires { span.now.start + span.now.len ≤ length log.now }
+    ensures decodes { Decodes (version_of version) (body_at log.now span.now) result }
 {
-    let log = LogBytes::of_parts(bytes, whole);
-    decode_at(alloc, version, &log, span.start, span.len)
+    decode_at(alloc, version, log, span.start, span.len)
 }
 
 // The records of the version that the bodies spell, read by one thread, with room for as many as
@@ -50,20 +47,18 @@ fn decode_there(
 fn read_in_order(
     alloc: Global,
     version: Version,
-    bytes: &[u8],
-    whole: &[ArcSlice<u8>],
+    log: &LogBytes<'_>,
     spans: &[Span],
     room: usize,
 ) -> Result<Vec<KeptRecord>, Fault>
-    requires inside { All (λ s. s.start + s.len ≤ length bytes.now) spans.now }
-    requires whole { All (λ log. arc_slice_items log ≡ bytes.now) whole.now }
+    requires { All (λ s. s.start + s.len ≤ length log.now) spans.now }
     ensures records { IfOk result (λ rs. AreRead (version_of version)
-        (bodies_at bytes.now spans.now) (map record_of rs.items)) }
+        (bodies_at log.now spans.now) (map record_of rs.items)) }
     ensures refused { IfErr result (λ e. e ≡ Resources) }
 {
     let mut records = Vec::with_capacity(alloc, room)?;
     for span in spans.iter() {
-        match decode_there(alloc, version, bytes, whole, span) {
+        match decode_there(alloc, version, log, span) {
             Ok(record) => records.push(record)?,
             Err(Fault::Form) => return Ok(records),
             Err(fault) => return Err(fault),
@@ -73,29 +68,7 @@ fn read_in_order(
 }
 
 // The records that the bodies spell, up to the first body that spells none, read by as many
-// workers.
-#[cycle(shares)]
-fn read_whole<R: Threads + Sync>(
-    rt: &R,
-    alloc: Global,
-    version: Version,
-    bytes: &[u8],
-    whole: &[ArcSlice<u8>],
-    spans: &[Span],
-    workers: u32,
-    room: usize,
-) -> Result<Vec<KeptRecord>, Fault>
-    requires inside { All (λ s. s.start + s.len ≤ length bytes.now) spans.now }
-    requires whole { All (λ log. arc_slice_items log ≡ bytes.now) whole.now }
-    ensures records { IfOk result (λ rs. AreRead (version_of version)
-        (bodies_at bytes.now spans.now) (map record_of rs.items)) }
-    ensures refused { IfErr result (λ e. e ≡ Resources) }
-{
-    let parts = read_apart(rt, alloc, version, bytes, whole, spans, workers, room)?;
-    put_together(parts)
-}
-
-// The same in two parts: one worker reads the back one, and what that spells finds its room behind
+// workers, in two parts: one worker reads the back one, and what that spells finds its room behind
 // what the others read, so no more than one worker's share ever stands twice. One worker, or few
 // bodies, leave the back part empty.
 #[cycle(shares)]
@@ -115,8 +88,9 @@ fn read_apart<R: Threads + Sync>(
     ensures refused { IfErr result (λ e. e ≡ Resources) }
 {
     if workers < 2 || spans.len() <= FEW {
+        let log = LogBytes::of_parts(bytes, whole);
         return Ok(PartedRecords {
-            front: read_in_order(alloc, version, bytes, whole, spans, room)?,
+            front: read_in_order(alloc, version, &log, spans, room)?,
             back: Vec::new(alloc),
             count: spans.len(),
         });
@@ -131,13 +105,20 @@ fn read_apart<R: Threads + Sync>(
                 × All (λ log. arc_slice_items log ≡ bytes.now) whole.now }
             ensures { ReadsBodies (version_of version)
                 (bodies_at bytes.entry.now front.entry.now) result }
-        { read_whole(rt, alloc, version, bytes, whole, front, fewer, room) },
+        {
+            let parts = read_apart(rt, alloc, version, bytes, whole, front, fewer, room)?;
+            let records = put_together(parts)?;
+            Ok(records)
+        },
         || -> Result<Vec<KeptRecord>, Fault>
             requires { All (λ s. s.start + s.len ≤ length bytes.now) back.now
                 × All (λ log. arc_slice_items log ≡ bytes.now) whole.now }
             ensures { ReadsBodies (version_of version)
                 (bodies_at bytes.entry.now back.entry.now) result }
-        { read_in_order(alloc, version, bytes, whole, back, back.len()) },
+        {
+            let log = LogBytes::of_parts(bytes, whole);
+            read_in_order(alloc, version, &log, back, back.len())
+        },
     );
     Ok(PartedRecords {
         front: left?,

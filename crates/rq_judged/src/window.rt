@@ -32,14 +32,14 @@ const WAITING: usize = 16_777_216;
 /// header, the 32 bytes before the next frame, and what came behind them.
 #[derive(Drop)]
 pub(crate) struct WindowPass {
-    pub(crate) judge: Judge,
-    pub(crate) records: usize,
-    pub(crate) used: usize,
-    pub(crate) total: usize,
-    pub(crate) window: Vec<u8>,
-    pub(crate) place: usize,
-    pub(crate) enough: usize,
-    pub(crate) ended: Option<Why>,
+    judge: Judge,
+    records: usize,
+    used: usize,
+    total: usize,
+    window: Vec<u8>,
+    place: usize,
+    enough: usize,
+    ended: Option<Why>,
 }
 
 // The reason, if no further bytes take it away.

@@ -1,5 +1,5 @@
 -- The front of a log ends within it.
-use Rattle.std.proofs.Common.{ℕ, ◌-◌, ◌≤◌, List, length, drop, Option, Some, None, ap, arith}
+use Rattle.std.proofs.Common.{ℕ, ◌≤◌, List, length, Option, Some, None, ap, arith}
 use Rattle.std.proofs.lemmas.List.{length-append, length-drop}
 use Rattle.rq_model.specs.Frames.{before, frames_of}
 use Rattle.rq_model.specs.Fronts.{Restarted}

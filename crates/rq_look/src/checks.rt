@@ -1,11 +1,7 @@
 //! Whether a log is whole, and each of its checkpoints true.
 
-ghost use Rattle.std.specs.Prelude.{◌≡◌, ◌++◌, ℕ, Bool, List, IfOk, IfErr, OnOk};
-ghost use Rattle.std.specs.Prelude.{codes, map, string_bytes};
-ghost use Rattle.rq_model.specs.Checkpoints.{IsAudit};
-ghost use Rattle.rq_front.specs.Chains.{Refused};
+ghost use Rattle.std.specs.Prelude.{◌≡◌, ◌++◌, IfOk, IfErr, OnOk, codes, string_bytes};
 ghost use Rattle.rq_judged.specs.Views.{why_of};
-ghost use Rattle.rq_restart.specs.Audits.{audited_of};
 ghost use Rattle.rq_found.specs.Ends.{end_text};
 ghost use Rattle.rq_found.specs.Refusals.{IsRefusal};
 ghost use Rattle.rq_look.specs.Findings.{IsFindings, findings_text};
@@ -15,7 +11,7 @@ ghost use Rattle.rq_look.specs.Rests.{behind_finding};
 use crate::behind_fronts::{put_rest, standing_behind};
 use rq_behind::Found;
 use rq_found::{End, Put, ShownLog, Trouble, end_of, is_whole, put_end};
-use rq_restart::{Fault, audit};
+use rq_restart::audit;
 use std::alloc::{AllocError, Global};
 use std::fmt::Write;
 use std::thread::Threads;
@@ -66,23 +62,29 @@ fn front_text(alloc: Global, end: &End) -> Result<String, AllocError>
     Ok(text)
 }
 
-// The lines of the front's end, of what stands behind it, and of the checkpoints.
-fn text_of(
+// What a check finds of a log that was not carried on, of which it is known where its front ends,
+// what stands behind that, and which of its checkpoints are true.
+fn whole_findings(
     alloc: Global,
     end: &End,
     behind: &Found,
     checkpoints: &[(u64, bool)],
-) -> Result<String, AllocError>
-    ensures { IfOk result (λ text. string_bytes text ≡ findings_text end.now.records end.now.used
-        end.now.total (why_of end.now.why) (string_bytes end.now.reason) behind.now
-        checkpoints.now) }
+) -> Result<Findings, AllocError>
+    ensures fine { IfOk result
+        (λ found. found.fine ≡ all_fine (why_of end.now.why) checkpoints.now) }
+    ensures text { IfOk result (λ found. string_bytes found.text
+        ≡ findings_text end.now.records end.now.used end.now.total (why_of end.now.why)
+        (string_bytes end.now.reason) behind.now checkpoints.now) }
 {
     let mut text = front_text(alloc, end)?;
     put_rest(&mut text, end, behind)?;
     for (offset, truth) in checkpoints {
         put_checkpoint(&mut text, *offset, *truth)?;
     }
-    Ok(text)
+    Ok(Findings {
+        fine: is_fine(end, checkpoints),
+        text,
+    })
 }
 
 // The lines of a log that begins with a checkpoint: that it is not checked, where its front ends, and
@@ -97,30 +99,6 @@ fn carried_text(alloc: Global, end: &End, found: &Found) -> Result<String, Alloc
     put_end(&mut text, end)?;
     put_rest(&mut text, end, found)?;
     Ok(text)
-}
-
-// What a check finds of a log that was not carried on, of which it is known where its front ends and
-// what stands behind that.
-fn whole_findings<R: Threads + Sync>(
-    rt: &R,
-    alloc: Global,
-    log: &ShownLog<'_>,
-    end: &End,
-    behind: &Found,
-) -> Result<Findings, Fault>
-    ensures audited { IfOk result (λ found. (checkpoints : List (ℕ × Bool))
-        × IsAudit log.now.bytes.now (map audited_of checkpoints)
-        × (found.fine ≡ all_fine (why_of end.now.why) checkpoints)
-        × (string_bytes found.text ≡ findings_text end.now.records end.now.used
-        end.now.total (why_of end.now.why) (string_bytes end.now.reason) behind.now
-        checkpoints)) }
-    ensures refused { IfErr result (Refused log.now.bytes.now) }
-{
-    let checkpoints = audit(rt, alloc, log.bytes, log.plan)?;
-    Ok(Findings {
-        fine: is_fine(end, &checkpoints),
-        text: text_of(alloc, end, behind, &checkpoints)?,
-    })
 }
 
 /// Whether a log is whole and each checkpoint of its front true, and what is wrong with it. Of a log
@@ -142,7 +120,8 @@ pub fn check<R: Threads + Sync>(
     let behind = standing_behind(alloc, log.bytes, &end)?;
     match log.at {
         None => {
-            let found = whole_findings(rt, alloc, log, &end, &behind)?;
+            let checkpoints = audit(rt, alloc, log.bytes, log.plan)?;
+            let found = whole_findings(alloc, &end, &behind, &checkpoints)?;
             Ok(found)
         }
         // Its file alone does not tell whether the checkpoint is true.

@@ -20,15 +20,12 @@ abbrev pub HasCase : queues.Part → List queues.Op → List queues.Move → Typ
 HasCase part ops arrivals = (version : Version) × (s : State) × (rs : List Record)
     × IsCase version s rs part ops arrivals
 
--- whatever case they are of, the part after its records
-abbrev pub RedoesTo : queues.Part → List queues.Op → List queues.Move → queues.Part → Type 0
-RedoesTo part ops arrivals new = (version : Version) (s : State) (rs : List Record) →
-    IsCase version s rs part ops arrivals → new ≡ queues.part_of (run s rs) part.queue
-
--- whatever case they are of, what leaves the part
-abbrev pub RedoSends : queues.Part → List queues.Op → List queues.Move → List queues.Move → Type 0
-RedoSends part ops arrivals sent = (version : Version) (s : State) (rs : List Record) →
-    IsCase version s rs part ops arrivals → sent ≡ queues.moves s rs part.queue
+-- whatever case they are of, the part after its records, and what leaves it
+abbrev pub Redoes : queues.Part → List queues.Op → List queues.Move → queues.Part → List queues.Move
+    → Type 0
+Redoes part ops arrivals new sent = (version : Version) (s : State) (rs : List Record) →
+    IsCase version s rs part ops arrivals
+    → (new ≡ queues.part_of (run s rs) part.queue) × (sent ≡ queues.moves s rs part.queue)
 
 -- by place
 abbrev pub AreRising : List queues.Move → Type 0

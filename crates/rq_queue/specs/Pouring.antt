@@ -20,7 +20,7 @@ Joins old members new (Ok _) = new ≡ old ++ members
 Joins old members new (Err _) = new ≡ old
 
 -- nothing but the members is changed
-abbrev pub KeepsRest : {E : Type 0} → FieldsOf E → FieldsOf E → Type 0
+abbrev pub KeepsRest : {E R : Type 0} → FieldsOf E R → FieldsOf E R → Type 0
 KeepsRest old new = (new.next ≡ old.next) × (new.greatest ≡ old.greatest)
     × (new.committed ≡ old.committed) × (new.aborted ≡ old.aborted)
     × (new.definitions ≡ old.definitions) × (new.units ≡ old.units)

@@ -1,21 +1,23 @@
 -- The registrants of a queue, as they are kept and in order.
 use Rattle.std.specs.Prelude.{◌≡◌, ℕ, List, Option, if◌then◌else◌, ◌==◌, ◌&&◌}
+use Rattle.std.specs.Cmp.Lexicographic.{slice_cmp}
+use Rattle.std.specs.Ordering.{nat_cmp}
 use Rattle.std.specs.declared.cmp.Ordering.TheVariants.{Less}
 use Rattle.rq_model.specs.States.{Last, Note, Registrant, is_note_of}
 use Rattle.rq_model.specs.Machine.{later}
 use Rattle.rq_model.specs.WellFormed.{Ordered}
-use Rattle.rq_state.specs.Orders.{key_cmp}
 
--- a queue and name, with the last operation
+-- a name, with the last operation
 abbrev pub RollEntry : Type 0
-RollEntry = (ℕ × List ℕ) × Option Last
+RollEntry = List ℕ × Option Last
 
-abbrev pub registrant_of : RollEntry → Registrant
-registrant_of e = record { queue = e.0.0; name = e.0.1; last = e.1 }
+-- the same as a registrant of the queue
+abbrev pub registrant_of : ℕ → RollEntry → Registrant
+registrant_of queue e = record { queue = queue; name = e.0; last = e.1 }
 
--- by queue and name
+-- by name
 abbrev pub IsRoll : List RollEntry → Type 0
-IsRoll es = Ordered (λ (a b : RollEntry). key_cmp a.0 b.0 ≡ Less) es
+IsRoll es = Ordered (λ (a b : RollEntry). slice_cmp nat_cmp a.0 b.0 ≡ Less) es
 
 -- the registrant after a note, if that is one of the unit and its own
 abbrev pub heard : ℕ → Note → Registrant → Registrant

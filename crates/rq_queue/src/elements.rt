@@ -11,14 +11,14 @@ ghost use Rattle.rq_queue.specs.Kept.{sent_from};
 ghost use Rattle.rq_record.specs.declared.fault.Fault.TheVariants.{Resources};
 ghost use Rattle.rq_state.specs.Views.{id_of};
 
-use crate::lent::{LentElement, copied, lend_free, lend_marked};
+use crate::lent::{LentElement, copied, lend_marked, lend_values};
 use crate::moves::{KeptMove, send};
 use crate::priorities::{kept_with, learn, take_out};
 use crate::rooms::{room_after, room_after_marked};
 use crate::shelves::{
     Rank, all_freed, all_returned, free_list, mapped, parted, shelve, stow, taken, with_marked,
 };
-use rq_record::{ElemId, Fault, KeptPayload, QueueNo, UnitNo};
+use rq_record::{ElemId, Fault, QueueNo, UnitNo};
 use rq_state::{Definition, Element, KeptElement, Mark, SHORTEST_ELEMENT, order, told_elements};
 use std::alloc::Global;
 use std::collections::BTreeMap;
@@ -103,7 +103,7 @@ impl Elements {
         ensures lent { OnOk result (IsPermutation (lent.old.items ++ self.now) lent.new.items) }
         ensures refused { IfErr result (λ e. e ≡ Resources) }
     {
-        lend_free(lent, &self.free)?;
+        lend_values(lent, &self.free)?;
         lend_marked(lent, &self.marked)?;
         Ok(())
     }
@@ -138,33 +138,14 @@ impl Elements {
         Ok(())
     }
 
-    // Adds an element whose id is greater than those of the others.
-    fn push(&mut self, alloc: Global, e: KeptElement) -> Result<(), Fault>
+    /// Adds an element whose id is greater than those of the others.
+    pub(crate) fn push(&mut self, alloc: Global, e: KeptElement) -> Result<(), Fault>
         requires { AllByRecursion (λ (x : model.Element). x.id < e.id) self.old }
         ensures done { OnOk result (self.new ≡ self.old ++ e ∷ []) }
         ensures refused { IfErr result (λ e. e ≡ Resources) }
     {
         self.put(alloc, e)?;
         Ok(())
-    }
-
-    /// Adds a new element of a unit, with a payload of the same bytes.
-    pub(crate) fn add(
-        &mut self,
-        alloc: Global,
-        place: u64,
-        unit: UnitNo,
-        queue: QueueNo,
-        priority: u8,
-        payload: &KeptPayload,
-    ) -> Result<(), Fault>
-        requires { AllByRecursion (λ (x : model.Element). x.id < place) self.old }
-        ensures done { OnOk result (self.new ≡ self.old
-            ++ machine.new_element place unit.0 queue.0 priority payload.now ∷ []) }
-        ensures refused { IfErr result (λ e. e ≡ Resources) }
-    {
-        let e = KeptElement::fresh(place, unit, queue, priority, payload.copied()?);
-        self.push(alloc, e)
     }
 
     /// The best element becomes Held. Answers its id, if there is one. All elements are in the

@@ -34,15 +34,15 @@ impl KeptLast {
         KeptLast { last: None }
     }
 
-    /// Keeps an operation. Refused with Resources.
-    pub(crate) fn of(alloc: Global, last: Option<Last>) -> Result<KeptLast, Fault>
-        ensures kept { IfOk result (λ k. k ≡ last) }
+    /// Keeps an operation that is lent. Refused with Resources.
+    pub(crate) fn of(alloc: Global, last: Option<&Last>) -> Result<KeptLast, Fault>
+        ensures kept { IfOk result (λ k. k ≡ option_map (λ l. l.now) last.entry) }
         ensures refused { IfErr result (λ e. e ≡ Resources) }
     {
         match last {
             None => Ok(KeptLast::none()),
             Some(last) => Ok(KeptLast {
-                last: Some(Box::new(alloc, last)?),
+                last: Some(Box::new(alloc, last.copied())?),
             }),
         }
     }

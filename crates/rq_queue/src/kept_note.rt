@@ -1,18 +1,19 @@
 //! A note as a queue keeps it.
 
-ghost use Rattle.std.specs.Prelude.{◌≡◌, ◌==◌, IfOk, IfErr};
+ghost use Rattle.std.specs.Prelude.{◌≡◌, ◌==◌, ◌&&◌, IfOk, IfErr};
 ghost use Rattle.rq_model.specs.States as model;
+ghost use Rattle.rq_model.specs.StateSpelling.{note_bytes};
 ghost use Rattle.rq_record.specs.declared.fault.Fault.TheVariants.{Resources};
 
 use rq_record::{Fault, KeptName, Name, QueueNo, UnitNo};
-use rq_state::{Last, Note, Ordinal};
+use rq_state::{Compare, Compared, Last, Note, Ordinal};
 use std::alloc::Global;
 use std::marker::Model;
 
 /// A note in 8 bytes and 72 of its own; a `Note` takes 120. A unit may make many, and a map whose
 /// keys come in order has room for about twice as many as it holds.
 #[derive(Drop)]
-pub(crate) struct KeptNote {
+pub struct KeptNote {
     held: Box<Held>,
 }
 
@@ -25,8 +26,6 @@ struct Held {
 }
 
 impl Model for KeptNote {
-    ghost use Rattle.rq_model.specs.States as model;
-
     ghost Value = { model.Note };
 
     ghost view = { λ n. record {
@@ -42,6 +41,14 @@ impl Ordinal for KeptNote {
 
     fn ordinal(&self) -> u64 {
         self.place()
+    }
+}
+
+impl Compare for KeptNote {
+    ghost spelling = { note_bytes };
+
+    fn compare(&self, bytes: &mut Compared<'_>) {
+        self.note().compare(bytes);
     }
 }
 
@@ -101,6 +108,20 @@ impl KeptNote {
         ensures { result ≡ (self.now.unit == unit.0) }
     {
         self.held.unit.0 == unit.0
+    }
+
+    /// Whether it is of the unit, and on the queue.
+    pub(crate) fn is_by_at(&self, unit: UnitNo, queue: QueueNo) -> bool
+        ensures { result ≡ ((self.now.unit == unit.0) && (self.now.queue == queue.0)) }
+    {
+        self.held.unit.0 == unit.0 && self.held.queue.0 == queue.0
+    }
+
+    /// The name of its registrant.
+    pub(crate) fn name(&self) -> &KeptName
+        ensures { result.now ≡ self.now.name }
+    {
+        &self.held.name
     }
 
     /// The operation.

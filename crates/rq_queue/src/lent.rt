@@ -1,80 +1,83 @@
-//! Elements of a queue, lent: many are put in order and looked at, and none is copied.
+//! Members of a queue, lent: many are put in order and looked at, and none is copied.
 
 ghost use Rattle.std.specs.Prelude.{◌≡◌, ◌++◌, IfOk, IfErr, OnOk};
 ghost use Rattle.std.specs.Map.{values_of};
-ghost use Rattle.rq_model.specs.StateSpelling.{element_bytes};
 ghost use Rattle.rq_queue.specs.Kept.{items_of};
 ghost use Rattle.rq_record.specs.declared.fault.Fault.TheVariants.{Resources};
 
-use crate::shelves::Rank;
+use crate::kept_note::KeptNote;
 use rq_record::Fault;
 use rq_state::{Compare, Compared, KeptElement, Ordinal};
 use std::alloc::Global;
 use std::collections::BTreeMap;
 use std::marker::Model;
 
-/// An element of a queue, lent. Its id stands beside it, since many are put in order by that.
+/// A member of a queue, lent. Its number stands beside it, since many are put in order by that.
 #[derive(Drop)]
-pub struct LentElement<'a> {
-    id: u64,
-    element: &'a KeptElement,
+pub struct Lent<'a, M: Ordinal> {
+    number: u64,
+    member: &'a M,
 }
 
-impl<'a> Model for LentElement<'a> {
+/// An element of a queue, lent.
+pub type LentElement<'a> = Lent<'a, KeptElement>;
+
+/// A note of a queue, lent.
+pub type LentNote<'a> = Lent<'a, KeptNote>;
+
+impl<'a, M: Ordinal> Model for Lent<'a, M> {
     ghost use Rattle.std.specs.Prelude.{◌≡◌};
-    ghost use Rattle.rq_model.specs.States as model;
 
-    ghost Value = { model.Element };
+    ghost Value = { M };
 
-    ghost view = { λ l. l.element.now };
+    ghost view = { λ l. l.member.now };
 
-    ghost invariant = { λ l. l.id ≡ l.element.now.id };
+    ghost invariant = { λ l. l.number ≡ M.ordinal_of l.member.now };
 }
 
-impl<'a> LentElement<'a> {
-    fn of(element: &'a KeptElement) -> LentElement<'a>
-        ensures { result ≡ element.now }
+impl<'a, M: Ordinal> Lent<'a, M> {
+    fn of(member: &'a M) -> Lent<'a, M>
+        ensures { result ≡ member.now }
     {
-        LentElement {
-            id: element.number(),
-            element,
+        Lent {
+            number: member.ordinal(),
+            member,
         }
     }
 
-    fn copied(&self) -> Result<KeptElement, Fault>
-        ensures copied { IfOk result (λ e. e ≡ self.now) }
-        ensures refused { IfErr result (λ e. e ≡ Resources) }
+    fn member(&self) -> &'a M
+        ensures { result.now ≡ self.now }
     {
-        self.element.copied()
+        self.member
     }
 }
 
-impl<'a> Ordinal for LentElement<'a> {
-    ghost ordinal_of = { λ e. e.id };
+impl<'a, M: Ordinal> Ordinal for Lent<'a, M> {
+    ghost ordinal_of = { M.ordinal_of };
 
     fn ordinal(&self) -> u64 {
-        self.id
+        self.number
     }
 }
 
-impl<'a> Compare for LentElement<'a> {
-    ghost spelling = { element_bytes };
+impl<'a, M: Ordinal + Compare> Compare for Lent<'a, M> {
+    ghost spelling = { M.spelling };
 
     fn compare(&self, bytes: &mut Compared<'_>) {
-        self.element.compare(bytes);
+        self.member.compare(bytes);
     }
 }
 
-/// Lends the Free elements, best first.
-pub(crate) fn lend_free<'a>(
-    lent: &mut Vec<LentElement<'a>>,
-    free: &'a BTreeMap<Rank, KeptElement>,
+/// Lends the members of a map, by key.
+pub(crate) fn lend_values<'a, K: Ord, M: Ordinal>(
+    lent: &mut Vec<Lent<'a, M>>,
+    members: &'a BTreeMap<K, M>,
 ) -> Result<(), Fault>
-    ensures lent { OnOk result (lent.new.items ≡ lent.old.items ++ values_of free.now.entries) }
+    ensures lent { OnOk result (lent.new.items ≡ lent.old.items ++ values_of members.now.entries) }
     ensures refused { IfErr result (λ e. e ≡ Resources) }
 {
-    for e in free.values() {
-        lent.push(LentElement::of(e))?;
+    for member in members.values() {
+        lent.push(Lent::of(member))?;
     }
     Ok(())
 }
@@ -85,7 +88,7 @@ fn lend_list<'a>(lent: &mut Vec<LentElement<'a>>, list: &'a [KeptElement]) -> Re
     ensures refused { IfErr result (λ e. e ≡ Resources) }
 {
     for e in list {
-        lent.push(LentElement::of(e))?;
+        lent.push(Lent::of(e))?;
     }
     Ok(())
 }
@@ -111,7 +114,7 @@ pub(crate) fn copied(alloc: Global, lent: &[LentElement<'_>]) -> Result<Vec<Kept
 {
     let mut copies = Vec::with_capacity(alloc, lent.len())?;
     for e in lent {
-        copies.push(e.copied()?)?;
+        copies.push(e.member().copied()?)?;
     }
     Ok(copies)
 }

@@ -4,39 +4,26 @@ ghost use Rattle.std.specs.Prelude.{◌≡◌, ◌++◌, IfOk, IfErr, OnOk};
 ghost use Rattle.rq_queue.specs.Kept.{sent_from};
 ghost use Rattle.rq_record.specs.declared.fault.Fault.TheVariants.{Resources};
 
-use rq_record::Fault;
-use rq_state::{Definition, Element, KeptElement};
+use rq_record::{Fault, KeptPayload, Payload};
+use rq_state::{Definition, ElementOf, KeptElement, MadeOf, PayloadBytes};
 use std::alloc::Global;
 use std::marker::Model;
 
 /// An element as it arrives in an error queue, with attempts 0, and the place of the ABORT that
-/// moved it.
+/// moved it. `P` is the type of its payload: `Payload` or `KeptPayload`.
 #[derive(Drop)]
-pub struct Move {
+pub struct MoveOf<P: PayloadBytes> {
     pub place: u64,
-    pub element: Element,
+    pub element: ElementOf<P>,
 }
 
-impl Model for Move {
-    ghost use Rattle.std.specs.Prelude.{◌≡◌};
-    ghost use Rattle.rq_model.specs.States.{Free};
-    ghost use Rattle.rq_model.specs.Queues as queues;
-
-    ghost Value = { queues.Move };
-
-    ghost view = { λ m. record { place = m.place; element = m.element } };
-
-    ghost invariant = { λ m. (m.element.attempts ≡ 0) × (m.element.mark ≡ Free) };
-}
+/// A move, as a caller makes it and takes it apart.
+pub type Move = MoveOf<Payload>;
 
 /// The same with an element that is kept.
-#[derive(Drop)]
-pub struct KeptMove {
-    pub place: u64,
-    pub element: KeptElement,
-}
+pub type KeptMove = MoveOf<KeptPayload>;
 
-impl Model for KeptMove {
+impl<P: PayloadBytes> Model for MoveOf<P> {
     ghost use Rattle.std.specs.Prelude.{◌≡◌};
     ghost use Rattle.rq_model.specs.States.{Free};
     ghost use Rattle.rq_model.specs.Queues as queues;
@@ -57,34 +44,22 @@ impl KeptMove {
     }
 }
 
-/// Keeps the elements that move, in their order.
-pub(crate) fn kept_moves(alloc: Global, moves: &[Move]) -> Result<Vec<KeptMove>, Fault>
-    ensures kept { IfOk result (λ v. v.items ≡ moves.now) }
+/// Moves of the same elements, in their order: kept, or as a caller takes them apart.
+pub(crate) fn moves_of<P: PayloadBytes, Q: MadeOf<P>>(
+    alloc: Global,
+    moves: &[MoveOf<P>],
+) -> Result<Vec<MoveOf<Q>>, Fault>
+    ensures same { IfOk result (λ v. v.items ≡ moves.now) }
     ensures refused { IfErr result (λ e. e ≡ Resources) }
 {
-    let mut kept = Vec::with_capacity(alloc, moves.len())?;
+    let mut all = Vec::with_capacity(alloc, moves.len())?;
     for m in moves {
-        kept.push(KeptMove {
+        all.push(MoveOf {
             place: m.place,
-            element: KeptElement::of(alloc, &m.element)?,
+            element: ElementOf::of(alloc, &m.element)?,
         })?;
     }
-    Ok(kept)
-}
-
-/// The elements that move, in their order, as a caller takes them apart.
-pub(crate) fn told_moves(alloc: Global, kept: &[KeptMove]) -> Result<Vec<Move>, Fault>
-    ensures same { IfOk result (λ v. v.items ≡ kept.now) }
-    ensures refused { IfErr result (λ e. e ≡ Resources) }
-{
-    let mut moves = Vec::with_capacity(alloc, kept.len())?;
-    for m in kept {
-        moves.push(Move {
-            place: m.place,
-            element: Element::of(alloc, &m.element)?,
-        })?;
-    }
-    Ok(moves)
+    Ok(all)
 }
 
 /// Adds the elements to the moves, as they arrive in the error queue.

@@ -13,7 +13,7 @@ ghost use Rattle.rq_state.specs.Views.{kind_of, id_of};
 use crate::draws::{drawn, notes_without};
 use crate::kept_note::KeptNote;
 use crate::keys::slim;
-use crate::lent_notes::{LentNote, lend_all};
+use crate::lent::{LentNote, lend_values};
 use crate::lists::next_of;
 use crate::places::{file, places_of, unfiled};
 use crate::rooms::room_after;
@@ -103,7 +103,7 @@ impl Notes {
         ensures lent { OnOk result (lent.new.items ≡ lent.old.items ++ self.now) }
         ensures refused { IfErr result (λ e. e ≡ Resources) }
     {
-        lend_all(lent, &self.all)
+        lend_values(lent, &self.all)
     }
 
     /// Copies of all of them, by place.

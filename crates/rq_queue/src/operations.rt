@@ -2,6 +2,7 @@
 
 ghost use Rattle.std.specs.Prelude.{◌≡◌, ◌<◌, All, length, map, slice_index_or, IfOk, IfErr};
 ghost use Rattle.rq_model.specs.Queues as queues;
+ghost use Rattle.rq_model.specs.Records as records;
 ghost use Rattle.rq_queue.specs.Ops.{ops_at};
 ghost use Rattle.rq_record.specs.Views.{record_of};
 ghost use Rattle.rq_record.specs.declared.fault.Fault.TheVariants.{Resources};
@@ -10,36 +11,39 @@ use rq_record::{Fault, KeptRecord, Record};
 use std::alloc::Global;
 use std::marker::Model;
 
-/// A record that touches a queue, and its place in the log.
-#[derive(Drop)]
-pub struct Op<'a> {
-    pub place: u64,
-    pub rec: &'a Record,
+/// A record, kept or not.
+pub trait AnyRecord: Drop {
+    ghost does: { Self → records.Record };
 }
 
-impl<'a> Model for Op<'a> {
+impl AnyRecord for Record {
+    ghost does = { record_of };
+}
+
+impl AnyRecord for KeptRecord {
+    ghost does = { record_of };
+}
+
+/// A record that touches a queue, and its place in the log. `R` is the type of the record: `Record`
+/// or `KeptRecord`.
+#[derive(Drop)]
+pub struct OpOf<'a, R: AnyRecord> {
+    pub place: u64,
+    pub rec: &'a R,
+}
+
+/// An operation of a caller's.
+pub type Op<'a> = OpOf<'a, Record>;
+
+/// An operation, as a restart keeps its record.
+pub type KeptOp<'a> = OpOf<'a, KeptRecord>;
+
+impl<'a, R: AnyRecord> Model for OpOf<'a, R> {
     ghost use Rattle.rq_model.specs.Queues as queues;
-    ghost use Rattle.rq_record.specs.Views.{record_of};
 
     ghost Value = { queues.Op };
 
-    ghost view = { λ o. record { place = o.place; does = record_of o.rec.now } };
-}
-
-/// A record that touches a queue, as a restart keeps it, and its place in the log.
-#[derive(Drop)]
-pub struct KeptOp<'a> {
-    pub place: u64,
-    pub rec: &'a KeptRecord,
-}
-
-impl<'a> Model for KeptOp<'a> {
-    ghost use Rattle.rq_model.specs.Queues as queues;
-    ghost use Rattle.rq_record.specs.Views.{record_of};
-
-    ghost Value = { queues.Op };
-
-    ghost view = { λ o. record { place = o.place; does = record_of o.rec.now } };
+    ghost view = { λ o. record { place = o.place; does = R.does o.rec.now } };
 }
 
 impl KeptOp<'_> {
@@ -109,45 +113,21 @@ impl<'a> KeptOps<'a> {
     }
 }
 
-/// Operations with records of their own, made for a caller's.
-#[derive(Drop)]
-pub(crate) struct OwnOps {
-    records: Vec<KeptRecord>,
-    touching: Vec<(u64, usize)>,
-}
-
-impl Model for OwnOps {
-    ghost use Rattle.std.specs.Prelude.{◌<◌, List, All, length, map};
-    ghost use Rattle.rq_model.specs.Queues as queues;
-    ghost use Rattle.rq_queue.specs.Ops.{ops_at};
-    ghost use Rattle.rq_record.specs.Views.{record_of};
-
-    ghost Value = { List queues.Op };
-
-    ghost view = { λ o. ops_at (map record_of o.records.items) o.touching.items };
-
-    ghost invariant = { λ o. All (λ p. p.1 < length o.records.items) o.touching.items };
-}
-
-impl OwnOps {
-    /// Keeps the records of the operations.
-    pub(crate) fn of(alloc: Global, ops: &[Op]) -> Result<OwnOps, Fault>
-        ensures kept { IfOk result (λ v. v ≡ ops.now) }
-        ensures refused { IfErr result (λ e. e ≡ Resources) }
-    {
-        let mut records = Vec::with_capacity(alloc, ops.len())?;
-        let mut touching = Vec::with_capacity(alloc, ops.len())?;
-        for op in ops {
-            touching.push((op.place, records.len()))?;
-            records.push(KeptRecord::of(alloc, op.rec)?)?;
-        }
-        Ok(OwnOps { records, touching })
+/// Keeps the records of the operations: these, and the place of each operation with the index of
+/// its record.
+pub(crate) fn kept_ops(
+    alloc: Global,
+    ops: &[Op],
+) -> Result<(Vec<KeptRecord>, Vec<(u64, usize)>), Fault>
+    ensures within { IfOk result (λ r. All (λ p. p.1 < length r.0.items) r.1.items) }
+    ensures kept { IfOk result (λ r. ops_at (map record_of r.0.items) r.1.items ≡ ops.now) }
+    ensures refused { IfErr result (λ e. e ≡ Resources) }
+{
+    let mut records = Vec::with_capacity(alloc, ops.len())?;
+    let mut touching = Vec::with_capacity(alloc, ops.len())?;
+    for op in ops {
+        touching.push((op.place, records.len()))?;
+        records.push(KeptRecord::of(alloc, op.rec)?)?;
     }
-
-    /// The operations, lent.
-    pub(crate) fn lent(&self) -> KeptOps<'_>
-        ensures { result ≡ self.now }
-    {
-        KeptOps::new(&self.records, &self.touching)
-    }
+    Ok((records, touching))
 }

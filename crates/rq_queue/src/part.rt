@@ -1,9 +1,10 @@
 //! What belongs to one queue.
 
 ghost use Rattle.std.specs.Prelude.{◌≡◌, ◌≢◌, ◌+◌, ◌<◌, ◌^◌, ◌++◌, ◌∷◌, [], length, IfOk, IfErr};
-ghost use Rattle.std.specs.Prelude.{◌-◌, ◌≤◌, OnOk, SomeIff};
+ghost use Rattle.std.specs.Prelude.{◌-◌, ◌≤◌, OnOk, SomeIff, option_map};
 ghost use Rattle.std.specs.List.{AllByRecursion, flat_map};
 ghost use Rattle.std.specs.List.Sorted.{IsPermutation};
+ghost use Rattle.rq_model.specs.Machine as machine;
 ghost use Rattle.rq_model.specs.Queues as queues;
 ghost use Rattle.rq_model.specs.Ready.{IsReady};
 ghost use Rattle.rq_model.specs.Records as records;
@@ -12,19 +13,19 @@ ghost use Rattle.rq_model.specs.StateSpelling.{registrant_bytes};
 ghost use Rattle.rq_model.specs.States as states;
 ghost use Rattle.rq_record.specs.declared.fault.Fault.TheVariants.{Resources};
 ghost use Rattle.rq_state.specs.Comparing.{left_after};
+ghost use Rattle.rq_state.specs.Views.{id_of};
 ghost use Rattle.rq_queue.specs.Pouring.{Pours};
 ghost use Rattle.rq_queue.specs.Rooms.{member_bytes};
 
 use crate::elements::Elements;
-use crate::lent::LentElement;
-use crate::lent_notes::LentNote;
+use crate::lent::{LentElement, LentNote};
 use crate::moves::KeptMove;
 use crate::notes::Notes;
 use crate::operations::KeptOp;
 use crate::poured_members::add_members;
 use crate::registrants::Registrants;
 use rq_record::{ElemId, Fault, KeptBy, KeptPayload, KeptRecord, Name, QueueNo, UnitNo};
-use rq_state::{Compared, Definition, Fields, KeptFields, OpKind, State};
+use rq_state::{Compared, Definition, Fields, KeptElement, KeptFields, OpKind, State};
 use std::alloc::Global;
 use std::marker::Model;
 
@@ -33,15 +34,15 @@ use std::marker::Model;
 pub struct Part {
     queue: QueueNo,
     definition: Definition,
-    /// Its elements.
-    pub elements: Elements,
+    elements: Elements,
     registrants: Registrants,
-    /// Its notes.
-    pub notes: Notes,
+    notes: Notes,
 }
 
 impl Model for Part {
+    ghost use Rattle.std.specs.Prelude.{map};
     ghost use Rattle.rq_model.specs.Queues as queues;
+    ghost use Rattle.rq_queue.specs.Roll.{registrant_of};
 
     ghost Value = { queues.Part };
 
@@ -49,7 +50,7 @@ impl Model for Part {
       queue = p.queue.0;
       definition = p.definition;
       elements = p.elements;
-      registrants = p.registrants;
+      registrants = map (registrant_of p.queue.0) p.registrants;
       notes = p.notes;
     } };
 }
@@ -64,13 +65,12 @@ impl Part {
         state.is_well_formed();
         let definition = state.definition(queue.0 as usize).copied();
         let elements = state.copied_elements_of(alloc, queue)?;
-        let registrants = state.copied_registrants_of(alloc, queue)?;
         let notes = state.copied_notes_of(alloc, queue)?;
         Ok(Part {
             queue,
             definition,
             elements: Elements::of(alloc, elements)?,
-            registrants: Registrants::of(alloc, registrants)?,
+            registrants: Registrants::of(alloc, state, queue)?,
             notes: Notes::of(alloc, notes)?,
         })
     }
@@ -110,7 +110,7 @@ impl Part {
     {
         let alloc = *fields.elements.allocator();
         let elements = self.elements.list_told(alloc)?;
-        let registrants = self.registrants.list(alloc)?;
+        let registrants = self.registrants.list_told(alloc, self.queue)?;
         let notes = self.notes.list(alloc)?;
         add_members(fields, elements, registrants, notes)
     }
@@ -122,7 +122,7 @@ impl Part {
     {
         let alloc = *fields.elements.allocator();
         let elements = self.elements.list(alloc)?;
-        let registrants = self.registrants.list(alloc)?;
+        let registrants = self.registrants.list(alloc, self.queue)?;
         let notes = self.notes.list(alloc)?;
         add_members(fields, elements, registrants, notes)
     }
@@ -135,7 +135,7 @@ impl Part {
     {
         let alloc = *fields.elements.allocator();
         let elements = self.elements.copies(alloc)?;
-        let registrants = self.registrants.copies(alloc)?;
+        let registrants = self.registrants.copies(alloc, self.queue)?;
         let notes = self.notes.copies(alloc)?;
         add_members(fields, elements, registrants, notes)
     }
@@ -169,7 +169,7 @@ impl Part {
     pub fn compare_registrants(&self, bytes: &mut Compared<'_>)
         ensures { bytes.new ≡ left_after (flat_map registrant_bytes self.now.registrants) bytes.old }
     {
-        self.registrants.compare(bytes);
+        self.registrants.compare(self.queue, bytes);
     }
 
     /// The room that its members leave of so many bytes, each member spelled in its shortest form.
@@ -209,32 +209,37 @@ impl Part {
             (records.Enqueue unit.0 queue.0 priority by.now payload.now) self.old) }
         ensures refused { IfErr result (λ e. e ≡ Resources) }
     {
+        let e = KeptElement::fresh(place, unit, queue, priority, payload.copied()?);
+        self.elements.push(alloc, e)?;
         let id = Some(ElemId(place));
-        self.elements
-            .add(alloc, place, unit, queue, priority, payload)?;
         self.notes
             .note(alloc, place, unit, queue, by, OpKind::Enqueue, id)
     }
 
-    fn dequeue(
+    /// Dequeues from the queue. Answers the id of the element that it takes, if one is free. A part
+    /// that refuses is no longer of use.
+    pub fn dequeue(
         &mut self,
         alloc: Global,
         place: u64,
         unit: UnitNo,
         queue: QueueNo,
         by: &KeptBy,
-    ) -> Result<(), Fault>
+    ) -> Result<Option<ElemId>, Fault>
         requires homes { AllByRecursion
             (λ (e : states.Element). e.home ≡ queue.0) self.old.elements }
         requires notes { AllByRecursion
             (λ (n : states.Note). n.last.place < place) self.old.notes }
         ensures done { OnOk result
             (self.new ≡ redo_words.act place (records.Dequeue unit.0 queue.0 by.now) self.old) }
+        ensures took { IfOk result (λ id. id_of id
+            ≡ option_map (λ e. e.id) (machine.best queue.0 self.old.elements)) }
         ensures refused { IfErr result (λ e. e ≡ Resources) }
     {
         let id = self.elements.hold_best(alloc, unit, queue)?;
         self.notes
-            .note(alloc, place, unit, queue, by, OpKind::Dequeue, id)
+            .note(alloc, place, unit, queue, by, OpKind::Dequeue, id)?;
+        Ok(id)
     }
 
     /// Commits a unit in the queue. A part that refuses is no longer of use.
@@ -244,7 +249,7 @@ impl Part {
         ensures refused { IfErr result (λ e. e ≡ Resources) }
     {
         let heard = self.notes.take(alloc, unit)?;
-        self.registrants.hear(alloc, unit, &heard)?;
+        self.registrants.hear(alloc, self.queue, unit, &heard)?;
         // The elements need room for themselves, and the unit may have many of both.
         drop(heard);
         self.elements.commit(alloc, unit)
@@ -273,21 +278,21 @@ impl Part {
         Ok(())
     }
 
-    fn register(&mut self, alloc: Global, queue: QueueNo, name: &Name) -> Result<(), Fault>
+    fn register(&mut self, alloc: Global, name: &Name) -> Result<(), Fault>
         ensures done { OnOk result
-            (self.new ≡ redo_words.act 0 (records.Register queue.0 name.now) self.old) }
+            (self.new ≡ redo_words.act 0 (records.Register self.old.queue name.now) self.old) }
         ensures refused { IfErr result (λ e. e ≡ Resources) }
     {
-        self.registrants.register(alloc, queue, name)
+        self.registrants.register(alloc, name)
     }
 
-    fn deregister(&mut self, alloc: Global, queue: QueueNo, name: &Name) -> Result<(), Fault>
+    fn deregister(&mut self, alloc: Global, name: &Name) -> Result<(), Fault>
         ensures done { OnOk result
-            (self.new ≡ redo_words.act 0 (records.Deregister queue.0 name.now) self.old) }
+            (self.new ≡ redo_words.act 0 (records.Deregister self.old.queue name.now) self.old) }
         ensures refused { IfErr result (λ e. e ≡ Resources) }
     {
-        self.registrants.deregister(alloc, queue, name)?;
-        self.notes.forget(alloc, queue, name)
+        self.registrants.deregister(alloc, name)?;
+        self.notes.forget(alloc, self.queue, name)
     }
 
     fn kill(&mut self, alloc: Global, queue: QueueNo, element: ElemId) -> Result<(), Fault>
@@ -313,8 +318,8 @@ impl Part {
         match op.record() {
             KeptRecord::Define { .. } | KeptRecord::Begin { .. } | KeptRecord::Checkpoint { .. } =>
                 Ok(()),
-            KeptRecord::Register { queue, name } => self.register(alloc, *queue, &name.name()),
-            KeptRecord::Deregister { queue, name } => self.deregister(alloc, *queue, &name.name()),
+            KeptRecord::Register { name, .. } => self.register(alloc, &name.name()),
+            KeptRecord::Deregister { name, .. } => self.deregister(alloc, &name.name()),
             KeptRecord::Enqueue {
                 unit,
                 queue,
@@ -322,9 +327,10 @@ impl Part {
                 by,
                 payload,
             } => self.enqueue(alloc, place, *unit, *queue, *priority, by, payload),
-            KeptRecord::Dequeue { unit, queue, by } => self.dequeue(
-                alloc, place, *unit, *queue, by,
-            ),
+            KeptRecord::Dequeue { unit, queue, by } => {
+                self.dequeue(alloc, place, *unit, *queue, by)?;
+                Ok(())
+            }
             KeptRecord::Commit { unit } => self.commit(alloc, *unit),
             KeptRecord::Abort { unit } => self.abort(alloc, place, *unit, sent),
             KeptRecord::Kill { queue, element } => self.kill(alloc, *queue, *element),

@@ -5,7 +5,7 @@ ghost use Rattle.rq_queue.specs.Pouring.{Joins, KeepsRest};
 ghost use Rattle.rq_record.specs.declared.fault.Fault.TheVariants.{Resources};
 
 use rq_record::Fault;
-use rq_state::{FieldsOf, Note, Registrant};
+use rq_state::{FieldsOf, Note};
 
 // Makes room for so many members behind those of a list. None is needed if it has none: then it
 // takes over the list that comes.
@@ -39,10 +39,10 @@ fn join<M: Drop>(list: &mut Vec<M>, mut members: Vec<M>)
 }
 
 /// Adds members to the lists. Refused with Resources: the fields are then as before.
-pub(crate) fn add_members<E: Drop>(
-    fields: &mut FieldsOf<E>,
+pub(crate) fn add_members<E: Drop, R: Drop>(
+    fields: &mut FieldsOf<E, R>,
     elements: Vec<E>,
-    registrants: Vec<Registrant>,
+    registrants: Vec<R>,
     notes: Vec<Note>,
 ) -> Result<(), Fault>
     ensures elements { Joins fields.old.elements.items

@@ -7,10 +7,10 @@ ghost use Rattle.rq_model.specs.Queues as queues;
 ghost use Rattle.rq_model.specs.Ready.{GoesWell};
 ghost use Rattle.rq_model.specs.Redo as redo_words;
 ghost use Rattle.rq_record.specs.declared.fault.Fault.TheVariants.{Resources};
-ghost use Rattle.rq_queue.specs.Case.{AreRising, HasCase, RedoesTo, RedoSends};
+ghost use Rattle.rq_queue.specs.Case.{AreRising, HasCase, Redoes};
 
-use crate::moves::{KeptMove, Move, kept_moves, told_moves};
-use crate::operations::{KeptOps, Op, OwnOps};
+use crate::moves::{KeptMove, Move, moves_of};
+use crate::operations::{KeptOps, Op, kept_ops};
 use crate::part::Part;
 use rq_record::{Fault, KeptRecord};
 use std::alloc::Global;
@@ -127,15 +127,14 @@ pub fn redo(
     arrivals: Vec<Move>,
 ) -> Result<(Part, Vec<Move>), Fault>
     requires { HasCase part ops.now arrivals.items }
-    ensures part { IfOk result (λ r. RedoesTo part ops.now arrivals.items r.0) }
-    ensures moves { IfOk result (λ r. RedoSends part ops.now arrivals.items r.1.items) }
+    ensures redone { IfOk result (λ r. Redoes part ops.now arrivals.items r.0 r.1.items) }
     ensures refused { IfErr result (λ e. e ≡ Resources) }
 {
-    let own = OwnOps::of(alloc, ops)?;
-    let ops = own.lent();
-    let arrivals = kept_moves(alloc, &arrivals)?;
+    let (records, touching) = kept_ops(alloc, ops)?;
+    let ops = KeptOps::new(&records, &touching);
+    let arrivals = moves_of(alloc, &arrivals)?;
     let (part, moves) = redo_kept(alloc, part, &ops, arrivals)?;
-    let moves = told_moves(alloc, &moves)?;
+    let moves = moves_of(alloc, &moves)?;
     Ok((part, moves))
 }
 
@@ -147,11 +146,11 @@ pub fn redo_kept(
     arrivals: Vec<KeptMove>,
 ) -> Result<(Part, Vec<KeptMove>), Fault>
     requires { HasCase part ops.now arrivals.items }
-    ensures part { IfOk result (λ r. RedoesTo part ops.now arrivals.items r.0) }
-    ensures moves { IfOk result (λ r. RedoSends part ops.now arrivals.items r.1.items) }
+    ensures redone { IfOk result (λ r. Redoes part ops.now arrivals.items r.0 r.1.items) }
     ensures refused { IfErr result (λ e. e ≡ Resources) }
 {
     rq_model::projection();
     rq_model::redo_goes_well();
-    redo_in_order(alloc, part, ops, arrivals)
+    let redone = redo_in_order(alloc, part, ops, arrivals)?;
+    Ok(redone)
 }

@@ -1,41 +1,42 @@
 //! The registrants of a queue.
 
-ghost use Rattle.std.specs.Prelude.{◌≡◌, ◌++◌, ◌∷◌, [], true, map, IfOk, IfErr};
+ghost use Rattle.std.specs.Prelude.{◌≡◌, ◌++◌, ◌∷◌, [], ℕ, true, map, IfOk, IfErr};
 ghost use Rattle.std.specs.Prelude.{◌*◌, ◌-◌, ◌≤◌, length, OnOk, SomeIff};
 ghost use Rattle.std.specs.List.{AllByRecursion, flat_map};
 ghost use Rattle.rq_model.specs.Machine as machine;
+ghost use Rattle.rq_model.specs.Queues.{registrants_at};
 ghost use Rattle.rq_model.specs.StateSpelling.{registrant_bytes};
 ghost use Rattle.rq_model.specs.States as model;
-ghost use Rattle.rq_model.specs.WellFormed.{Ordered};
 ghost use Rattle.rq_record.specs.declared.fault.Fault.TheVariants.{Resources};
 ghost use Rattle.rq_state.specs.Comparing.{left_after};
-ghost use Rattle.rq_queue.specs.Roll.{registrant_of, heard};
+ghost use Rattle.rq_queue.specs.Roll.{RollEntry, registrant_of, heard};
 
 use crate::kept_last::KeptLast;
 use crate::kept_note::KeptNote;
-use crate::keys::slim;
-use crate::lists::next_of;
 use crate::rooms::room_after;
 use rq_record::{Fault, KeptName, Name, QueueNo, UnitNo};
-use rq_state::{Compared, Registrant, SHORTEST_REGISTRANT};
+use rq_state::{
+    Compared, KeptRegistrant, Registrant, SHORTEST_REGISTRANT, State, told_registrants,
+};
 use std::alloc::Global;
 use std::collections::BTreeMap;
 use std::marker::Model;
 
-/// The registrants of a queue, by name: the last operation of each.
+/// The registrants of a queue, by name: the last operation of each. The number of the queue stands
+/// in its part alone, so that a registrant takes 32 bytes. A map whose keys come in order has room
+/// for about twice as many as it holds.
 #[derive(Drop)]
 pub(crate) struct Registrants {
-    lasts: BTreeMap<(u32, KeptName), KeptLast>,
+    lasts: BTreeMap<KeptName, KeptLast>,
 }
 
 impl Model for Registrants {
-    ghost use Rattle.std.specs.Prelude.{List, map};
-    ghost use Rattle.rq_model.specs.States as model;
-    ghost use Rattle.rq_queue.specs.Roll.{registrant_of, IsRoll};
+    ghost use Rattle.std.specs.Prelude.{List};
+    ghost use Rattle.rq_queue.specs.Roll.{RollEntry, IsRoll};
 
-    ghost Value = { List model.Registrant };
+    ghost Value = { List RollEntry };
 
-    ghost view = { λ r. map registrant_of r.lasts.entries };
+    ghost view = { λ r. r.lasts.entries };
 
     ghost invariant = { λ r. IsRoll r.lasts.entries };
 }
@@ -50,47 +51,56 @@ impl Registrants {
         }
     }
 
-    /// These registrants, in order.
-    pub(crate) fn of(alloc: Global, items: Vec<Registrant>) -> Result<Registrants, Fault>
-        requires { Ordered (λ r t. model.registrant_before r t ≡ true) items.items }
-        ensures done { IfOk result (λ v. v ≡ items.items) }
+    /// Those of a queue of the state.
+    pub(crate) fn of(alloc: Global, state: &State, queue: QueueNo) -> Result<Registrants, Fault>
+        ensures done { IfOk result (λ v. map (registrant_of queue.0) v
+            ≡ registrants_at queue.0 state.now.registrants) }
         ensures refused { IfErr result (λ e. e ≡ Resources) }
     {
-        let mut coming = items;
-        coming.reverse();
+        state.is_well_formed();
         let mut all = Registrants::none(alloc);
-        while let Some(r) = next_of(&mut coming) {
-            all.push(alloc, r)?;
+        for at in state.registrants_of(queue) {
+            all.push(alloc, state.registrant(*at))?;
         }
         Ok(all)
     }
 
-    // Adds a registrant that comes after all others.
-    fn push(&mut self, alloc: Global, r: Registrant) -> Result<(), Fault>
-        requires { AllByRecursion (λ x. model.registrant_before x r ≡ true) self.old }
-        ensures done { OnOk result (self.new ≡ self.old ++ r ∷ []) }
+    // Adds a registrant whose name comes after all others.
+    fn push(&mut self, alloc: Global, r: &KeptRegistrant) -> Result<(), Fault>
+        requires { AllByRecursion
+            (λ (e : RollEntry). model.name_before e.0 r.now.name ≡ true) self.old }
+        ensures done { OnOk result (self.new ≡ self.old ++ (r.now.name, r.now.last) ∷ []) }
         ensures refused { IfErr result (λ e. e ≡ Resources) }
     {
-        let key = slim(alloc, r.key())?;
-        let last = KeptLast::of(alloc, r.into_last())?;
-        self.lasts.insert(key, last)?;
+        let name = KeptName::of(alloc, &r.name().name())?;
+        let last = KeptLast::of(alloc, r.last())?;
+        self.lasts.insert(name, last)?;
         Ok(())
     }
 
-    /// All of them, in order.
-    pub(crate) fn list(self, alloc: Global) -> Result<Vec<Registrant>, Fault>
-        ensures listed { IfOk result (λ v. v.items ≡ self) }
+    /// All of them, by name.
+    pub(crate) fn list(self, alloc: Global, queue: QueueNo) -> Result<Vec<KeptRegistrant>, Fault>
+        ensures listed { IfOk result (λ v. v.items ≡ map (registrant_of queue.0) self) }
         ensures refused { IfErr result (λ e. e ≡ Resources) }
     {
-        listed(alloc, self.lasts)
+        listed(alloc, queue, self.lasts)
     }
 
-    /// Copies of all of them, in order.
-    pub(crate) fn copies(&self, alloc: Global) -> Result<Vec<Registrant>, Fault>
-        ensures listed { IfOk result (λ v. v.items ≡ self.now) }
+    /// The same, as a caller has them.
+    pub(crate) fn list_told(self, alloc: Global, queue: QueueNo) -> Result<Vec<Registrant>, Fault>
+        ensures listed { IfOk result (λ v. v.items ≡ map (registrant_of queue.0) self) }
         ensures refused { IfErr result (λ e. e ≡ Resources) }
     {
-        copied(alloc, &self.lasts)
+        let kept = self.list(alloc, queue)?;
+        told_registrants(alloc, &kept)
+    }
+
+    /// Copies of all of them, by name.
+    pub(crate) fn copies(&self, alloc: Global, queue: QueueNo) -> Result<Vec<KeptRegistrant>, Fault>
+        ensures listed { IfOk result (λ v. v.items ≡ map (registrant_of queue.0) self.now) }
+        ensures refused { IfErr result (λ e. e ≡ Resources) }
+    {
+        copied(alloc, queue, &self.lasts)
     }
 
     /// How many they are.
@@ -101,10 +111,11 @@ impl Registrants {
     }
 
     /// Their spellings are to come next in the bytes.
-    pub(crate) fn compare(&self, bytes: &mut Compared<'_>)
-        ensures { bytes.new ≡ left_after (flat_map registrant_bytes self.now) bytes.old }
+    pub(crate) fn compare(&self, queue: QueueNo, bytes: &mut Compared<'_>)
+        ensures { bytes.new ≡ left_after
+            (flat_map registrant_bytes (map (registrant_of queue.0) self.now)) bytes.old }
     {
-        compare_each(&self.lasts, bytes);
+        compare_each(queue, &self.lasts, bytes);
     }
 
     /// The room that they leave of so many bytes. None if they do not fit.
@@ -115,16 +126,12 @@ impl Registrants {
     }
 
     /// Registers a name, unless it is registered.
-    pub(crate) fn register(
-        &mut self,
-        alloc: Global,
-        queue: QueueNo,
-        name: &Name,
-    ) -> Result<(), Fault>
-        ensures done { OnOk result (self.new ≡ machine.registered queue.0 name.now self.old) }
+    pub(crate) fn register(&mut self, alloc: Global, name: &Name) -> Result<(), Fault>
+        ensures done { OnOk result ((queue : ℕ) → map (registrant_of queue) self.new
+            ≡ machine.registered queue name.now (map (registrant_of queue) self.old)) }
         ensures refused { IfErr result (λ e. e ≡ Resources) }
     {
-        let key = slim(alloc, (queue.0, *name))?;
+        let key = KeptName::of(alloc, name)?;
         if self.lasts.contains_key(&key) {
             return Ok(());
         }
@@ -133,109 +140,131 @@ impl Registrants {
     }
 
     /// Ends the registration of a name.
-    pub(crate) fn deregister(
-        &mut self,
-        alloc: Global,
-        queue: QueueNo,
-        name: &Name,
-    ) -> Result<(), Fault>
-        ensures done { OnOk result (self.new ≡ machine.deregistered queue.0 name.now self.old) }
+    pub(crate) fn deregister(&mut self, alloc: Global, name: &Name) -> Result<(), Fault>
+        ensures done { OnOk result ((queue : ℕ) → map (registrant_of queue) self.new
+            ≡ machine.deregistered queue name.now (map (registrant_of queue) self.old)) }
         ensures refused { IfErr result (λ e. e ≡ Resources) }
     {
-        let key = slim(alloc, (queue.0, *name))?;
+        let key = KeptName::of(alloc, name)?;
         self.lasts.remove(&key);
         Ok(())
     }
 
     // A note reaches its registrant, if it is one of the unit.
-    fn hear_one(&mut self, alloc: Global, unit: UnitNo, note: &KeptNote) -> Result<(), Fault>
-        ensures done { OnOk result (self.new ≡ map (heard unit.0 note.now) self.old) }
+    fn hear_one(
+        &mut self,
+        alloc: Global,
+        queue: QueueNo,
+        unit: UnitNo,
+        note: &KeptNote,
+    ) -> Result<(), Fault>
+        ensures done { OnOk result (map (registrant_of queue.0) self.new
+            ≡ map (heard unit.0 note.now) (map (registrant_of queue.0) self.old)) }
         ensures refused { IfErr result (λ e. e ≡ Resources) }
     {
-        if !note.is_by(unit) {
+        if !note.is_by_at(unit, queue) {
             return Ok(());
         }
-        let key = slim(alloc, note.key())?;
-        if let Some(last) = self.lasts.get_mut(&key) {
+        if let Some(last) = self.lasts.get_mut(note.name()) {
             last.hear(alloc, note.last())?;
         }
         Ok(())
     }
 
-    /// The notes of the unit among these reach the registrants, one after another.
+    /// The notes of the unit among these reach the registrants of the queue, one after another.
     pub(crate) fn hear(
         &mut self,
         alloc: Global,
+        queue: QueueNo,
         unit: UnitNo,
         notes: &[KeptNote],
     ) -> Result<(), Fault>
-        ensures done { OnOk result (self.new ≡ map (machine.told unit.0 notes.now) self.old) }
+        ensures done { OnOk result (map (registrant_of queue.0) self.new
+            ≡ map (machine.told unit.0 notes.now) (map (registrant_of queue.0) self.old)) }
         ensures refused { IfErr result (λ e. e ≡ Resources) }
     {
         for n in notes {
-            self.hear_one(alloc, unit, n)?;
+            self.hear_one(alloc, queue, unit, n)?;
         }
         Ok(())
     }
 }
 
-fn registrant(key: &(u32, KeptName), last: &KeptLast) -> Registrant
-    ensures { result ≡ registrant_of (key.now, last.now) }
+fn registrant(
+    alloc: Global,
+    queue: QueueNo,
+    name: KeptName,
+    last: &KeptLast,
+) -> Result<KeptRegistrant, Fault>
+    ensures made { IfOk result (λ r. r ≡ registrant_of queue.0 (name, last.now)) }
+    ensures refused { IfErr result (λ e. e ≡ Resources) }
 {
-    Registrant {
-        queue: QueueNo(key.0),
-        name: key.1.name(),
-        last: last.last(),
-    }
+    KeptRegistrant::new(alloc, queue, name, last.last())
 }
 
-// The registrants, in order. Each is let go as the list gets it, so that map and list are never in
+fn registrant_again(
+    alloc: Global,
+    queue: QueueNo,
+    name: &KeptName,
+    last: &KeptLast,
+) -> Result<KeptRegistrant, Fault>
+    ensures made { IfOk result (λ r. r ≡ registrant_of queue.0 (name.now, last.now)) }
+    ensures refused { IfErr result (λ e. e ≡ Resources) }
+{
+    let name = KeptName::of(alloc, &name.name())?;
+    registrant(alloc, queue, name, last)
+}
+
+// The registrants, by name. Each is let go as the list gets it, so that map and list are never in
 // memory at once.
 fn listed(
     alloc: Global,
-    lasts: BTreeMap<(u32, KeptName), KeptLast>,
-) -> Result<Vec<Registrant>, Fault>
-    ensures listed { IfOk result (λ v. v.items ≡ map registrant_of lasts.entries) }
+    queue: QueueNo,
+    lasts: BTreeMap<KeptName, KeptLast>,
+) -> Result<Vec<KeptRegistrant>, Fault>
+    ensures listed { IfOk result (λ v. v.items ≡ map (registrant_of queue.0) lasts.entries) }
     ensures refused { IfErr result (λ e. e ≡ Resources) }
 {
     let mut all = Vec::with_capacity(alloc, lasts.len())?;
-    for (key, last) in lasts {
-        all.push(registrant(&key, &last))?;
+    for (name, last) in lasts {
+        all.push(registrant(alloc, queue, name, &last)?)?;
     }
     Ok(all)
 }
 
-// Copies of the registrants, in order.
+// Copies of the registrants, by name.
 fn copied(
     alloc: Global,
-    lasts: &BTreeMap<(u32, KeptName), KeptLast>,
-) -> Result<Vec<Registrant>, Fault>
-    ensures copied { IfOk result (λ v. v.items ≡ map registrant_of lasts.now.entries) }
+    queue: QueueNo,
+    lasts: &BTreeMap<KeptName, KeptLast>,
+) -> Result<Vec<KeptRegistrant>, Fault>
+    ensures copied { IfOk result (λ v. v.items ≡ map (registrant_of queue.0) lasts.now.entries) }
     ensures refused { IfErr result (λ e. e ≡ Resources) }
 {
     let mut all = Vec::with_capacity(alloc, lasts.len())?;
-    for (key, last) in lasts {
-        all.push(registrant(key, last))?;
+    for (name, last) in lasts {
+        all.push(registrant_again(alloc, queue, name, last)?)?;
     }
     Ok(all)
 }
 
-fn compare_one(key: &(u32, KeptName), last: &KeptLast, bytes: &mut Compared<'_>)
-    ensures { bytes.new ≡ left_after (registrant_bytes (registrant_of (key.now, last.now))) bytes.old }
+fn compare_one(queue: QueueNo, name: &KeptName, last: &KeptLast, bytes: &mut Compared<'_>)
+    ensures { bytes.new
+        ≡ left_after (registrant_bytes (registrant_of queue.0 (name.now, last.now))) bytes.old }
 {
-    bytes.registrant(key.0, key.1.bytes(), last.lent());
+    bytes.registrant(queue.0, name.bytes(), last.lent());
 }
 
-// The spellings of the registrants are to come next in the bytes, in order. It looks at none behind
+// The spellings of the registrants are to come next in the bytes, by name. It looks at none behind
 // the first that differs.
-fn compare_each(lasts: &BTreeMap<(u32, KeptName), KeptLast>, bytes: &mut Compared<'_>)
-    ensures { bytes.new
-        ≡ left_after (flat_map registrant_bytes (map registrant_of lasts.now.entries)) bytes.old }
+fn compare_each(queue: QueueNo, lasts: &BTreeMap<KeptName, KeptLast>, bytes: &mut Compared<'_>)
+    ensures { bytes.new ≡ left_after
+        (flat_map registrant_bytes (map (registrant_of queue.0) lasts.now.entries)) bytes.old }
 {
-    for (key, last) in lasts {
+    for (name, last) in lasts {
         if !bytes.agree() {
             return;
         }
-        compare_one(key, last, bytes);
+        compare_one(queue, name, last, bytes);
     }
 }

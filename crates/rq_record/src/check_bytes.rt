@@ -1,11 +1,13 @@
 //! The bytes of a checkpoint record.
 
-ghost use Rattle.std.specs.Prelude.{◌≡◌, ◌≤◌, ◌↔◌, length, IsSome, IfSome, IfOk, IfErr};
+ghost use Rattle.std.specs.Prelude.{◌≡◌, ◌≤◌, ◌↔◌, [], length, IsSome, IfSome, IfOk, IfErr};
+ghost use Rattle.rq_model.specs.RecordReading.{at_most};
 ghost use Rattle.rq_record.specs.LogParts.{EndsAt};
+ghost use Rattle.rq_record.specs.Reading.{KeepsRead};
 ghost use Rattle.rq_record.specs.declared.fault.Fault.TheVariants.{Resources};
 
 use crate::fault::Fault;
-use crate::log_bytes::LogBytes;
+use crate::log_bytes::LogEnd;
 use std::alloc::Global;
 use std::marker::Model;
 use std::sync::ArcSlice;
@@ -54,28 +56,30 @@ impl CheckBytes {
         Some(CheckBytes { bytes })
     }
 
-    /// The last bytes before an end in a log: a part of it if that is shared, else a copy.
-    pub(crate) fn before(
-        alloc: Global,
-        log: &LogBytes<'_>,
-        end: usize,
-        bytes: &[u8],
-    ) -> Result<Option<CheckBytes>, Fault>
-        requires { EndsAt log.now end bytes.now }
-        ensures bounded { IfOk result (λ p. IsSome p ↔ (length bytes.now ≤ 268435455)) }
-        ensures bytes { IfOk result (λ p. IfSome p (λ q. q ≡ bytes.now)) }
-        ensures refused { IfErr result
-            (λ e. (e ≡ Resources) × (length bytes.now ≤ 268435455)) }
+    /// Lets go of the bytes: there are none then. Takes no memory.
+    pub fn clear(&mut self, alloc: Global)
+        ensures { self.new ≡ [] }
+    {
+        self.bytes = Kept::Own(Vec::new(alloc));
+    }
+
+    /// The last bytes before an end in a log: a part of it if that is shared, else a copy. `Form` if
+    /// there are more than 268,435,455, which is found before memory is asked for.
+    #[tactic(auto, unfolding(rq_model::specs::RecordReading::at_most))]
+    pub(crate) fn before(alloc: Global, at: &LogEnd<'_>, bytes: &[u8]) -> Result<CheckBytes, Fault>
+        requires { EndsAt at.now.log.now at.now.end bytes.now }
+        ensures { KeepsRead (λ p. p) result (at_most 268435455 bytes.now) }
     {
         if bytes.len() > LIMIT {
-            return Ok(None);
+            return Err(Fault::Form);
         }
-        if let Some((whole, start)) = log.part_before(end, bytes)? {
+        if let Some((whole, start)) = at.part_before(bytes)? {
             let len = bytes.len() as u32;
             let bytes = Kept::Part { whole, start, len };
-            return Ok(Some(CheckBytes { bytes }));
+            return Ok(CheckBytes { bytes });
         }
-        Ok(CheckBytes::new(Vec::from_slice(alloc, bytes)?))
+        let bytes = Kept::Own(Vec::from_slice(alloc, bytes)?);
+        Ok(CheckBytes { bytes })
     }
 
     /// The same bytes: a part of a log stays that part, others are copied. `Resources` if memory

@@ -1,12 +1,14 @@
 //! A payload in 24 bytes: as a record and an element keep it.
 
 ghost use Rattle.std.specs.Prelude.{◌≡◌, ◌<◌, ◌≤◌, ◌↔◌, length, IsSome, IfSome, IfOk, IfErr};
+ghost use Rattle.rq_model.specs.RecordReading.{at_most};
 ghost use Rattle.rq_record.specs.KeptPayloads.{bytes_of};
 ghost use Rattle.rq_record.specs.LogParts.{EndsAt};
+ghost use Rattle.rq_record.specs.Reading.{KeepsRead};
 ghost use Rattle.rq_record.specs.declared.fault.Fault.TheVariants.{Resources};
 
 use crate::fault::Fault;
-use crate::log_bytes::LogBytes;
+use crate::log_bytes::LogEnd;
 use crate::payload::Payload;
 use std::alloc::Global;
 use std::marker::Model;
@@ -101,27 +103,23 @@ impl KeptPayload {
     }
 
     /// The same for the last bytes before an end in a log: if that is shared, a long payload is a
-    /// part of it.
-    pub(crate) fn before(
-        alloc: Global,
-        log: &LogBytes<'_>,
-        end: usize,
-        bytes: &[u8],
-    ) -> Result<Option<KeptPayload>, Fault>
-        requires { EndsAt log.now end bytes.now }
-        ensures bounded { IfOk result (λ p. IsSome p ↔ (length bytes.now ≤ 65535)) }
-        ensures bytes { IfOk result (λ p. IfSome p (λ q. q ≡ bytes.now)) }
-        ensures refused { IfErr result
-            (λ e. (e ≡ Resources) × (22 < length bytes.now) × (length bytes.now ≤ 65535)) }
+    /// part of it. `Form` if there are more than 65,535.
+    #[tactic(auto, unfolding(rq_model::specs::RecordReading::at_most))]
+    pub(crate) fn before(alloc: Global, at: &LogEnd<'_>, bytes: &[u8]) -> Result<KeptPayload, Fault>
+        requires { EndsAt at.now.log.now at.now.end bytes.now }
+        ensures { KeepsRead (λ p. p) result (at_most 65535 bytes.now) }
     {
         if 22 < bytes.len() && bytes.len() <= 65535 {
-            if let Some((whole, start)) = log.part_before(end, bytes)? {
+            if let Some((whole, start)) = at.part_before(bytes)? {
                 let len = bytes.len() as u16;
                 let bytes = Bytes::Part { whole, start, len };
-                return Ok(Some(KeptPayload { bytes }));
+                return Ok(KeptPayload { bytes });
             }
         }
-        KeptPayload::from_slice(alloc, bytes)
+        match KeptPayload::from_slice(alloc, bytes)? {
+            Some(payload) => Ok(payload),
+            None => Err(Fault::Form),
+        }
     }
 
     /// The bytes, with their bound.

@@ -78,25 +78,31 @@ impl<'a> LogBytes<'a> {
     {
         self.as_slice().len()
     }
+}
 
-    /// The whole, if it is shared, and where these last bytes before an end begin in it.
-    pub(crate) fn part_before(
-        &self,
-        end: usize,
-        bytes: &[u8],
-    ) -> Result<Option<(ArcSlice<u8>, u32)>, Fault>
-        requires { EndsAt self.now end bytes.now }
+/// An end in a log: what is read stands before it.
+#[derive(Drop)]
+pub(crate) struct LogEnd<'a> {
+    pub(crate) log: &'a LogBytes<'a>,
+    pub(crate) end: usize,
+}
+
+impl LogEnd<'_> {
+    /// The whole, if it is shared, and where these last bytes before the end begin in it.
+    pub(crate) fn part_before(&self, bytes: &[u8]) -> Result<Option<(ArcSlice<u8>, u32)>, Fault>
+        requires { EndsAt self.now.log.now self.now.end bytes.now }
         ensures part { IfOk result
             (λ p. IfSome p (λ x. IsPartOf (arc_slice_items x.0) x.1 bytes.now)) }
         ensures refused { IfErr result (λ e. e ≡ Resources) }
     {
-        let Some(whole) = self.whole.first() else {
+        let log = self.log;
+        let Some(whole) = log.whole.first() else {
             return Ok(None);
         };
-        if end > u32::MAX as usize {
+        if self.end > u32::MAX as usize {
             return Ok(None);
         }
-        let start = (end - bytes.len()) as u32;
+        let start = (self.end - bytes.len()) as u32;
         Ok(Some((whole.clone()?, start)))
     }
 }

@@ -4,12 +4,11 @@
 
 ghost use Rattle.std.specs.Prelude.{◌≡◌, ◌+◌, ◌≤◌, [], length, slice_range, option_map};
 ghost use Rattle.rq_bytes.specs.Readers.{made};
-ghost use Rattle.rq_model.specs.Records.{One, Checkpoint};
+ghost use Rattle.rq_model.specs.Records.{One};
 ghost use Rattle.rq_model.specs.RecordReading.{name_left, who_read, define_from, define_read};
-ghost use Rattle.rq_model.specs.RecordReading.{register_from, deregister_from, registration_read};
-ghost use Rattle.rq_model.specs.RecordReading.{unit_read, enqueue_from, enqueue_read, dequeue_from};
-ghost use Rattle.rq_model.specs.RecordReading.{dequeue_read, checkpoint_read, kill_from, kill_read};
-ghost use Rattle.rq_model.specs.RecordReading.{at_most, record_behind, record_read};
+ghost use Rattle.rq_model.specs.RecordReading.{registration_read, unit_read, enqueue_from};
+ghost use Rattle.rq_model.specs.RecordReading.{enqueue_read, dequeue_from, dequeue_read, kill_from};
+ghost use Rattle.rq_model.specs.RecordReading.{kill_read, record_behind, record_read};
 ghost use Rattle.rq_record.specs.LogParts.{EndsAt, IsLeftTo};
 ghost use Rattle.rq_record.specs.Reading.{KeepsRead, Decodes};
 ghost use Rattle.rq_record.specs.Views.{record_of, version_of};
@@ -20,7 +19,7 @@ use crate::kept_by::KeptBy;
 use crate::kept_name::KeptName;
 use crate::kept_payload::KeptPayload;
 use crate::kept_record::KeptRecord;
-use crate::log_bytes::LogBytes;
+use crate::log_bytes::{LogBytes, LogEnd};
 use crate::name::LentName;
 use crate::record::{ElemId, LentBy, QueueNo, Record, UnitNo};
 use crate::version::Version;
@@ -55,10 +54,9 @@ fn who<'a>(bytes: &mut Cursor<'a>) -> Option<Option<LentBy<'a>>>
 }
 
 #[tactic(auto, unfolding(rq_model::specs::RecordReading::define_read))]
-fn define(alloc: Global, bytes: Cursor<'_>) -> Result<KeptRecord, Fault>
+fn define(alloc: Global, mut bytes: Cursor<'_>) -> Result<KeptRecord, Fault>
     ensures { KeepsRead record_of result (made define_from define_read bytes.entry) }
 {
-    let mut bytes = bytes;
     let limit = bytes.u16().ok_or(Fault::Form)?;
     let error = bytes.u32().ok_or(Fault::Form)?;
     let name = name_left(alloc, bytes)?;
@@ -70,73 +68,33 @@ fn define(alloc: Global, bytes: Cursor<'_>) -> Result<KeptRecord, Fault>
 }
 
 #[tactic(auto, unfolding(rq_model::specs::RecordReading::registration_read))]
-fn register(alloc: Global, bytes: Cursor<'_>) -> Result<KeptRecord, Fault>
-    ensures { KeepsRead record_of result (made register_from registration_read bytes.entry) }
+fn registration(alloc: Global, mut bytes: Cursor<'_>) -> Result<(QueueNo, KeptName), Fault>
+    ensures { KeepsRead (λ r. (r.0.0, r.1)) result (registration_read bytes.entry) }
 {
-    let mut bytes = bytes;
     let queue = bytes.u32().ok_or(Fault::Form)?;
     let name = name_left(alloc, bytes)?;
-    Ok(KeptRecord::Register {
-        queue: QueueNo(queue),
-        name,
-    })
-}
-
-#[tactic(auto, unfolding(rq_model::specs::RecordReading::registration_read))]
-fn deregister(alloc: Global, bytes: Cursor<'_>) -> Result<KeptRecord, Fault>
-    ensures { KeepsRead record_of result (made deregister_from registration_read bytes.entry) }
-{
-    let mut bytes = bytes;
-    let queue = bytes.u32().ok_or(Fault::Form)?;
-    let name = name_left(alloc, bytes)?;
-    Ok(KeptRecord::Deregister {
-        queue: QueueNo(queue),
-        name,
-    })
+    Ok((QueueNo(queue), name))
 }
 
 #[tactic(auto, unfolding(rq_model::specs::RecordReading::unit_read))]
-fn unit(bytes: Cursor<'_>) -> Option<UnitNo>
+fn unit(mut bytes: Cursor<'_>) -> Option<UnitNo>
     ensures { option_map (λ u. (u.0, [])) result ≡ unit_read bytes.entry }
 {
-    let mut bytes = bytes;
     let unit = bytes.u64()?;
     bytes.end()?;
     Some(UnitNo(unit))
 }
 
-#[tactic(auto, unfolding(rq_model::specs::RecordReading::at_most))]
-fn payload(
-    alloc: Global,
-    log: &LogBytes<'_>,
-    end: usize,
-    bytes: Cursor<'_>,
-) -> Result<KeptPayload, Fault>
-    requires { EndsAt log.now end bytes }
-    ensures { KeepsRead (λ p. p) result (at_most 65535 bytes.entry) }
-{
-    match KeptPayload::before(alloc, log, end, bytes.rest())? {
-        Some(payload) => Ok(payload),
-        None => Err(Fault::Form),
-    }
-}
-
 #[tactic(auto, unfolding(rq_model::specs::RecordReading::enqueue_read))]
-fn enqueue(
-    alloc: Global,
-    log: &LogBytes<'_>,
-    end: usize,
-    bytes: Cursor<'_>,
-) -> Result<KeptRecord, Fault>
-    requires { IsLeftTo log.now end bytes }
+fn enqueue(alloc: Global, at: &LogEnd<'_>, mut bytes: Cursor<'_>) -> Result<KeptRecord, Fault>
+    requires { IsLeftTo at.now.log.now at.now.end bytes }
     ensures { KeepsRead record_of result (made enqueue_from enqueue_read bytes.entry) }
 {
-    let mut bytes = bytes;
     let unit = bytes.u64().ok_or(Fault::Form)?;
     let queue = bytes.u32().ok_or(Fault::Form)?;
     let priority = bytes.u8().ok_or(Fault::Form)?;
     let by = who(&mut bytes).ok_or(Fault::Form)?;
-    let payload = payload(alloc, log, end, bytes)?;
+    let payload = KeptPayload::before(alloc, at, bytes.rest())?;
     Ok(KeptRecord::Enqueue {
         priority,
         queue: QueueNo(queue),
@@ -147,10 +105,9 @@ fn enqueue(
 }
 
 #[tactic(auto, unfolding(rq_model::specs::RecordReading::dequeue_read))]
-fn dequeue(alloc: Global, bytes: Cursor<'_>) -> Result<KeptRecord, Fault>
+fn dequeue(alloc: Global, mut bytes: Cursor<'_>) -> Result<KeptRecord, Fault>
     ensures { KeepsRead record_of result (made dequeue_from dequeue_read bytes.entry) }
 {
-    let mut bytes = bytes;
     let unit = bytes.u64().ok_or(Fault::Form)?;
     let queue = bytes.u32().ok_or(Fault::Form)?;
     let by = who(&mut bytes).ok_or(Fault::Form)?;
@@ -162,45 +119,14 @@ fn dequeue(alloc: Global, bytes: Cursor<'_>) -> Result<KeptRecord, Fault>
     })
 }
 
-#[tactic(auto, unfolding(rq_model::specs::RecordReading::at_most))]
-fn check_bytes(
-    alloc: Global,
-    log: &LogBytes<'_>,
-    end: usize,
-    bytes: Cursor<'_>,
-) -> Result<CheckBytes, Fault>
-    requires { EndsAt log.now end bytes }
-    ensures { KeepsRead (λ b. b) result (at_most 268435455 bytes.entry) }
-{
-    match CheckBytes::before(alloc, log, end, bytes.rest())? {
-        Some(bytes) => Ok(bytes),
-        None => Err(Fault::Form),
-    }
-}
-
-#[tactic(auto, unfolding(rq_model::specs::RecordReading::checkpoint_read))]
-fn checkpoint(
-    alloc: Global,
-    log: &LogBytes<'_>,
-    end: usize,
-    bytes: Cursor<'_>,
-) -> Result<KeptRecord, Fault>
-    requires { EndsAt log.now end bytes }
-    ensures { KeepsRead record_of result (made Checkpoint checkpoint_read bytes.entry) }
-{
-    let bytes = check_bytes(alloc, log, end, bytes)?;
-    Ok(KeptRecord::Checkpoint { bytes })
-}
-
 #[tactic(auto, unfolding(rq_model::specs::RecordReading::kill_read))]
-fn kill(version: Version, bytes: Cursor<'_>) -> Result<KeptRecord, Fault>
+fn kill(version: Version, mut bytes: Cursor<'_>) -> Result<KeptRecord, Fault>
     ensures { KeepsRead record_of result
         (made kill_from (kill_read (version_of version)) bytes.entry) }
 {
     if version == Version::One {
         return Err(Fault::Form);
     }
-    let mut bytes = bytes;
     let queue = bytes.u32().ok_or(Fault::Form)?;
     let element = bytes.u64().ok_or(Fault::Form)?;
     bytes.end().ok_or(Fault::Form)?;
@@ -210,26 +136,31 @@ fn kill(version: Version, bytes: Cursor<'_>) -> Result<KeptRecord, Fault>
     })
 }
 
-#[tactic(auto, unfolding(rq_model::specs::RecordReading::record_behind))]
+#[tactic(auto, unfolding(rq_model::specs::RecordReading::record_behind, rq_model::specs::RecordReading::checkpoint_read,))]
 fn of_kind(
     alloc: Global,
     version: Version,
-    log: &LogBytes<'_>,
-    end: usize,
+    at: &LogEnd<'_>,
     kind: u8,
     bytes: Cursor<'_>,
 ) -> Result<KeptRecord, Fault>
-    requires { IsLeftTo log.now end bytes }
+    requires { IsLeftTo at.now.log.now at.now.end bytes }
     ensures { KeepsRead record_of result (record_behind (version_of version) kind bytes.entry) }
 {
     match kind {
         1 => define(alloc, bytes),
-        2 => register(alloc, bytes),
-        3 => deregister(alloc, bytes),
+        2 => {
+            let (queue, name) = registration(alloc, bytes)?;
+            Ok(KeptRecord::Register { queue, name })
+        }
+        3 => {
+            let (queue, name) = registration(alloc, bytes)?;
+            Ok(KeptRecord::Deregister { queue, name })
+        }
         4 => Ok(KeptRecord::Begin {
             unit: unit(bytes).ok_or(Fault::Form)?,
         }),
-        5 => enqueue(alloc, log, end, bytes),
+        5 => enqueue(alloc, at, bytes),
         6 => dequeue(alloc, bytes),
         7 => Ok(KeptRecord::Commit {
             unit: unit(bytes).ok_or(Fault::Form)?,
@@ -237,40 +168,35 @@ fn of_kind(
         8 => Ok(KeptRecord::Abort {
             unit: unit(bytes).ok_or(Fault::Form)?,
         }),
-        9 => checkpoint(alloc, log, end, bytes),
+        9 => Ok(KeptRecord::Checkpoint {
+            bytes: CheckBytes::before(alloc, at, bytes.rest())?,
+        }),
         10 => kill(version, bytes),
         _ => Err(Fault::Form),
     }
 }
 
 #[tactic(auto, unfolding(rq_model::specs::RecordReading::record_read))]
-fn record(
-    alloc: Global,
-    version: Version,
-    log: &LogBytes<'_>,
-    end: usize,
-    body: &[u8],
-) -> Result<KeptRecord, Fault>
-    requires { EndsAt log.now end body.now }
+fn read(alloc: Global, version: Version, at: &LogEnd<'_>, body: &[u8]) -> Result<KeptRecord, Fault>
+    requires { EndsAt at.now.log.now at.now.end body.now }
     ensures { KeepsRead record_of result (record_read (version_of version) body.now) }
 {
     let mut bytes = Cursor::new(body);
     let kind = bytes.u8().ok_or(Fault::Form)?;
-    of_kind(alloc, version, log, end, kind, bytes)
+    of_kind(alloc, version, at, kind, bytes)
 }
 
 // The record that a body of this version spells, which ends at an end in a log.
 fn decode_before(
     alloc: Global,
     version: Version,
-    log: &LogBytes<'_>,
-    end: usize,
+    at: &LogEnd<'_>,
     body: &[u8],
 ) -> Result<KeptRecord, Fault>
-    requires { EndsAt log.now end body.now }
+    requires { EndsAt at.now.log.now at.now.end body.now }
     ensures decodes { Decodes (version_of version) body.now result }
 {
-    record(alloc, version, log, end, body)
+    read(alloc, version, at, body)
 }
 
 /// The record that `len` bytes of a log from `start` on spell, kept: `decode_kept` of that body.
@@ -290,7 +216,8 @@ pub fn decode_at(
 {
     let whole = bytes.as_slice();
     let end = start + len;
-    decode_before(alloc, version, bytes, end, &whole[start..end])
+    let at = LogEnd { log: bytes, end };
+    decode_before(alloc, version, &at, &whole[start..end])
 }
 
 /// The record that a body of this version spells, kept.
@@ -300,13 +227,12 @@ pub fn decode_at(
 pub fn decode_kept(alloc: Global, version: Version, body: &[u8]) -> Result<KeptRecord, Fault>
     ensures decodes { Decodes (version_of version) body.now result }
 {
-    decode_before(alloc, version, &LogBytes::borrowed(body), body.len(), body)
+    let log = LogBytes::borrowed(body);
+    let end = body.len();
+    decode_before(alloc, version, &LogEnd { log: &log, end }, body)
 }
 
-/// The record that a body of this version spells.
-///
-/// `Form` is returned exactly if the body spells none; this is found before memory is asked for.
-/// `Resources` is returned if the body spells one whose names or bytes could not be kept.
+/// The record that a body of this version spells. Refused as `decode_kept` is.
 pub fn decode_in(alloc: Global, version: Version, body: &[u8]) -> Result<Record, Fault>
     ensures decodes { Decodes (version_of version) body.now result }
 {

@@ -11,7 +11,7 @@ ghost use Rattle.rq_state.specs.Views.{kind_of, id_of};
 use crate::hexes::put_hexes;
 use rq_record::{ElemId, QueueNo};
 use rq_restart::{Restarted, Why};
-use rq_state::{Definition, KeptElement, Last, OpKind, Registrant};
+use rq_state::{Definition, KeptElement, KeptRegistrant, Last, OpKind};
 use std::alloc::AllocError;
 use std::fmt::Write;
 
@@ -129,21 +129,21 @@ fn put_operation(text: &mut String, l: &Last) -> Result<(), AllocError>
     put_optional(text, l.element)
 }
 
-fn put_last(text: &mut String, r: &Registrant) -> Result<(), AllocError>
+fn put_last(text: &mut String, r: &KeptRegistrant) -> Result<(), AllocError>
     ensures { OnOk result (string_bytes text.new ≡ string_bytes text.old ++ last_text r.now.last) }
 {
-    match &r.last {
+    match r.last() {
         Some(l) => put_operation(text, l),
         None => text.push_str("none"),
     }
 }
 
 /// Puts the line of a registrant: its last operation, or none.
-pub(crate) fn put_registrant_line(text: &mut String, r: &Registrant) -> Result<(), AllocError>
+pub(crate) fn put_registrant_line(text: &mut String, r: &KeptRegistrant) -> Result<(), AllocError>
     ensures { OnOk result (string_bytes text.new ≡ string_bytes text.old ++ registrant_line r.now) }
 {
     text.push_str("r ")?;
-    text.push_str(r.name.text())?;
+    text.push_str(r.name().text())?;
     text.push_str(" ")?;
     put_last(text, r)?;
     text.push_str("\n")

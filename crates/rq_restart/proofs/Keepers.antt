@@ -13,7 +13,7 @@ use Rattle.rq_catalog.proofs.Fronts.{IsParted, kept_is, parted}
 use Rattle.rq_standing.specs.Stands.{Stands}
 use Rattle.rq_standing.specs.declared.standing.Standing.{Standing}
 use Rattle.rq_restart.specs.Keepers.{KeptState, StandsFurther}
-use Rattle.rq_restart.specs.Pieces.{ComesTo}
+use Rattle.rq_exchange.specs.Gathering.{ComesTo}
 
 pub further : (k v : KeptState) (all : List Own) (n : ℕ) → v.version ≡ k.version
     → ComesTo k.version k.state (map record_of all) v.state n → k.state.next + length (map record_of all) ≤ 4294967295

@@ -1,3 +1,4 @@
+pub mod Clearing
 pub mod Closings
 pub mod Endings
 pub mod RedoneFronts

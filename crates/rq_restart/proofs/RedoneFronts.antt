@@ -1,23 +1,25 @@
 -- The front of a log, and the state behind it.
-use Rattle.std.proofs.Common.{◌≡◌, ℕ, ◌≤◌, List, length, drop, ap, subst, sym, ◌∙◌, arith}
+use Rattle.std.proofs.Common.{◌≡◌, ℕ, ◌≤◌, List, length, map, drop, ap, subst, sym, ◌∙◌, arith}
 use Rattle.std.specs.Prelude.{Result, Ok, Err, IfOk, IfErr}
 use Rattle.std.proofs.lemmas.List.{length-take}
 use Rattle.rq_model.specs.Records.{Record, Version}
 use Rattle.rq_model.specs.Frames.{log_limit, HasHeader, log_of, start, last_of}
 use Rattle.rq_model.specs.LogLaws.{LogEnds}
-use Rattle.rq_model.specs.States.{empty}
+use Rattle.rq_model.specs.States.{State, empty}
 use Rattle.rq_model.specs.Fronts.{IsFront, Why}
 use Rattle.rq_record.specs.declared.fault.Fault.{Fault}
 use Rattle.rq_record.specs.declared.fault.Fault.TheVariants.{Resources}
 use Rattle.rq_judged.specs.Ends.{IsFrontFrom}
 use Rattle.rq_restart.specs.declared.redone.RedoneFront.{RedoneFront}
-use Rattle.rq_restart.specs.RedoneFronts.{IsRedoneFront, IsRedoneAt, IsStateBehind, RedoesFront, RedoesFrontAt}
+use Rattle.rq_restart.specs.RedoneFronts.{IsRedoneFront, IsStateBehind, RedoesFront, RedoesFrontAt}
 use Rattle.rq_restart.proofs.Endings.{front_of}
 use Rattle.rq_model.specs.Machine.{run}
 use Rattle.rq_model.specs.Carrying.{IsFrontAt}
-use Rattle.rq_record.specs.Views.{version_of}
-use Rattle.rq_judged.specs.declared.checkpoint.Begun.{Begun}
-use Rattle.rq_judged.specs.Checkpoints.{IsBegun}
+use Rattle.rq_record.specs.Views.{record_of, version_of}
+use Rattle.rq_judged.specs.Views.{why_of}
+use Rattle.rq_restart.specs.FoundFronts.{IsFoundAt, IsFoundFront}
+use Rattle.rq_restart.specs.declared.restarts.FoundFront.{FoundFront}
+use Rattle.rq_restart.proofs.ByFronts.{from_empty}
 use Rattle.rq_judged.proofs.FromCheckpoints.{from_checkpoint}
 
 -- the front behind the header, and the state behind it
@@ -43,35 +45,34 @@ redone law b version rs end why f short head h behind =
       state = behind.state;
     }
 
-pub redoes : LogEnds → (b : List ℕ) (version : Version) (rs : List Record) (end : ℕ) (why : Why)
-    → length b ≤ log_limit → HasHeader version b → IsFrontFrom version empty b 40 rs end why
-    → (result : Result RedoneFront Fault) → IfOk result (IsStateBehind version empty b rs end)
+pub redoes : (b : List ℕ) (x : FoundFront) → IsFoundFront b x → (result : Result RedoneFront Fault)
+    → IfOk result (IsStateBehind (version_of x.version) x.state b (map record_of x.front.records.items) x.front.end)
     → IfErr result (λ e. e ≡ Resources) → RedoesFront b result
-redoes law b version rs end why short head h (Ok f) behind refused =
-    redone law b version rs end why f short head h behind
-redoes law b version rs end why short head h (Err e) behind refused =
-    subst (λ (z : Fault). RedoesFront b (Err z)) (sym refused) tt
+redoes b x is (Ok f) behind refused =
+    let version = version_of x.version in
+    let rs = map record_of x.front.records.items in
+    redone is.ends b version rs x.front.end (why_of x.front.why) f is.found.short is.header (from_empty b x is)
+    (subst (λ (s : State). IsStateBehind version s b rs x.front.end f) is.start behind)
+redoes b x is (Err e) behind refused = subst (λ (z : Fault). RedoesFront b (Err z)) (sym refused) tt
 
--- Redone.
-
-pub redoes_at : (b : List ℕ) (offset : ℕ) (x : Begun) (is : IsBegun b offset x) (rs : List Record) (end : ℕ) (why : Why)
-    → IsFrontFrom (version_of x.version) x.state b offset rs end why → (result : Result RedoneFront Fault)
-    → IfOk result (IsStateBehind (version_of x.version) x.state b rs end) → IfErr result (λ e. e ≡ Resources)
-    → RedoesFrontAt b offset result
-redoes_at b offset x is rs end why h (Ok f) behind refused =
-    let kept = is.kept in
-    let has = from_checkpoint b offset x is rs end why h in
+-- the same from a checkpoint on
+pub redoes_at : (b : List ℕ) (offset : ℕ) (x : FoundFront) → IsFoundAt b offset x → (result : Result RedoneFront Fault)
+    → IfOk result (IsStateBehind (version_of x.version) x.state b (map record_of x.front.records.items) x.front.end)
+    → IfErr result (λ e. e ≡ Resources) → RedoesFrontAt b offset result
+redoes_at b offset x is (Ok f) behind refused =
+    let version = version_of x.version in
+    let kept = is.begun.kept in
+    let has = from_checkpoint b offset (record { version = x.version; found = is.chain; state = x.state }) is.begun
+    (map record_of x.front.records.items) x.front.end (why_of x.front.why) is.found.front in
     let at = has.from in
     record {
       base = x.state;
       kept = kept;
       after = has.after;
       front = subst (λ (v : Version). IsFrontAt b offset v x.state kept has.after (drop f.used b)) (sym behind.rules)
-          (subst (λ (n : ℕ). IsFrontAt b offset (version_of x.version) x.state kept has.after (drop n b))
-          (sym behind.used) at.front);
+          (subst (λ (n : ℕ). IsFrontAt b offset version x.state kept has.after (drop n b)) (sym behind.used) at.front);
       used = behind.used ∙ at.used;
       last = behind.last ∙ at.last;
       state = behind.state ∙ ap (run x.state) has.are;
     }
-redoes_at b offset x is rs end why h (Err e) behind refused =
-    subst (λ (z : Fault). RedoesFrontAt b offset (Err z)) (sym refused) tt
+redoes_at b offset x is (Err e) behind refused = subst (λ (z : Fault). RedoesFrontAt b offset (Err z)) (sym refused) tt

@@ -3,18 +3,15 @@ use Rattle.std.proofs.Common.{◌≡◌, ◌+◌, ◌<◌, ◌≤◌, ℕ, Bool,
 use Rattle.std.proofs.Common.{refl, sym, ap, subst, ◌∙◌, append_assoc, arith}
 use Rattle.std.specs.Prelude.{if◌then◌else◌, slice_index_or}
 use Rattle.std.proofs.lemmas.List.{length-append, length-map, length-take, take-append-drop, take_all}
-use Rattle.rq_model.specs.Records.{Record, Version, Two}
+use Rattle.rq_model.specs.Records.{Record, Version}
 use Rattle.rq_model.specs.States.{State}
 use Rattle.rq_model.specs.Machine.{is_lawful, step, run, all_lawful, lawful_front}
-use Rattle.rq_model.specs.Laws.{VersionTwoIsWider}
 use Rattle.rq_record.specs.Views.{Record as Own, record_of}
-use Rattle.rq_catalog.specs.declared.analysis.Analysis.{Analysis}
-use Rattle.rq_catalog.specs.Analyses.{IsAnalysis}
-use Rattle.rq_catalog.proofs.Fronts.{analysis_is_wider, analysis_of_front, kept_is, lawful_in_two, parted}
+use Rattle.rq_catalog.proofs.Fronts.{kept_is, parted}
 use Rattle.rq_catalog.proofs.Runs.{front_stops, front_whole, lawful_push}
 use Rattle.rq_standing.specs.Stands.{Stands}
 use Rattle.rq_standing.specs.declared.standing.Standing.{Standing}
-use Rattle.rq_restart.specs.Pieces.{WentOn}
+use Rattle.rq_restart.specs.Pieces.{TakesOne, WentOn}
 use Rattle.rq_restart.proofs.Walks.{one_more, run_further}
 
 -- so many of the records are the lawful ones
@@ -43,34 +40,15 @@ pub first_lawful : (version : Version) (s : State) (all : List Own) (n : ℕ) �
 first_lawful version s all n count =
     ap (all_lawful version s) (first_are version s all n count) ∙ (parted version s (map record_of all)).lawful
 
-pub lawful_again : VersionTwoIsWider → (version : Version) (s : State) (all : List Own) (n : ℕ)
-    → IsCount version s all n → all_lawful Two s (map record_of (take n all)) ≡ true
-lawful_again wider version s all n count =
-    lawful_in_two wider version s (map record_of (take n all)) (first_lawful version s all n count)
-
-pub analysed_again : VersionTwoIsWider → (version : Version) (s : State) (all : List Own) (n : ℕ) (a : Analysis)
-    → IsCount version s all n → IsAnalysis version s (map record_of all) a
-    → IsAnalysis Two s (map record_of (take n all)) a
-analysed_again wider version s all n a count is =
-    let rs = map record_of all in
-    subst (λ (xs : List Record). IsAnalysis Two s xs a) (sym (first_are version s all n count))
-    (analysis_is_wider wider version s (lawful_front version s rs) a (parted version s rs).lawful
-    (analysis_of_front version s rs a is))
-
 -- y stands i records behind x, and these are lawful
 abbrev pub HasTaken : Standing → List Own → ℕ → Standing → Type 0
 HasTaken x all i y = (version : Version) (s : State) → Stands version x s
     → (all_lawful version s (take i (map record_of all)) ≡ true)
     × Stands version y (run s (take i (map record_of all)))
 
--- z is where y comes to by one record, and this says whether it is lawful
-pub record TakesOne (y : Standing) (r : Own) (z : Standing) (lawful : Bool) : Type 0 where
-  pub judged : (version : Version) (s : State) → Stands version y s → lawful ≡ is_lawful version s (record_of r)
-  pub stood : (version : Version) (s : State) → Stands version y s
-      → Stands version z (if lawful then step s (record_of r) else s)
-
 pub one_further : (x y z : Standing) (all : List Own) (i : ℕ) (r : Own) (lawful : Bool) → i < length all
-    → r ≡ slice_index_or all i r → HasTaken x all i y → TakesOne y r z lawful → lawful ≡ true → HasTaken x all (i + 1) z
+    → r ≡ slice_index_or all i r → HasTaken x all i y → TakesOne y (record_of r) z lawful → lawful ≡ true
+    → HasTaken x all (i + 1) z
 one_further x y z all i r lawful lt is had one taken = λ version s stands.
     let rs = map record_of all in
     let t = run s (take i rs) in
@@ -94,7 +72,7 @@ ends_before version s all i r lt is so broken =
     ∙ ap (λ (xs : List Record). xs ++ drop (i + 1) rs) (sym (one_more all i r lt is)) ∙ take-append-drop (i + 1) rs)
 
 pub ends_there : (x y z : Standing) (all : List Own) (i : ℕ) (r : Own) (lawful : Bool) → i < length all
-    → r ≡ slice_index_or all i r → HasTaken x all i y → TakesOne y r z lawful → lawful ≡ false
+    → r ≡ slice_index_or all i r → HasTaken x all i y → TakesOne y (record_of r) z lawful → lawful ≡ false
     → WentOn x (map record_of all) z i
 ends_there x y z all i r lawful lt is had one broken = record {
   count = λ version s stands. omega (

@@ -1,5 +1,6 @@
+pub mod Cleared
 pub mod Restarts
-pub mod FrontsAt
+pub mod FoundFronts
 pub mod RedoneFronts
 pub mod Tails
 pub mod Upgrades

@@ -1,15 +1,12 @@
 //! Which checkpoints of a log are true, of all of it or from a checkpoint on; the law of that.
 
-ghost use Rattle.std.specs.Prelude.{◌≡◌, ◌≤◌, true, ◌++◌, ℕ, length, map, IfOk, OnOk, IfErr};
-ghost use Rattle.rq_model.specs.Machine.{all_lawful, run};
-ghost use Rattle.rq_model.specs.Records as records;
-ghost use Rattle.rq_model.specs.States as states;
+ghost use Rattle.std.specs.Prelude.{◌≡◌, ◌≤◌, ℕ, length, map, IfOk, OnOk, IfErr};
 ghost use Rattle.rq_record.specs.Views.{record_of, version_of};
 ghost use Rattle.rq_record.specs.declared.fault.Fault.TheVariants.{Resources};
-ghost use Rattle.rq_standing.specs.Stands.{Stands};
 ghost use Rattle.rq_judged.specs.Ends.{IsChain};
 ghost use Rattle.rq_restart.specs.Audits.{StandInFrames, Audits, AuditsAt, IsAuditedFrom};
-ghost use Rattle.rq_restart.specs.Audits.{EveryLogHasAudit, audit_of, audited_of, audits};
+ghost use Rattle.rq_restart.specs.Audits.{EveryLogHasAudit, MayGoOn, StandsAfter, TellsBehind};
+ghost use Rattle.rq_restart.specs.Audits.{audited_of, audits};
 
 use crate::pieces::go_on;
 use rq_front::{Span, chain, log_version};
@@ -34,17 +31,11 @@ fn tell_behind<R: Threads + Sync>(
     plan: &Plan,
     found: &mut Vec<(u64, bool)>,
 ) -> Result<(), Fault>
-    requires lawful { (version : records.Version) × (s : states.State)
-        × Stands version standing.old s
-        × (all_lawful version s (map record_of before.now) ≡ true) }
+    requires lawful { MayGoOn standing.old (map record_of before.now) }
     requires short { length kept.now ≤ 268435455 }
-    ensures stands { OnOk result ((version : records.Version) (s : states.State) →
-        Stands version standing.old s → all_lawful version s (map record_of before.now) ≡ true
-        → Stands version standing.new (run s (map record_of before.now))) }
-    ensures found { OnOk result ((version : records.Version) (s : states.State) →
-        Stands version standing.old s → all_lawful version s (map record_of before.now) ≡ true
-        → map audited_of found.new.items ≡ map audited_of found.old.items
-        ++ audit_of (run s (map record_of before.now)) offset (records.Checkpoint kept.now)) }
+    ensures stands { OnOk result (StandsAfter standing.old (map record_of before.now) standing.new) }
+    ensures found { OnOk result (TellsBehind standing.old (map record_of before.now) offset kept.now
+        (map audited_of found.old.items) (map audited_of found.new.items)) }
     ensures refused { IfErr result (λ e. e ≡ Resources) }
 {
     go_on(rt, alloc, standing, before, plan)?;

@@ -1,12 +1,9 @@
 //! A state that goes along with a log, for a warm standby.
 
-ghost use Rattle.std.specs.Prelude.{◌≡◌, ◌≤◌, ◌+◌, ◌++◌, [], map, length, IfSome, IfOk, IfErr};
-ghost use Rattle.rq_model.specs.States as states;
+ghost use Rattle.std.specs.Prelude.{◌≡◌, ◌≤◌, ◌+◌, ◌++◌, [], map, length, IfOk, IfErr};
 ghost use Rattle.rq_record.specs.Views.{record_of, version_of};
 ghost use Rattle.rq_record.specs.declared.fault.Fault.TheVariants.{Resources};
-ghost use Rattle.rq_standing.specs.Stands.{Stands};
 ghost use Rattle.rq_restart.specs.Keepers.{StandsBehind, TakesMore};
-ghost use Rattle.rq_restart.specs.Pieces.{IsPosition};
 
 use crate::pieces::{room_beside, take_each};
 use crate::position::Position;
@@ -80,24 +77,6 @@ fn note_all(taken: &mut Diary<KeptRecord>, records: &[KeptRecord])
     }
 }
 
-// The second machine, or if there is none, one that is made of the state.
-fn second_of(
-    alloc: Global,
-    version: Version,
-    position: &Position,
-    second: Option<Standing>,
-) -> Result<Standing, Fault>
-    requires { (s : states.State) × IsPosition (version_of version) position.now s }
-    ensures stands { IfOk result (λ x. (s : states.State) → IsPosition (version_of version) position.now s
-        → IfSome second (λ y. Stands (version_of version) y s) → Stands (version_of version) x s) }
-    ensures refused { IfErr result (λ e. e ≡ Resources) }
-{
-    match second {
-        Some(standing) => Ok(standing),
-        None => position.standing(alloc, version),
-    }
-}
-
 impl Keeper {
     /// Stands at the state, with no record taken. From there on records are lawful by the rules of
     /// the version.
@@ -142,31 +121,13 @@ impl Keeper {
         if self.position.next().saturating_add(records.len() as u64) > RECORDS {
             return Err(Fault::TooLong);
         }
-        if self.position.is_within(room_beside(records.len(), plan)) {
-            self.redo(rt, alloc, records, plan)
-        } else {
-            self.go_along(alloc, records)
+        if !self.position.is_within(room_beside(records.len(), plan)) {
+            return self.go_along(alloc, records);
         }
-    }
-
-    // Takes them on the workers.
-    fn redo<R: Threads + Sync>(
-        &mut self,
-        rt: &R,
-        alloc: Global,
-        records: &[KeptRecord],
-        plan: &Plan,
-    ) -> Result<usize, Fault>
-        requires { self.old.state.next + length records.now ≤ 4294967295 }
-        ensures { TakesMore self.old (map record_of records.now) self.new result }
-    {
         let (state, count) = self
             .position
             .redone(rt, alloc, self.version, records, plan)?;
-        self.base = Snapshot::of(&state);
-        self.taken = Diary::blank();
-        self.position = Position::Told(state);
-        self.second = None;
+        *self = Keeper::new(self.version, state);
         Ok(count)
     }
 
@@ -177,7 +138,7 @@ impl Keeper {
         ensures { TakesMore self.old (map record_of records.now) self.new result }
     {
         let second = self.second.take();
-        let mut ahead = second_of(alloc, self.version, &self.position, second)?;
+        let mut ahead = self.position.second(alloc, self.version, second)?;
         let lawful = take_each(alloc, &mut ahead, records)?;
         let taken = &records[..lawful];
         let behind = mem::replace(&mut self.position, Position::Queues(ahead));

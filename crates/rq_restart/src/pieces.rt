@@ -1,20 +1,14 @@
 //! Many records onto the queues as they stand, up to the first that is not lawful.
 
-ghost use Rattle.std.specs.Prelude.{◌≡◌, ◌<◌, ◌^◌, ◌+◌, length, map, if◌then◌else◌, IfOk, IfErr};
-ghost use Rattle.rq_model.specs.Machine.{is_lawful, step};
-ghost use Rattle.rq_model.specs.Records as model;
-ghost use Rattle.rq_model.specs.States as states;
-ghost use Rattle.rq_record.specs.Views.{record_of, version_of};
+ghost use Rattle.std.specs.Prelude.{◌≡◌, map, IfOk, IfErr};
+ghost use Rattle.rq_record.specs.Views.{record_of};
 ghost use Rattle.rq_record.specs.declared.fault.Fault.TheVariants.{Resources};
-ghost use Rattle.rq_standing.specs.Stands.{Stands};
-ghost use Rattle.rq_restart.specs.Pieces.{ComesTo, WentOn};
+ghost use Rattle.rq_restart.specs.Pieces.{IsStanding, TakesOne, WentOn};
 
-use rq_catalog::analyse_kept;
-use rq_exchange::replay_analysed;
-use rq_plan::{Open, Plan};
-use rq_record::{Fault, KeptRecord, Version};
+use rq_exchange::front_redone;
+use rq_plan::Plan;
+use rq_record::{Fault, KeptRecord};
 use rq_standing::{Standing, Taken};
-use rq_state::State;
 use std::alloc::Global;
 use std::marker::Sync;
 use std::thread::Threads;
@@ -34,12 +28,8 @@ pub(crate) fn room_beside(count: usize, plan: &Plan) -> usize {
 
 // Whether a record is lawful. If it is, it is done.
 fn take_one(alloc: Global, standing: &mut Standing, rec: &KeptRecord) -> Result<bool, Fault>
-    requires { (version : model.Version) × (s : states.State) × Stands version standing.old s }
-    ensures lawful { IfOk result (λ lawful. (version : model.Version) (s : states.State) →
-        Stands version standing.old s → lawful ≡ is_lawful version s (record_of rec.now)) }
-    ensures stands { IfOk result (λ lawful. (version : model.Version) (s : states.State) →
-        Stands version standing.old s
-        → Stands version standing.new (if lawful then step s (record_of rec.now) else s)) }
+    requires { IsStanding standing.old }
+    ensures takes { IfOk result (TakesOne standing.old (record_of rec.now) standing.new) }
     ensures refused { IfErr result (λ e. e ≡ Resources) }
 {
     match standing.take(alloc, rec) {
@@ -56,7 +46,7 @@ pub(crate) fn take_each(
     standing: &mut Standing,
     records: &[KeptRecord],
 ) -> Result<usize, Fault>
-    requires { (version : model.Version) × (s : states.State) × Stands version standing.old s }
+    requires { IsStanding standing.old }
     ensures went_on { IfOk result
         (WentOn standing.old (map record_of records.now) standing.new) }
     ensures refused { IfErr result (λ e. e ≡ Resources) }
@@ -67,53 +57,6 @@ pub(crate) fn take_each(
         }
     }
     Ok(records.len())
-}
-
-/// The state behind the records that are lawful behind a state, up to the first that is not, and how
-/// many these are. The queues are redone on the workers of the plan.
-pub(crate) fn front_redone<R: Threads + Sync>(
-    rt: &R,
-    alloc: Global,
-    version: Version,
-    state: &State,
-    records: &[KeptRecord],
-    plan: &Plan,
-) -> Result<(State, usize), Fault>
-    requires { state.now.next + length records.now < 2 ^ 64 }
-    ensures redone { IfOk result (λ r.
-        ComesTo (version_of version) state.now (map record_of records.now) r.0 r.1) }
-    ensures refused { IfErr result (λ e. e ≡ Resources) }
-{
-    rq_model::versions();
-    let analysis = analyse_kept(alloc, version, state, records)?;
-    let count = analysis.lawful();
-    let taken = &records[..count];
-    let state = replay_analysed(rt, alloc, state, taken, analysis, plan, &Open)?;
-    Ok((state, count))
-}
-
-// Takes records on the workers: the queues are told as a state, and stand anew where that comes to.
-fn stand_anew<R: Threads + Sync>(
-    rt: &R,
-    alloc: Global,
-    standing: &mut Standing,
-    records: &[KeptRecord],
-    plan: &Plan,
-) -> Result<usize, Fault>
-    requires { (version : model.Version) × (s : states.State) × Stands version standing.old s }
-    ensures went_on { IfOk result
-        (WentOn standing.old (map record_of records.now) standing.new) }
-    ensures refused { IfErr result (λ e. e ≡ Resources) }
-{
-    let version = standing.version();
-    let state = standing.state(alloc)?;
-    // No log has so many records: past here a number could run over.
-    if state.next().saturating_add(records.len() as u64) > 1 << 62 {
-        return Err(Fault::Resources);
-    }
-    let (state, count) = front_redone(rt, alloc, version, &state, records, plan)?;
-    *standing = Standing::of(alloc, version, &state)?;
-    Ok(count)
 }
 
 /// Does the records that are lawful where the queues stand, up to the first that is not, and answers
@@ -130,14 +73,21 @@ pub fn go_on<R: Threads + Sync>(
     records: &[KeptRecord],
     plan: &Plan,
 ) -> Result<usize, Fault>
-    requires stands { (version : model.Version) × (s : states.State) × Stands version standing.old s }
+    requires stands { IsStanding standing.old }
     ensures went_on { IfOk result
         (WentOn standing.old (map record_of records.now) standing.new) }
     ensures refused { IfErr result (λ e. e ≡ Resources) }
 {
-    if standing.fits(room_beside(records.len(), plan)) {
-        stand_anew(rt, alloc, standing, records, plan)
-    } else {
-        take_each(alloc, standing, records)
+    if !standing.fits(room_beside(records.len(), plan)) {
+        return take_each(alloc, standing, records);
     }
+    let version = standing.version();
+    let state = standing.state(alloc)?;
+    // No log has so many records: past here a number could run over.
+    if state.next().saturating_add(records.len() as u64) > 1 << 62 {
+        return Err(Fault::Resources);
+    }
+    let (state, count) = front_redone(rt, alloc, version, &state, records, plan)?;
+    *standing = Standing::of(alloc, version, &state)?;
+    Ok(count)
 }

@@ -1,15 +1,17 @@
 //! Where a keeper is: a state that is told, or queues that stand.
 
-ghost use Rattle.std.specs.Prelude.{◌≡◌, ◌<◌, ◌^◌, ◌+◌, true, length, map, IfOk, IfErr};
+ghost use Rattle.std.specs.Prelude.{◌≡◌, ◌<◌, ◌^◌, ◌+◌, true, length, map, IfSome, IfOk, IfErr};
 ghost use Rattle.rq_model.specs.Machine.{all_lawful, run};
 ghost use Rattle.rq_model.specs.Records as model;
 ghost use Rattle.rq_model.specs.States as states;
 ghost use Rattle.rq_record.specs.Views.{record_of, version_of};
 ghost use Rattle.rq_record.specs.declared.fault.Fault.TheVariants.{Resources};
 ghost use Rattle.rq_standing.specs.Stands.{Stands};
-ghost use Rattle.rq_restart.specs.Pieces.{IsPosition, ComesTo};
+ghost use Rattle.rq_exchange.specs.Gathering.{ComesTo};
+ghost use Rattle.rq_restart.specs.Pieces.{IsPosition};
 
-use crate::pieces::{front_redone, take_each};
+use crate::pieces::take_each;
+use rq_exchange::front_redone;
 use rq_plan::Plan;
 use rq_record::{Fault, KeptRecord, Version};
 use rq_standing::Standing;
@@ -63,13 +65,23 @@ impl Position {
         }
     }
 
-    /// Queues that stand there, made anew. Refused with `Resources` alone.
-    pub(crate) fn standing(&self, alloc: Global, version: Version) -> Result<Standing, Fault>
+    /// Queues that stand there too: these, if they do; else they are made anew. Refused with
+    /// `Resources` alone.
+    pub(crate) fn second(
+        &self,
+        alloc: Global,
+        version: Version,
+        second: Option<Standing>,
+    ) -> Result<Standing, Fault>
         requires { (s : states.State) × IsPosition (version_of version) self.now s }
         ensures stands { IfOk result (λ x. (s : states.State) →
-            IsPosition (version_of version) self.now s → Stands (version_of version) x s) }
+            IsPosition (version_of version) self.now s
+            → IfSome second (λ y. Stands (version_of version) y s) → Stands (version_of version) x s) }
         ensures refused { IfErr result (λ e. e ≡ Resources) }
     {
+        if let Some(standing) = second {
+            return Ok(standing);
+        }
         match self {
             Position::Told(state) => Standing::of(alloc, version, state),
             Position::Queues(standing) => {

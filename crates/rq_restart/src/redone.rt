@@ -1,18 +1,16 @@
 //! The front of a log, and the state behind it.
 
-ghost use Rattle.std.specs.Prelude.{◌≡◌, ◌≤◌, ℕ, length, map, IfOk, IfErr};
-ghost use Rattle.rq_model.specs.Frames.{log_limit};
+ghost use Rattle.std.specs.Prelude.{◌≡◌, ℕ, map, IfOk, IfErr};
 ghost use Rattle.rq_record.specs.Views.{record_of, version_of};
 ghost use Rattle.rq_record.specs.declared.fault.Fault.TheVariants.{Resources};
-ghost use Rattle.rq_catalog.specs.Analyses.{IsAnalysis};
-ghost use Rattle.rq_judged.specs.Ends.{IsFrontFrom};
-ghost use Rattle.rq_judged.specs.Views.{why_of};
+ghost use Rattle.rq_restart.specs.FoundFronts.{IsFoundFrom};
 ghost use Rattle.rq_restart.specs.RedoneFronts.{IsStateBehind, RedoesFront, RedoesFrontAt};
 ghost use Rattle.rq_restart.specs.Restarts.{FindsState};
 
-use crate::restarts::whole_front;
+use crate::restarting_at::front_from;
+use crate::restarts::{FoundFront, whole_front};
 use rq_exchange::replay_analysed;
-use rq_judged::{Front, before, begin_at, front_of};
+use rq_judged::before;
 use rq_plan::{Open, Plan};
 use rq_record::{Fault, LogBytes, Version};
 use rq_state::State;
@@ -33,29 +31,27 @@ pub struct RedoneFront {
     pub used: usize,
 }
 
-// The state behind a front of the log that begins in a state.
+// The state behind a front of the log.
 fn state_behind<R: Threads + Sync>(
     rt: &R,
     alloc: Global,
-    version: Version,
-    state: &State,
+    from: FoundFront,
     bytes: &[u8],
-    front: Front,
     plan: &Plan,
 ) -> Result<RedoneFront, Fault>
-    requires next { state.now.next ≤ 4294967295 }
-    requires short { length bytes.now ≤ log_limit }
-    requires front { (from : ℕ) × (40 ≤ from) × IsFrontFrom (version_of version) state.now bytes.now
-        from (map record_of front.records.items) front.end (why_of front.why) }
-    requires analysis { IsAnalysis (version_of version) state.now
-        (map record_of front.records.items) front.analysis }
-    ensures behind { IfOk result (IsStateBehind (version_of version) state.now bytes.now
-        (map record_of front.records.items) front.end) }
+    requires front { (offset : ℕ) × IsFoundFrom bytes.now offset from }
+    ensures behind { IfOk result (IsStateBehind (version_of from.version) from.state bytes.now
+        (map record_of from.front.records.items) from.front.end) }
     ensures refused { IfErr result (λ e. e ≡ Resources) }
 {
     rq_model::versions();
+    let FoundFront {
+        version,
+        state,
+        front,
+    } = from;
     let analysis = front.analysis;
-    let redone = replay_analysed(rt, alloc, state, &front.records, analysis, plan, &Open)?;
+    let redone = replay_analysed(rt, alloc, &state, &front.records, analysis, plan, &Open)?;
     Ok(RedoneFront {
         version,
         state: redone,
@@ -76,9 +72,8 @@ pub fn redone_front<R: Threads + Sync>(
 ) -> Result<RedoneFront, Fault>
     ensures { RedoesFront bytes.now result }
 {
-    rq_model::frames_join();
-    let (version, front) = whole_front(rt, alloc, &LogBytes::borrowed(bytes), plan)?;
-    state_behind(rt, alloc, version, &State::empty(alloc), bytes, front, plan)
+    let from = whole_front(rt, alloc, &LogBytes::borrowed(bytes), plan)?;
+    state_behind(rt, alloc, from, bytes, plan)
 }
 
 /// The state after the front of a log from the checkpoint at an offset on, before any abort, and
@@ -94,9 +89,8 @@ pub fn redone_front_at<R: Threads + Sync>(
 ) -> Result<RedoneFront, Fault>
     ensures { RedoesFrontAt bytes.now offset result }
 {
-    let begun = begin_at(rt, alloc, bytes, offset, plan)?;
-    let front = front_of(rt, alloc, &LogBytes::borrowed(bytes), &begun, plan)?;
-    state_behind(rt, alloc, begun.version, &begun.state, bytes, front, plan)
+    let from = front_from(rt, alloc, &LogBytes::borrowed(bytes), offset, plan)?;
+    state_behind(rt, alloc, from, bytes, plan)
 }
 
 /// The state after the front of a log, before any abort: open units stay open.

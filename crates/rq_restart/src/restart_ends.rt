@@ -1,20 +1,23 @@
 //! The end of a restart: open units are aborted, and all is redone.
 
-ghost use Rattle.std.specs.Prelude.{◌≡◌, ◌≤◌, ◌<◌, ◌^◌, ◌+◌, ◌-◌, ◌++◌, true, length, map, take};
+ghost use Rattle.std.specs.Prelude.{◌≡◌, ◌≤◌, ◌<◌, ◌^◌, ◌+◌, ◌-◌, ◌++◌, true, ℕ, List, length, map};
 ghost use Rattle.std.specs.Prelude.{IfOk, IfErr, OnOk};
 ghost use Rattle.rq_model.specs.Fronts.{restarted};
 ghost use Rattle.rq_model.specs.Machine.{all_lawful, run};
 ghost use Rattle.rq_model.specs.Records as model;
-ghost use Rattle.rq_model.specs.WellFormed.{IsWellFormed};
 ghost use Rattle.rq_record.specs.Views.{record_of, version_of};
 ghost use Rattle.rq_record.specs.declared.fault.Fault.TheVariants.{Resources};
 ghost use Rattle.rq_state.specs.Views.{unit_of};
 ghost use Rattle.rq_catalog.specs.Analyses.{IsAnalysis, open_in};
+ghost use Rattle.rq_exchange.specs.Agendas.{IsAgenda};
 ghost use Rattle.rq_judged.specs.Views.{why_of};
+ghost use Rattle.rq_restart.specs.Cleared.{first_cleared};
+ghost use Rattle.rq_restart.specs.FoundFronts.{IsFoundFrom};
 
 use crate::restarted::Restarted;
+use crate::restarts::FoundFront;
 use rq_catalog::Analysis;
-use rq_exchange::redo_analysed;
+use rq_exchange::{Agenda, redo_agenda};
 use rq_judged::Front;
 use rq_plan::{Gate, Plan};
 use rq_record::{Fault, KeptRecord, UnitNo, Version};
@@ -23,106 +26,113 @@ use std::alloc::Global;
 use std::marker::Sync;
 use std::thread::Threads;
 
+// Lets go of what the first record spells, if that is a checkpoint. A redo does not look at it, and
+// if the restart begins there, it may be the most of the log.
+fn clear_first(alloc: Global, records: &mut Vec<KeptRecord>)
+    ensures { map record_of records.new.items ≡ first_cleared (map record_of records.old.items) }
+{
+    if records.is_empty() {
+        return;
+    }
+    if let KeptRecord::Checkpoint { bytes } = &mut records[0] {
+        bytes.clear(alloc);
+    }
+}
+
 // Puts the ABORT of each unit behind the records.
-fn append_aborts(records: &mut Vec<KeptRecord>, units: &[UnitNo]) -> Result<(), Fault>
+fn append_aborts(records: &mut Vec<KeptRecord>, units: Vec<UnitNo>) -> Result<(), Fault>
     ensures records { OnOk result (map record_of records.new.items
-        ≡ map record_of records.old.items ++ map model.Abort (map unit_of units.now)) }
+        ≡ map record_of records.old.items ++ map model.Abort (map unit_of units.items)) }
     ensures refused { IfErr result (λ e. e ≡ Resources) }
 {
     records.reserve_exact(units.len())?;
     for unit in units {
-        records.push(KeptRecord::Abort { unit: *unit })?;
+        records.push(KeptRecord::Abort { unit })?;
     }
     Ok(())
 }
 
-// The records and, behind them, the ABORT of each unit that is open after them, rising; and how
-// many these are.
-fn with_aborts(
+// What is to be redone of the records and, behind them, of the ABORT of each unit that is open after
+// them, rising; and these units. The analysis is let go before there is a record for each ABORT.
+fn closing_agenda(
     alloc: Global,
-    mut records: Vec<KeptRecord>,
-    analysis: &Analysis,
-) -> Result<(Vec<KeptRecord>, u64), Fault>
-    ensures records { IfOk result (λ all. map record_of all.0.items
-        ≡ map record_of records.items ++ map model.Abort (open_in analysis.now)) }
-    ensures count { IfOk result (λ all. all.1 ≡ length (open_in analysis.now)) }
+    state: &State,
+    records: &[KeptRecord],
+    analysis: Analysis,
+) -> Result<(Agenda, Vec<UnitNo>), Fault>
+    requires fits { state.now.next + length records.now + length (open_in analysis) < 2 ^ 64 }
+    requires lawful { all_lawful model.Two state.now
+        (map record_of records.now ++ map model.Abort (open_in analysis)) ≡ true }
+    requires analysed { IsAnalysis model.Two state.now (map record_of records.now) analysis }
+    ensures units { IfOk result (λ r. map unit_of r.1.items ≡ open_in analysis) }
+    ensures agenda { IfOk result (λ r. IsAgenda state.now
+        (map record_of records.now ++ map model.Abort (open_in analysis)) r.0) }
     ensures refused { IfErr result (λ e. e ≡ Resources) }
 {
-    let units = analysis.open_units(alloc)?;
-    append_aborts(&mut records, &units)?;
-    Ok((records, units.len() as u64))
+    let (closed, units) = analysis.abort_all(alloc, state, records)?;
+    let agenda = Agenda::of(alloc, state, records.len() + units.len(), closed)?;
+    Ok((agenda, units))
 }
 
-// The state behind the records, for whose beginning the analysis stands. It lets go of both, and of
-// the state before them, before the state is gathered. So these never stand in memory at once, and a
-// caller that is refused has none to drop.
+// The state behind the records, whose agenda this is. It lets go of both, and of the state before
+// them, before the state is gathered. So these never stand in memory at once, and a caller that is
+// refused has none to drop.
 fn redone<R: Threads + Sync, G: Gate + Sync>(
     rt: &R,
     alloc: Global,
-    version: Version,
     state: State,
-    records: Vec<KeptRecord>,
-    analysis: Analysis,
+    mut records: Vec<KeptRecord>,
+    agenda: Agenda,
     plan: &Plan,
     gate: &G,
 ) -> Result<State, Fault>
-    requires lawful { all_lawful (version_of version) state (map record_of records.items)
-        ≡ true }
+    requires lawful { all_lawful model.Two state (map record_of records.items) ≡ true }
     requires fits { state.next + length records.items < 2 ^ 64 }
-    requires within { analysis.lawful ≤ length records.items }
-    requires analysed { IsAnalysis (version_of version) state
-        (map record_of (take analysis.lawful records.items)) analysis }
+    requires agenda { IsAgenda state (map record_of records.items) agenda }
     ensures state { IfOk result (λ t. t ≡ run state (map record_of records.items)) }
     ensures refused { IfErr result (λ e. e ≡ Resources) }
 {
-    rq_model::versions();
-    let analysis = analysis.go_on(alloc, version, &state, &records)?;
-    let (all, course) = redo_analysed(rt, alloc, &state, &records, analysis, plan, gate)?;
+    clear_first(alloc, &mut records);
+    let (all, course) = redo_agenda(rt, alloc, &state, &records, agenda, plan, gate)?;
     drop(course);
     drop(records);
     drop(state);
     all.gather(alloc)
 }
 
-/// What a restart answers of a front of the version that begins in the state and ends at an offset
-/// of `total` bytes: its open units are aborted, rising, and records and aborts are redone
-/// together. The counts are those before these aborts.
+/// What a restart answers of a front of `total` bytes: its open units are aborted, rising, and records
+/// and aborts are redone together. The counts are those before these aborts.
 pub(crate) fn finish<R: Threads + Sync, G: Gate + Sync>(
     rt: &R,
     alloc: Global,
-    version: Version,
-    state: State,
-    front: Front,
+    from: FoundFront,
     total: usize,
     plan: &Plan,
     gate: &G,
 ) -> Result<Restarted, Fault>
-    requires well { IsWellFormed state }
-    requires next { state.next ≤ 4294967295 }
-    requires few { length front.records.items ≤ 4294967295 }
-    requires within { front.end ≤ total }
-    requires lawful { all_lawful (version_of version) state (map record_of front.records.items)
-        ≡ true }
-    requires analysis { IsAnalysis (version_of version) state
-        (map record_of front.records.items) front.analysis }
+    requires front { (b : List ℕ) × (offset : ℕ) × IsFoundFrom b offset from × (total ≡ length b) }
     ensures answer { IfOk result
-        (λ r. r ≡ restarted (run state (map record_of front.records.items))
-        (total - front.end) total (why_of front.why)) }
+        (λ r. r ≡ restarted (run from.state (map record_of from.front.records.items))
+        (total - from.front.end) total (why_of from.front.why)) }
     ensures refused { IfErr result (λ e. e ≡ Resources) }
 {
     rq_model::runs_are_well_formed();
     rq_model::numbers_after();
     rq_model::crash_is_harmless();
+    rq_model::versions();
+    let FoundFront { state, front, .. } = from;
     let Front {
-        records,
+        mut records,
         analysis,
         end,
         why,
     } = front;
     let next = state.next() + records.len() as u64;
     let (committed, aborted) = (analysis.committed(), analysis.aborted());
-    let (records, cut_off) = with_aborts(alloc, records, &analysis)?;
-    let state = redone(rt, alloc, version, state, records, analysis, plan, gate)?;
+    let (agenda, units) = closing_agenda(alloc, &state, &records, analysis)?;
+    let cut_off = units.len() as u64;
+    append_aborts(&mut records, units)?;
+    let state = redone(rt, alloc, state, records, agenda, plan, gate)?;
     Ok(Restarted {
         state,
         records: next,

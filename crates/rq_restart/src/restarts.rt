@@ -1,13 +1,6 @@
 //! The restart of a log from its start.
 
-ghost use Rattle.std.specs.Prelude.{◌≡◌, ◌≤◌, length, map, IfOk, IfErr, OnOk};
-ghost use Rattle.rq_model.specs.Frames.{log_limit, HasHeader};
-ghost use Rattle.rq_model.specs.States.{empty};
-ghost use Rattle.rq_record.specs.Views.{record_of, version_of};
-ghost use Rattle.rq_front.specs.Chains.{Refused};
-ghost use Rattle.rq_catalog.specs.Analyses.{IsAnalysis};
-ghost use Rattle.rq_judged.specs.Ends.{IsFrontFrom};
-ghost use Rattle.rq_judged.specs.Views.{why_of};
+ghost use Rattle.rq_restart.specs.FoundFronts.{FindsFront};
 ghost use Rattle.rq_restart.specs.Restarts.{Restarts};
 
 use crate::restart_ends::finish;
@@ -22,27 +15,34 @@ use std::marker::Sync;
 use std::sync::ArcSlice;
 use std::thread::Threads;
 
-/// The version of a log whose bytes may be shared, and the front of all of it.
+/// A front of a log, of the version, that begins in the state.
+#[derive(Drop)]
+pub(crate) struct FoundFront {
+    pub(crate) version: Version,
+    pub(crate) state: State,
+    pub(crate) front: Front,
+}
+
+/// The front of all of a log whose bytes may be shared.
 pub(crate) fn whole_front<R: Threads + Sync>(
     rt: &R,
     alloc: Global,
     bytes: &LogBytes<'_>,
     plan: &Plan,
-) -> Result<(Version, Front), Fault>
-    ensures front { IfOk result (λ x. IsFrontFrom (version_of x.0) empty bytes.now 40
-        (map record_of x.1.records.items) x.1.end (why_of x.1.why)) }
-    ensures analysis { IfOk result
-        (λ x. IsAnalysis (version_of x.0) empty (map record_of x.1.records.items) x.1.analysis) }
-    ensures header { IfOk result (λ x. HasHeader (version_of x.0) bytes.now) }
-    ensures short { OnOk result (length bytes.now ≤ log_limit) }
-    ensures refused { IfErr result (Refused bytes.now) }
+) -> Result<FoundFront, Fault>
+    ensures { FindsFront bytes.now result }
 {
     rq_model::frames_join();
+    rq_model::runs_are_well_formed();
     let version = log_version(bytes.as_slice())?;
     let walk = walk(alloc, bytes.as_slice(), 40)?;
     let state = State::empty(alloc);
     let front = front_of_walk(rt, alloc, version, bytes, walk, &state, plan)?;
-    Ok((version, front))
+    Ok(FoundFront {
+        version,
+        state,
+        front,
+    })
 }
 
 /// The restart of a log whose bytes may be shared: `restart` of them. If they are, a checkpoint, and
@@ -57,39 +57,8 @@ pub fn restart_of<R: Threads + Sync, G: Gate + Sync>(
 ) -> Result<Restarted, Fault>
     ensures { Restarts bytes.now result }
 {
-    rq_model::runs_are_well_formed();
-    rq_model::frames_join();
-    let (version, front) = whole_front(rt, alloc, bytes, plan)?;
-    finish(
-        rt,
-        alloc,
-        version,
-        State::empty(alloc),
-        front,
-        bytes.len(),
-        plan,
-        gate,
-    )
-}
-
-// The version of a log, and the front of all of it. The log is let go here, unless a checkpoint or a
-// payload is a part of it.
-fn own_front<R: Threads + Sync>(
-    rt: &R,
-    alloc: Global,
-    bytes: Vec<u8>,
-    plan: &Plan,
-) -> Result<(Version, Front), Fault>
-    ensures front { IfOk result (λ x. IsFrontFrom (version_of x.0) empty bytes.items 40
-        (map record_of x.1.records.items) x.1.end (why_of x.1.why)) }
-    ensures analysis { IfOk result
-        (λ x. IsAnalysis (version_of x.0) empty (map record_of x.1.records.items) x.1.analysis) }
-    ensures header { IfOk result (λ x. HasHeader (version_of x.0) bytes.items) }
-    ensures short { OnOk result (length bytes.items ≤ log_limit) }
-    ensures refused { IfErr result (Refused bytes.items) }
-{
-    let log = ArcSlice::from_vec(bytes)?;
-    whole_front(rt, alloc, &LogBytes::shared(&log), plan)
+    let from = whole_front(rt, alloc, bytes, plan)?;
+    finish(rt, alloc, from, bytes.len(), plan, gate)
 }
 
 /// The restart of a log that nobody else needs: `restart` of its bytes. A checkpoint, and a payload
@@ -105,27 +74,19 @@ pub fn restart_own<R: Threads + Sync, G: Gate + Sync>(
 ) -> Result<Restarted, Fault>
     ensures { Restarts bytes.items result }
 {
-    rq_model::runs_are_well_formed();
-    rq_model::frames_join();
     let total = bytes.len();
-    let (version, front) = own_front(rt, alloc, bytes, plan)?;
-    finish(
-        rt,
-        alloc,
-        version,
-        State::empty(alloc),
-        front,
-        total,
-        plan,
-        gate,
-    )
+    let log = ArcSlice::from_vec(bytes)?;
+    let from = whole_front(rt, alloc, &LogBytes::shared(&log), plan)?;
+    drop(log);
+    finish(rt, alloc, from, total, plan, gate)
 }
 
 /// The front of a log, and the state behind it and the aborts of its open units.
 ///
-/// Every queue is redone by `plan.workers()` workers; each of them enters the gate before it redoes
-/// a queue. Refuses with `TooLong` more than 4,294,967,295 bytes, with `NotALog` bytes that begin
-/// with no version's header, and with `Resources` where memory is refused.
+/// The queues are redone by the plan's workers, but by no more of them than there are queues that
+/// wait for no other; each enters the gate before it redoes a queue. Refuses with `TooLong` more than
+/// 4,294,967,295 bytes, with `NotALog` bytes that begin with no version's header, and with
+/// `Resources` where memory is refused.
 pub fn restart<R: Threads + Sync, G: Gate + Sync>(
     rt: &R,
     alloc: Global,

@@ -1,23 +1,19 @@
 //! The tail of a log: the aborts that close it.
 
 ghost use Rattle.std.specs.Prelude.{◌≡◌, ◌≤◌, ◌++◌, length, map, IfOk, IfErr, OnOk};
-ghost use Rattle.rq_model.specs.Frames.{HasHeader, digest, frame, frames_of, log_limit};
+ghost use Rattle.rq_model.specs.Frames.{digest, frame, frames_of};
 ghost use Rattle.rq_model.specs.Records as model;
 ghost use Rattle.rq_model.specs.Spelling.{body_of};
-ghost use Rattle.rq_model.specs.States.{empty};
-ghost use Rattle.rq_record.specs.Views.{record_of, version_of};
 ghost use Rattle.rq_record.specs.declared.fault.Fault.TheVariants.{Resources};
 ghost use Rattle.rq_state.specs.Views.{unit_of};
-ghost use Rattle.rq_catalog.specs.Analyses.{IsAnalysis};
-ghost use Rattle.rq_judged.specs.Ends.{IsFrontFrom};
-ghost use Rattle.rq_judged.specs.Views.{why_of};
+ghost use Rattle.rq_restart.specs.FoundFronts.{IsFoundFront};
 ghost use Rattle.rq_restart.specs.Tails.{Closes, IsEnding, StaysOpen, Tails};
 
-use crate::restarts::whole_front;
+use crate::restarts::{FoundFront, whole_front};
 use rq_front::LOG_LIMIT;
-use rq_judged::{Front, append_frame, before};
+use rq_judged::{append_frame, before};
 use rq_plan::Plan;
-use rq_record::{Fault, LogBytes, Record, UnitNo, Version, encode};
+use rq_record::{Fault, LogBytes, Record, UnitNo, encode};
 use std::alloc::Global;
 use std::marker::Sync;
 use std::thread::Threads;
@@ -72,22 +68,12 @@ struct Ending {
 }
 
 // Where this front of the log ends, and its tail.
-fn ending_behind(
-    alloc: Global,
-    version: Version,
-    front: &Front,
-    bytes: &[u8],
-) -> Result<Ending, Fault>
-    requires short { length bytes.now ≤ log_limit }
-    requires header { HasHeader (version_of version) bytes.now }
-    requires front { IsFrontFrom (version_of version) empty bytes.now 40
-        (map record_of front.now.records.items) front.now.end (why_of front.now.why) }
-    requires analysis { IsAnalysis (version_of version) empty
-        (map record_of front.now.records.items) front.now.analysis }
+fn ending_behind(alloc: Global, from: &FoundFront, bytes: &[u8]) -> Result<Ending, Fault>
+    requires { IsFoundFront bytes.now from.now }
     ensures ending { IfOk result (IsEnding bytes.now) }
     ensures refused { IfErr result (StaysOpen bytes.now) }
 {
-    rq_model::frames_join();
+    let front = &from.front;
     let units = front.analysis.open_units(alloc)?;
     if units.len() > (LOG_LIMIT - front.end) / ABORT_LEN {
         return Err(Fault::TooLarge);
@@ -109,8 +95,8 @@ fn ending_of<R: Threads + Sync>(
     ensures ending { IfOk result (IsEnding bytes.now) }
     ensures refused { IfErr result (StaysOpen bytes.now) }
 {
-    let (version, front) = whole_front(rt, alloc, &LogBytes::borrowed(bytes), plan)?;
-    ending_behind(alloc, version, &front, bytes)
+    let from = whole_front(rt, alloc, &LogBytes::borrowed(bytes), plan)?;
+    ending_behind(alloc, &from, bytes)
 }
 
 /// The tail of a log: the frames of the ABORT of each unit that is open after its front, rising,

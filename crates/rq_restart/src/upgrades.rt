@@ -1,14 +1,14 @@
 //! A log in version 2.
 
-ghost use Rattle.std.specs.Prelude.{◌≡◌, ◌≤◌, ◌++◌, length, take, drop, IfOk, IfErr};
+ghost use Rattle.std.specs.Prelude.{◌≡◌, ◌≤◌, ◌++◌, ℕ, List, length, take, drop, IfOk, IfErr};
 ghost use Rattle.rq_model.specs.Records.{Two};
 ghost use Rattle.rq_model.specs.Frames.{frames, header, start};
 ghost use Rattle.rq_record.specs.declared.fault.Fault.TheVariants.{Resources};
-ghost use Rattle.rq_front.specs.Chains.{Refused};
+ghost use Rattle.rq_restart.specs.FoundFronts.{IsFoundFront};
 ghost use Rattle.rq_restart.specs.Upgrades.{HaveFrames, IsExtent, Upgrades, bodies_in};
 
 use crate::frames::append_next;
-use crate::restarts::whole_front;
+use crate::restarts::{FoundFront, whole_front};
 use rq_front::{FRAME_LEN, HEADER_LEN, header_of};
 use rq_judged::body_at;
 use rq_plan::Plan;
@@ -27,22 +27,14 @@ struct Extent {
 
 // The records themselves are let go here: their bodies stand in the log, spelt alike in both
 // versions.
-fn extent_of<R: Threads + Sync>(
-    rt: &R,
-    alloc: Global,
-    bytes: &[u8],
-    plan: &Plan,
-) -> Result<Extent, Fault>
-    ensures extent { IfOk result (IsExtent bytes.now) }
-    ensures refused { IfErr result (Refused bytes.now) }
+fn extent_of(from: FoundFront) -> Extent
+    ensures { (b : List ℕ) → IsFoundFront b from → IsExtent b result }
 {
-    rq_model::frames_join();
-    let (version, front) = whole_front(rt, alloc, &LogBytes::borrowed(bytes), plan)?;
-    Ok(Extent {
-        version,
-        end: front.end,
-        count: front.records.len(),
-    })
+    Extent {
+        version: from.version,
+        end: from.front.end,
+        count: from.front.records.len(),
+    }
 }
 
 // The bodies of the first frames of a log, framed anew behind the header of version 2; room for all
@@ -90,7 +82,8 @@ pub fn upgrade<R: Threads + Sync>(
     ensures { Upgrades bytes.now result }
 {
     rq_model::upgrade_is_the_same();
-    let extent = extent_of(rt, alloc, bytes, plan)?;
+    let from = whole_front(rt, alloc, &LogBytes::borrowed(bytes), plan)?;
+    let extent = extent_of(from);
     match extent.version {
         Version::One => chained_anew(alloc, bytes, extent.end, extent.count),
         Version::Two => copied(alloc, bytes, extent.end),

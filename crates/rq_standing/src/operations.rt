@@ -5,7 +5,6 @@ ghost use Rattle.std.specs.List.{AllByRecursion};
 ghost use Rattle.rq_model.specs.Machine as machine;
 ghost use Rattle.rq_model.specs.Ready.{IsReady};
 ghost use Rattle.rq_model.specs.Records as records;
-ghost use Rattle.rq_model.specs.Redo as redo_words;
 ghost use Rattle.rq_model.specs.States as states;
 ghost use Rattle.rq_record.specs.declared.fault.Fault.TheVariants.{Resources};
 ghost use Rattle.rq_state.specs.Views.{id_of};
@@ -13,7 +12,6 @@ ghost use Rattle.rq_standing.specs.Parts.{part_at, Acted};
 
 use rq_queue::{KeptMove, KeptOp, Part};
 use rq_record::{ElemId, Fault, KeptBy, QueueNo, UnitNo};
-use rq_state::OpKind;
 use std::alloc::Global;
 
 /// Does an operation of one queue.
@@ -32,30 +30,6 @@ pub(crate) fn act_on(
 {
     let mut sent: Vec<KeptMove> = Vec::new(alloc);
     parts[queue].act(alloc, op, &mut sent)
-}
-
-// Dequeues from the part of the queue. The id of the element that it takes, if one is free.
-fn dequeue(
-    alloc: Global,
-    part: &mut Part,
-    place: u64,
-    unit: UnitNo,
-    queue: QueueNo,
-    by: &KeptBy,
-) -> Result<Option<ElemId>, Fault>
-    requires homes { AllByRecursion
-        (λ (e : states.Element). e.home ≡ queue.0) part.old.elements }
-    requires notes { AllByRecursion (λ (n : states.Note). n.last.place < place) part.old.notes }
-    ensures done { OnOk result (part.new
-        ≡ redo_words.act place (records.Dequeue unit.0 queue.0 by.now) part.old) }
-    ensures took { IfOk result (λ id. id_of id
-        ≡ option_map (λ e. e.id) (machine.best queue.0 part.old.elements)) }
-    ensures refused { IfErr result (λ e. e ≡ Resources) }
-{
-    let id = part.elements.hold_best(alloc, unit, queue)?;
-    part.notes
-        .note(alloc, place, unit, queue, by, OpKind::Dequeue, id)?;
-    Ok(id)
 }
 
 /// Dequeues from a queue. The id of the element that it takes, if one is free.
@@ -79,5 +53,5 @@ pub(crate) fn dequeue_on(
         (machine.best queue.0 (part_at parts.old.items queue.0).elements)) }
     ensures refused { IfErr result (λ e. e ≡ Resources) }
 {
-    dequeue(alloc, &mut parts[queue.0 as usize], place, unit, queue, by)
+    parts[queue.0 as usize].dequeue(alloc, place, unit, queue, by)
 }

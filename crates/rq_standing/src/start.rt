@@ -1,17 +1,17 @@
 //! The queues of a state that is there already.
 
-ghost use Rattle.std.specs.Prelude.{◌≡◌, ℕ, ◌==◌, ◌&&◌, ◌||◌, length, map, IfOk, OnOk, IfErr};
+ghost use Rattle.std.specs.Prelude.{◌≡◌, ℕ, ◌==◌, ◌||◌, [], None, length, map, IfOk, OnOk, IfErr};
 ghost use Rattle.std.specs.List.{list_any};
-ghost use Rattle.rq_catalog.specs.Members.{is_marked_at, is_noted_at};
 ghost use Rattle.rq_record.specs.declared.fault.Fault.TheVariants.{Resources};
 ghost use Rattle.rq_state.specs.Views.{unit_of};
 ghost use Rattle.rq_standing.specs.Parts.{ArePartsOf};
 ghost use Rattle.rq_standing.specs.Units.{AreUnits, has_open, engages_in};
 
 use crate::open_units::OpenUnits;
+use rq_catalog::{Engaging, engage_by_marks, engage_by_notes};
 use rq_queue::Part;
 use rq_record::{Fault, QueueNo, UnitNo};
-use rq_state::{KeptElement, Mark, Note, State};
+use rq_state::State;
 use std::alloc::Global;
 
 /// The parts of its queues, copied.
@@ -40,43 +40,18 @@ fn begin_all(alloc: Global, units: &mut OpenUnits, all: &[UnitNo]) -> Result<(),
     Ok(())
 }
 
-fn engage_by_mark(units: &mut OpenUnits, element: &KeptElement) -> Result<(), Fault>
-    ensures opened { OnOk result ((u : ℕ) → has_open units.new u ≡ has_open units.old u) }
-    ensures engaged { OnOk result ((u q : ℕ) → engages_in units.new u q
-        ≡ ((has_open units.old u && is_marked_at u q element.now) || engages_in units.old u q)) }
-    ensures refused { IfErr result (λ e. e ≡ Resources) }
-{
-    match element.mark {
-        Mark::Free => Ok(()),
-        Mark::Fresh(unit) => units.engage(unit, element.home),
-        Mark::Held(unit) => units.engage(unit, element.home),
-    }
-}
+impl Engaging for OpenUnits {
+    ghost numbers_of = { λ units. [] };
 
-fn engage_by_marks(units: &mut OpenUnits, elements: &[KeptElement]) -> Result<(), Fault>
-    ensures opened { OnOk result ((u : ℕ) → has_open units.new u ≡ has_open units.old u) }
-    ensures engaged { OnOk result ((u q : ℕ) → engages_in units.new u q
-        ≡ ((has_open units.old u && list_any (is_marked_at u q) elements.now)
-        || engages_in units.old u q)) }
-    ensures refused { IfErr result (λ e. e ≡ Resources) }
-{
-    for element in elements {
-        engage_by_mark(units, element)?;
-    }
-    Ok(())
-}
+    ghost outcome_in = { λ units u. None };
 
-fn engage_by_notes(units: &mut OpenUnits, notes: &[Note]) -> Result<(), Fault>
-    ensures opened { OnOk result ((u : ℕ) → has_open units.new u ≡ has_open units.old u) }
-    ensures engaged { OnOk result ((u q : ℕ) → engages_in units.new u q
-        ≡ ((has_open units.old u && list_any (is_noted_at u q) notes.now)
-        || engages_in units.old u q)) }
-    ensures refused { IfErr result (λ e. e ≡ Resources) }
-{
-    for note in notes {
-        units.engage(note.unit, note.queue)?;
+    ghost has = { has_open };
+
+    ghost engages = { engages_in };
+
+    fn engage_queue(&mut self, unit: UnitNo, queue: QueueNo) -> Result<(), Fault> {
+        self.engage(unit, queue)
     }
-    Ok(())
 }
 
 /// Its open units.

@@ -4,9 +4,9 @@ use Rattle.rq_model.specs.States as model
 use Rattle.rq_state.specs.Views.{unit_of}
 use Rattle.rq_state.specs.declared.fields.FieldsOf.{FieldsOf}
 
--- fields, kept or not: an element is the model's
+-- fields, kept or not: an element is the model's, and so is a registrant
 abbrev pub Fields : Type 0
-Fields = FieldsOf model.Element
+Fields = FieldsOf model.Element model.Registrant
 
 -- the fields, with their lists as they are
 abbrev pub state_of : Fields → model.State

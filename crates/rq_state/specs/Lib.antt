@@ -1,11 +1,11 @@
 pub mod Comparing
 pub mod Inside
 pub mod Keeping
+pub mod KeptRegistrants
 pub mod Laws
 pub mod Orders
 pub mod Reading
 pub mod Spelling
-pub mod Tables
 pub mod Tests
 pub mod Views
 pub mod Writing

@@ -1,11 +1,12 @@
--- Lists in the model's order, and the indices of a queue's members.
+-- Lists in the model's order, and the tables of where a queue's members stand in them.
 use Rattle.std.specs.Prelude.{ℕ, ◌+◌, nat_lt, Bool, if◌then◌else◌, List, [], ◌∷◌, map}
-use Rattle.std.specs.Prelude.{slice_index_or}
+use Rattle.std.specs.Prelude.{slice_index_or, ◌≡◌, ◌==◌}
 use Rattle.std.specs.Global.{Vec}
 use Rattle.std.specs.Ordering.{nat_cmp, ordering_then}
 use Rattle.std.specs.declared.cmp.Ordering.{Ordering}
 use Rattle.std.specs.Cmp.Lexicographic.{slice_cmp}
-use Rattle.rq_model.specs.States.{State, Note, put, id_before, registrant_before}
+use Rattle.rq_model.specs.States.{State, Note, put, id_before, registrant_before, Element}
+use Rattle.rq_model.specs.States.{Registrant}
 
 -- each put in, from the last to the first
 abbrev pub put_in_order : {X : Type 0} → (X → X → Bool) → List X → List X
@@ -28,6 +29,10 @@ state_in_order s = record s {
   notes = put_in_order place_before s.notes;
 }
 
+-- the members of a list at these indices
+abbrev pub AreAt : {X : Type 0} → List X → List ℕ → List X → Type 0
+AreAt {X} all indices members = (x : X) → map (λ index. slice_index_or all index x) indices ≡ members
+
 -- the indices of those that pass the test, counted from n
 abbrev pub indices_of : {X : Type 0} → (X → Bool) → ℕ → List X → List ℕ
 indices_of p n [] = []
@@ -36,3 +41,11 @@ indices_of p n (x ∷ xs) = if p x then n ∷ indices_of p (n + 1) xs else indic
 -- what a table has for a queue: nothing if there is no such queue
 abbrev pub listed : {X : Type 0} → List (Vec X) → ℕ → List X
 listed table queue = slice_index_or (map (λ v. v.items) table) queue []
+
+-- the tables have the indices of each queue's members
+pub record IsTabled (rs : List Registrant) (es : List Element) (ns : List Note)
+    (registrant_table element_table note_table : List (Vec ℕ)) : Type 0 where
+  pub registered : (queue : ℕ) →
+      listed registrant_table queue ≡ indices_of (λ r. r.queue == queue) 0 rs
+  pub homes : (queue : ℕ) → listed element_table queue ≡ indices_of (λ e. e.home == queue) 0 es
+  pub noted : (queue : ℕ) → listed note_table queue ≡ indices_of (λ n. n.queue == queue) 0 ns

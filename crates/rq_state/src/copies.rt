@@ -2,11 +2,11 @@
 
 ghost use Rattle.std.specs.Prelude.{◌≡◌, ◌<◌, length, map, IfOk, IfErr, slice_index_or};
 ghost use Rattle.std.specs.List.{AllByRecursion};
-ghost use Rattle.rq_model.specs.Queues.{elements_at, registrants_at, notes_at};
+ghost use Rattle.rq_model.specs.Queues.{elements_at, notes_at};
 ghost use Rattle.rq_record.specs.declared.fault.Fault.TheVariants.{Resources};
 
 use crate::kept_element::KeptElement;
-use crate::members::{Definition, Note, Registrant};
+use crate::members::{Definition, Note};
 use crate::state::State;
 use rq_record::{Fault, QueueNo};
 use std::alloc::Global;
@@ -23,20 +23,6 @@ impl State {
         ensures refused { IfErr result (λ e. e ≡ Resources) }
     {
         let copies = copied_at(alloc, self.elements(), self.elements_of(queue))?;
-        Ok(copies)
-    }
-
-    /// The registrants of a queue by name; none if no queue has the number.
-    pub fn copied_registrants_of(
-        &self,
-        alloc: Global,
-        queue: QueueNo,
-    ) -> Result<Vec<Registrant>, Fault>
-        ensures registrants { IfOk result
-            (λ v. v.items ≡ registrants_at queue.0 self.now.registrants) }
-        ensures refused { IfErr result (λ e. e ≡ Resources) }
-    {
-        let copies = copied_at(alloc, self.registrants(), self.registrants_of(queue))?;
         Ok(copies)
     }
 
@@ -76,12 +62,6 @@ trait Again: Drop {
 impl Again for KeptElement {
     fn again(&self) -> Result<KeptElement, Fault> {
         self.copied()
-    }
-}
-
-impl Again for Registrant {
-    fn again(&self) -> Result<Registrant, Fault> {
-        Ok(self.copied())
     }
 }
 

@@ -4,21 +4,23 @@ ghost use Rattle.std.specs.Prelude.{◌≡◌, IfOk, IfErr};
 ghost use Rattle.rq_record.specs.declared.fault.Fault.TheVariants.{Resources};
 ghost use Rattle.rq_state.specs.Inside.{state_of};
 
-use crate::kept_element::{KeptElement, kept_elements};
-use crate::members::{Definition, Element, Note, Registrant};
+use crate::kept_element::{Element, KeptElement, kept_elements};
+use crate::kept_registrant::{KeptRegistrant, kept_registrants};
+use crate::members::{Definition, Note, Registrant};
 use rq_record::{Fault, UnitNo};
 use std::alloc::Global;
 
 /// What a state is made from, as a caller makes it.
-pub type Fields = FieldsOf<Element>;
+pub type Fields = FieldsOf<Element, Registrant>;
 
 /// What a state is made from, as it keeps it.
-pub type KeptFields = FieldsOf<KeptElement>;
+pub type KeptFields = FieldsOf<KeptElement, KeptRegistrant>;
 
 /// What a state is made from: definitions by number, the other lists in any order. `E` is the type
-/// of elements: `Element` or `KeptElement`.
+/// of elements, `Element` or `KeptElement`, and `R` that of registrants, `Registrant` or
+/// `KeptRegistrant`.
 #[derive(Drop)]
-pub struct FieldsOf<E> {
+pub struct FieldsOf<E, R> {
     /// The next record number.
     pub next: u64,
     /// The greatest unit that ever began; 0 before the first.
@@ -32,7 +34,7 @@ pub struct FieldsOf<E> {
     /// The open units.
     pub units: Vec<UnitNo>,
     /// Who is registered with any queue.
-    pub registrants: Vec<Registrant>,
+    pub registrants: Vec<R>,
     /// What is in any queue, with what open units put in or took out.
     pub elements: Vec<E>,
     /// What registrants did in the open units.
@@ -46,6 +48,7 @@ impl KeptFields {
         ensures kept { IfOk result (λ k. state_of k ≡ state_of fields) }
         ensures refused { IfErr result (λ e. e ≡ Resources) }
     {
+        let registrants = kept_registrants(alloc, &fields.registrants)?;
         let elements = kept_elements(alloc, &fields.elements)?;
         Ok(KeptFields {
             next: fields.next,
@@ -54,7 +57,7 @@ impl KeptFields {
             aborted: fields.aborted,
             definitions: fields.definitions,
             units: fields.units,
-            registrants: fields.registrants,
+            registrants,
             elements,
             notes: fields.notes,
         })

@@ -59,11 +59,4 @@ impl Registrant {
             Some(last) => last.hear(other),
         }
     }
-
-    /// Its last operation.
-    pub fn into_last(self) -> Option<Last>
-        ensures { result ≡ self.last }
-    {
-        self.last
-    }
 }

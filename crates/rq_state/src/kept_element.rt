@@ -1,17 +1,49 @@
-//! An element, as a state keeps it.
+//! An element, as a caller has it and as a state keeps it.
 
-ghost use Rattle.std.specs.Prelude.{◌≡◌, IfOk, IfErr};
+ghost use Rattle.std.specs.Prelude.{◌≡◌, ℕ, List, IfOk, IfErr};
 ghost use Rattle.rq_record.specs.declared.fault.Fault.TheVariants.{Resources};
 
-use crate::members::{Element, Mark};
-use rq_record::{ElemId, Fault, KeptPayload, QueueNo};
+use crate::members::Mark;
+use rq_record::{ElemId, Fault, KeptPayload, Payload, QueueNo};
 use std::alloc::Global;
 use std::marker::Model;
 
-/// An element of a queue, as a state keeps it: its payload takes 24 bytes, and a short one no
-/// memory of its own. It says what an `Element` says.
+/// The payload of an element, kept or not.
+pub trait PayloadBytes: Drop {
+    ghost payload_of: { Self → List ℕ };
+}
+
+impl PayloadBytes for Payload {
+    ghost payload_of = { λ p. p };
+}
+
+impl PayloadBytes for KeptPayload {
+    ghost payload_of = { λ p. p };
+}
+
+/// A payload that is made of one of another type.
+pub trait MadeOf<P: PayloadBytes>: PayloadBytes {
+    /// The payload of the same bytes. `Resources` if memory runs out.
+    fn made_of(alloc: Global, payload: &P) -> Result<Self, Fault>
+        ensures same { IfOk result (λ p. Self.payload_of p ≡ P.payload_of payload.now) }
+        ensures refused { IfErr result (λ e. e ≡ Resources) };
+}
+
+impl MadeOf<Payload> for KeptPayload {
+    fn made_of(alloc: Global, payload: &Payload) -> Result<KeptPayload, Fault> {
+        KeptPayload::of(alloc, payload)
+    }
+}
+
+impl MadeOf<KeptPayload> for Payload {
+    fn made_of(alloc: Global, payload: &KeptPayload) -> Result<Payload, Fault> {
+        payload.payload(alloc)
+    }
+}
+
+/// An element of a queue. `P` is the type of its payload: `Payload` or `KeptPayload`.
 #[derive(Drop)]
-pub struct KeptElement {
+pub struct ElementOf<P: PayloadBytes> {
     /// The record number of the enqueue that made it.
     pub id: ElemId,
     /// The queue that it is in.
@@ -23,12 +55,19 @@ pub struct KeptElement {
     /// How often an aborted unit gave it back since it came to its home.
     pub attempts: u64,
     /// The bytes that its enqueue gave it, at most 65,535.
-    pub payload: KeptPayload,
+    pub payload: P,
     /// Which open unit put it in or took it out, if one did.
     pub mark: Mark,
 }
 
-impl Model for KeptElement {
+/// An element of a queue, as a caller makes it and takes it apart.
+pub type Element = ElementOf<Payload>;
+
+/// An element of a queue, as a state keeps it: its payload takes 24 bytes, and a short one no
+/// memory of its own. It says what an `Element` says.
+pub type KeptElement = ElementOf<KeptPayload>;
+
+impl<P: PayloadBytes> Model for ElementOf<P> {
     ghost use Rattle.rq_model.specs.States as model;
     ghost use Rattle.rq_state.specs.Views.{mark_of};
 
@@ -40,28 +79,41 @@ impl Model for KeptElement {
       origin = e.origin.0;
       priority = e.priority;
       attempts = e.attempts;
-      payload = e.payload;
+      payload = P.payload_of e.payload;
       mark = mark_of e.mark;
     } };
 }
 
-impl KeptElement {
-    /// Keeps the element. `Resources` if memory runs out.
-    pub fn of(alloc: Global, e: &Element) -> Result<KeptElement, Fault>
-        ensures kept { IfOk result (λ k. k ≡ e.now) }
-        ensures refused { IfErr result (λ e. e ≡ Resources) }
+impl<P: PayloadBytes> ElementOf<P> {
+    // The element with another payload of the same bytes.
+    fn with_payload<Q: PayloadBytes>(&self, payload: Q) -> ElementOf<Q>
+        requires { Q.payload_of payload ≡ self.now.payload }
+        ensures { result ≡ self.now }
     {
-        Ok(KeptElement {
-            id: e.id,
-            home: e.home,
-            origin: e.origin,
-            priority: e.priority,
-            attempts: e.attempts,
-            payload: KeptPayload::of(alloc, &e.payload)?,
-            mark: e.mark,
-        })
+        ElementOf {
+            id: self.id,
+            home: self.home,
+            origin: self.origin,
+            priority: self.priority,
+            attempts: self.attempts,
+            payload,
+            mark: self.mark,
+        }
     }
 
+    /// The element that says the same as that one, whose payload is of another type: kept, or as a
+    /// caller takes it apart. `Resources` if memory runs out.
+    pub fn of<Q: PayloadBytes>(alloc: Global, e: &ElementOf<Q>) -> Result<ElementOf<P>, Fault>
+    where
+        P: MadeOf<Q>,
+        ensures same { IfOk result (λ k. k ≡ e.now) }
+        ensures refused { IfErr result (λ e. e ≡ Resources) }
+    {
+        Ok(e.with_payload(P::made_of(alloc, &e.payload)?))
+    }
+}
+
+impl KeptElement {
     /// Its id, as a number.
     pub fn number(&self) -> u64
         ensures { result ≡ self.now.id }
@@ -81,34 +133,23 @@ impl KeptElement {
         ensures copied { IfOk result (λ e. e ≡ self.now) }
         ensures refused { IfErr result (λ e. e ≡ Resources) }
     {
-        Ok(KeptElement {
-            id: self.id,
-            home: self.home,
-            origin: self.origin,
-            priority: self.priority,
-            attempts: self.attempts,
-            payload: self.payload.copied()?,
-            mark: self.mark,
-        })
+        Ok(self.with_payload(self.payload.copied()?))
     }
 }
 
-impl Element {
-    /// The element that is kept, as a caller takes it apart. `Resources` if memory runs out.
-    pub fn of(alloc: Global, kept: &KeptElement) -> Result<Element, Fault>
-        ensures same { IfOk result (λ e. e ≡ kept.now) }
-        ensures refused { IfErr result (λ e. e ≡ Resources) }
-    {
-        Ok(Element {
-            id: kept.id,
-            home: kept.home,
-            origin: kept.origin,
-            priority: kept.priority,
-            attempts: kept.attempts,
-            payload: kept.payload.payload(alloc)?,
-            mark: kept.mark,
-        })
+// The elements that say the same as those, in their order.
+fn all_of<P: PayloadBytes, Q: MadeOf<P>>(
+    alloc: Global,
+    elements: &[ElementOf<P>],
+) -> Result<Vec<ElementOf<Q>>, Fault>
+    ensures same { IfOk result (λ v. v.items ≡ elements.now) }
+    ensures refused { IfErr result (λ e. e ≡ Resources) }
+{
+    let mut all = Vec::with_capacity(alloc, elements.len())?;
+    for e in elements {
+        all.push(ElementOf::of(alloc, e)?)?;
     }
+    Ok(all)
 }
 
 /// Keeps the elements, in their order. `Resources` if memory runs out.
@@ -116,11 +157,7 @@ pub fn kept_elements(alloc: Global, elements: &[Element]) -> Result<Vec<KeptElem
     ensures kept { IfOk result (λ v. v.items ≡ elements.now) }
     ensures refused { IfErr result (λ e. e ≡ Resources) }
 {
-    let mut kept = Vec::with_capacity(alloc, elements.len())?;
-    for e in elements {
-        kept.push(KeptElement::of(alloc, e)?)?;
-    }
-    Ok(kept)
+    all_of(alloc, elements)
 }
 
 /// The elements that are kept, in their order, as a caller takes them apart. `Resources` if memory
@@ -129,9 +166,5 @@ pub fn told_elements(alloc: Global, kept: &[KeptElement]) -> Result<Vec<Element>
     ensures same { IfOk result (λ v. v.items ≡ kept.now) }
     ensures refused { IfErr result (λ e. e ≡ Resources) }
 {
-    let mut elements = Vec::with_capacity(alloc, kept.len())?;
-    for e in kept {
-        elements.push(Element::of(alloc, e)?)?;
-    }
-    Ok(elements)
+    all_of(alloc, kept)
 }

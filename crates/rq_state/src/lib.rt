@@ -9,6 +9,7 @@ mod copies;
 mod fields;
 mod heard;
 mod kept_element;
+mod kept_registrant;
 mod laws;
 mod looks;
 mod marks;
@@ -23,12 +24,16 @@ mod writers;
 pub use compared::{Compare, Compared, compare_all};
 pub use copies::copied_definitions;
 pub use fields::{Fields, FieldsOf, KeptFields};
-pub use kept_element::{KeptElement, kept_elements, told_elements};
+pub use kept_element::{
+    Element, ElementOf, KeptElement, MadeOf, PayloadBytes, kept_elements, told_elements,
+};
+pub use kept_registrant::{KeptRegistrant, told_registrants};
 pub use laws::{any_order_makes_the_state, parts_make_the_state};
-pub use members::{Definition, Element, Last, Mark, Note, OpKind, Registrant};
+pub use members::{Definition, Last, Mark, Note, OpKind, Registrant};
 pub use orders::{Ordinal, order};
 pub use readers::{read, read_in};
 pub use state::State;
+pub use tables::empty_lists;
 pub use writers::{
     SHORTEST_DEFINITION, SHORTEST_ELEMENT, SHORTEST_NOTE, SHORTEST_REGISTRANT, SHORTEST_STATE,
     SHORTEST_UNIT, spell, spelled_len,

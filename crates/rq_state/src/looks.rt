@@ -4,7 +4,8 @@ ghost use Rattle.std.specs.Prelude.{◌≡◌, ◌<◌, ℕ, length, slice_index
 ghost use Rattle.rq_model.specs.States as model;
 
 use crate::kept_element::KeptElement;
-use crate::members::{Definition, Note, Registrant};
+use crate::kept_registrant::KeptRegistrant;
+use crate::members::{Definition, Note};
 use crate::state::State;
 use rq_record::UnitNo;
 
@@ -48,7 +49,7 @@ impl State {
     }
 
     /// The registrant at an index in their list.
-    pub fn registrant(&self, index: usize) -> &Registrant
+    pub fn registrant(&self, index: usize) -> &KeptRegistrant
         requires { index < length self.now.registrants }
         ensures { (x : model.Registrant) →
             result.now ≡ slice_index_or self.now.registrants index x }

@@ -3,7 +3,7 @@
 ghost use Rattle.std.specs.Prelude.{◌≡◌};
 ghost use Rattle.rq_model.specs.States as model;
 
-use rq_record::{ElemId, Name, Payload, QueueNo, UnitNo};
+use rq_record::{ElemId, Name, QueueNo, UnitNo};
 use std::marker::Model;
 
 /// Who has an element for now.
@@ -24,42 +24,6 @@ pub enum OpKind {
     Enqueue,
     /// It took the first free element, or found none.
     Dequeue,
-}
-
-/// An element of a queue, as a caller makes it and takes it apart.
-#[derive(Drop)]
-pub struct Element {
-    /// The record number of the enqueue that made it.
-    pub id: ElemId,
-    /// The queue that it is in.
-    pub home: QueueNo,
-    /// The queue that it was put in first.
-    pub origin: QueueNo,
-    /// Greater ones are taken first.
-    pub priority: u8,
-    /// How often an aborted unit gave it back since it came to its home.
-    pub attempts: u64,
-    /// The bytes that its enqueue gave it, at most 65,535.
-    pub payload: Payload,
-    /// Which open unit put it in or took it out, if one did.
-    pub mark: Mark,
-}
-
-impl Model for Element {
-    ghost use Rattle.rq_model.specs.States as model;
-    ghost use Rattle.rq_state.specs.Views.{mark_of};
-
-    ghost Value = { model.Element };
-
-    ghost view = { λ e. record {
-      id = e.id.0;
-      home = e.home.0;
-      origin = e.origin.0;
-      priority = e.priority;
-      attempts = e.attempts;
-      payload = e.payload;
-      mark = mark_of e.mark;
-    } };
 }
 
 /// What a registrant did: an operation that named it.
@@ -124,8 +88,6 @@ pub struct Note {
 }
 
 impl Model for Note {
-    ghost use Rattle.rq_model.specs.States as model;
-
     ghost Value = { model.Note };
 
     ghost view = { λ n. record {
@@ -175,8 +137,6 @@ pub struct Definition {
 }
 
 impl Model for Definition {
-    ghost use Rattle.rq_model.specs.States as model;
-
     ghost Value = { model.Definition };
 
     ghost view = { λ d. record { limit = d.limit; error = d.error.0; name = d.name } };
@@ -205,39 +165,7 @@ pub struct Registrant {
 }
 
 impl Model for Registrant {
-    ghost use Rattle.rq_model.specs.States as model;
-
     ghost Value = { model.Registrant };
 
     ghost view = { λ r. record { queue = r.queue.0; name = r.name; last = r.last } };
-}
-
-impl Registrant {
-    /// Its queue and name, by which registrants are ordered.
-    pub fn key(&self) -> (u32, Name)
-        ensures { result ≡ (self.now.queue, self.now.name) }
-    {
-        (self.queue.0, self.name)
-    }
-
-    /// Whether it comes before the other, by queue and then by name.
-    pub(crate) fn is_before(&self, other: &Registrant) -> bool
-        ensures { result ≡ model.registrant_before self.now other.now }
-    {
-        self.queue.0 < other.queue.0 || (self.queue.0 == other.queue.0 && self.name < other.name)
-    }
-
-    /// The same registrant again.
-    pub fn copied(&self) -> Registrant
-        ensures { result ≡ self.now }
-    {
-        Registrant {
-            queue: self.queue,
-            name: self.name,
-            last: match &self.last {
-                Some(last) => Some(last.copied()),
-                None => None,
-            },
-        }
-    }
 }

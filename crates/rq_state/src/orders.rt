@@ -7,7 +7,8 @@ ghost use Rattle.rq_state.specs.Orders.{put_in_order};
 ghost use Rattle.rq_state.specs.Views.{unit_of};
 
 use crate::kept_element::KeptElement;
-use crate::members::{Note, Registrant};
+use crate::kept_registrant::KeptRegistrant;
+use crate::members::Note;
 use rq_record::UnitNo;
 
 /// Puts units in order.
@@ -19,7 +20,7 @@ pub(crate) fn order_units(units: &mut Vec<UnitNo>)
 }
 
 /// Puts registrants in order.
-pub(crate) fn order_registrants(registrants: &mut Vec<Registrant>)
+pub(crate) fn order_registrants(registrants: &mut Vec<KeptRegistrant>)
     requires { Ordered (λ a b. model.registrant_before a b ≡ true)
         (put_in_order model.registrant_before registrants.old.items) }
     ensures { registrants.new.items ≡ put_in_order model.registrant_before registrants.old.items }

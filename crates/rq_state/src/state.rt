@@ -6,13 +6,14 @@ ghost use Rattle.rq_model.specs.States as model;
 ghost use Rattle.rq_model.specs.Queues.{elements_at, registrants_at, notes_at};
 ghost use Rattle.rq_model.specs.WellFormed.{IsWellFormed};
 ghost use Rattle.rq_record.specs.declared.fault.Fault.TheVariants.{Resources};
-ghost use Rattle.rq_state.specs.Orders.{state_in_order};
+ghost use Rattle.rq_state.specs.Orders.{AreAt, state_in_order};
 ghost use Rattle.rq_state.specs.Inside.{state_of};
 ghost use Rattle.rq_state.specs.Views.{unit_of};
 
 use crate::fields::{Fields, KeptFields};
 use crate::kept_element::KeptElement;
-use crate::members::{Definition, Note, Registrant};
+use crate::kept_registrant::KeptRegistrant;
+use crate::members::{Definition, Note};
 use crate::orders::{order, order_registrants, order_units};
 use crate::tables::{listed_at, table_of};
 use rq_record::{Fault, QueueNo, UnitNo};
@@ -35,7 +36,7 @@ impl Model for State {
 
     ghost use Rattle.rq_model.specs.WellFormed.{IsWellFormed};
     ghost use Rattle.rq_state.specs.Inside.{state_of};
-    ghost use Rattle.rq_state.specs.Tables.{IsTabled};
+    ghost use Rattle.rq_state.specs.Orders.{IsTabled};
 
     ghost view = { λ s. state_of s.fields };
 
@@ -163,7 +164,7 @@ impl State {
     }
 
     /// The registrants, by queue and name.
-    pub fn registrants(&self) -> &[Registrant]
+    pub fn registrants(&self) -> &[KeptRegistrant]
         ensures { result.now ≡ self.now.registrants }
     {
         &self.fields.registrants
@@ -187,9 +188,8 @@ impl State {
     /// number.
     pub fn elements_of(&self, queue: QueueNo) -> &[usize]
         ensures within { AllByRecursion (λ index. index < length self.now.elements) result.now }
-        ensures elements { (e : model.Element) →
-            map (λ index. slice_index_or self.now.elements index e) result.now
-            ≡ elements_at queue.0 self.now.elements }
+        ensures elements { AreAt self.now.elements result.now
+            (elements_at queue.0 self.now.elements) }
     {
         listed_at(&self.homes, queue)
     }
@@ -208,9 +208,7 @@ impl State {
     /// Where a queue's notes are in the list of notes, rising; none if no queue has the number.
     pub fn notes_of(&self, queue: QueueNo) -> &[usize]
         ensures within { AllByRecursion (λ index. index < length self.now.notes) result.now }
-        ensures notes { (n : model.Note) →
-            map (λ index. slice_index_or self.now.notes index n) result.now
-            ≡ notes_at queue.0 self.now.notes }
+        ensures notes { AreAt self.now.notes result.now (notes_at queue.0 self.now.notes) }
     {
         listed_at(&self.noted, queue)
     }

@@ -7,21 +7,22 @@ ghost use Rattle.rq_state.specs.Orders.{indices_of, listed};
 ghost use Rattle.rq_record.specs.declared.fault.Fault.TheVariants.{Resources};
 
 use crate::kept_element::KeptElement;
-use crate::members::{Note, Registrant};
+use crate::kept_registrant::KeptRegistrant;
+use crate::members::Note;
 use rq_record::{Fault, QueueNo};
 use std::alloc::Global;
 
-// A table without indices.
-fn bare(alloc: Global, queues: usize) -> Result<Vec<Vec<usize>>, Fault>
-    ensures len { IfOk result (λ table. length table.items ≡ queues) }
-    ensures listed { IfOk result (λ table. (queue : ℕ) → listed table.items queue ≡ []) }
+/// This many lists, each empty. Refused only with `Resources`.
+pub fn empty_lists<T: Drop>(alloc: Global, count: usize) -> Result<Vec<Vec<T>>, Fault>
+    ensures len { IfOk result (λ lists. length lists.items ≡ count) }
+    ensures listed { IfOk result (λ lists. (x : ℕ) → listed lists.items x ≡ []) }
     ensures refused { IfErr result (λ e. e ≡ Resources) }
 {
-    let mut table = Vec::new(alloc);
-    while table.len() < queues {
-        table.push(Vec::new(alloc))?;
+    let mut lists = Vec::with_capacity(alloc, count)?;
+    while lists.len() < count {
+        lists.push(Vec::new(alloc))?;
     }
-    Ok(table)
+    Ok(lists)
 }
 
 // Adds an index to those of a queue.
@@ -53,11 +54,11 @@ impl OfQueue for KeptElement {
     }
 }
 
-impl OfQueue for Registrant {
+impl OfQueue for KeptRegistrant {
     ghost queue_of = { λ r. r.queue };
 
     fn queue(&self) -> QueueNo {
-        self.queue
+        self.queue()
     }
 }
 
@@ -80,7 +81,7 @@ pub(crate) fn table_of<M: OfQueue>(
         listed table.items queue ≡ indices_of (λ m. M.queue_of m == queue) 0 members.now) }
     ensures refused { IfErr result (λ e. e ≡ Resources) }
 {
-    let mut table = bare(alloc, queues)?;
+    let mut table = empty_lists(alloc, queues)?;
     for index in 0..members.len() {
         list(&mut table, members[index].queue(), index)?;
     }

@@ -14,8 +14,8 @@ use std::alloc::Global;
 use std::marker::Sync;
 use std::thread::Threads;
 
-/// Writes the report of the log. Long payloads are parts of the bytes that were read; if none is, these
-/// are let go on the way.
+/// Writes the report of the log. Long payloads are parts of the bytes that were read; if none is,
+/// these are let go on the way.
 pub(crate) fn put_report<R: Threads + Sync, O: Output, G: Gate + Sync>(
     rt: &R,
     alloc: Global,

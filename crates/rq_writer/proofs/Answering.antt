@@ -17,7 +17,7 @@ use Rattle.rq_record.specs.declared.fault.Fault.TheVariants as faults
 use Rattle.std.specs.Prelude.{⊤}
 use Rattle.rq_writer.specs.Script.{Line, Told, Spelled, Tells}
 use Rattle.rq_writer.specs.Reading.{cut_at, line_at}
-use Rattle.rq_writer.specs.Made.{IsStateOf, Adds, BeginsWithLines, NoLine, spelling_limit, ended}
+use Rattle.rq_writer.specs.Made.{IsStateOf, Adds, BeginsWithLines, NoLine, spelling_limit}
 use Rattle.rq_writer.specs.Fronts.{AreLogged}
 use Rattle.rq_writer.specs.Making.{TellsNone}
 use Rattle.rq_writer.specs.MadeLaws.{Answers, EveryScriptHasAnswer}

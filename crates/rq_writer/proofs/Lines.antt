@@ -1,7 +1,7 @@
 -- The two laws: what is read is told so, and what is told so is read.
-use Rattle.std.proofs.Common.{◌≡◌, ℕ, ◌≤◌, true, false, cond, List, ◌∷◌, ◌++◌, Option, Some, None, Result, Ok, Err}
-use Rattle.std.proofs.Common.{refl, ap, subst, ◌∙◌, inl, inr, arith}
-use Rattle.std.specs.Prelude.{codes}
+use Rattle.std.proofs.Common.{◌≡◌, ℕ, ◌≤◌, ◌<◌, ◌^◌, true, false, cond, List, ◌∷◌, ◌++◌, Option, Some, None, Result, Ok}
+use Rattle.std.proofs.Common.{Err, refl, sym, ap, subst, ◌∙◌, inl, inr, arith}
+use Rattle.std.specs.Prelude.{codes, IsTrue}
 use Rattle.std.specs.Str.{bytes_eq}
 use Rattle.std.specs.Fmt.{decimal}
 use Rattle.std.proofs.lemmas.Slice.Eq.{bytes_eq-Decides}
@@ -11,7 +11,7 @@ use Rattle.rq_model.specs.Records.{By}
 use Rattle.rq_model.specs.Records.{Record}
 use Rattle.rq_model.specs.Records.{Define, Register, Deregister, Begin, Enqueue, Dequeue, Commit, Abort, Checkpoint}
 use Rattle.rq_model.specs.Records.{Kill, Version, One, Two}
-use Rattle.rq_model.specs.Spelling.{IsRecord, IsWho}
+use Rattle.rq_model.specs.Spelling.{IsRecord, IsWho, is_name}
 use Rattle.rq_bytes.specs.Readers.{◌>>=◌}
 use Rattle.rq_bytes.proofs.Single.{bind_some, chosen}
 use Rattle.rq_model.specs.Reports.{payload_text, error_text}
@@ -20,8 +20,8 @@ use Rattle.rq_writer.specs.Views.{line_of}
 use Rattle.rq_writer.specs.declared.line.ScriptLine as code
 use Rattle.rq_writer.specs.Script.{who_name, who_tag, record_text, line_text, IsTellable, IsLine, Tells}
 use Rattle.rq_writer.specs.Reading.{Gives, field_at, name_of, number_of, number_field, error_of, by_of, bytes_of_hex}
-use Rattle.rq_writer.specs.Reading.{unit_number, define_line, register_line, deregister_line, begin_line, commit_line}
-use Rattle.rq_writer.specs.Reading.{abort_line, enqueue_line, dequeue_line, checkpoint_line, kill_line, kill_line_in}
+use Rattle.rq_writer.specs.Reading.{unit_number, define_line, registration_at, registration_line, unit_line}
+use Rattle.rq_writer.specs.Reading.{enqueue_line, dequeue_line, checkpoint_line, kill_line, kill_line_in}
 use Rattle.rq_writer.specs.Reading.{told_by, record_at, told_line, line_at, ReadsLine}
 use Rattle.rq_writer.proofs.Cuts.{cut_takes, cut_again}
 use Rattle.rq_writer.proofs.Numbers.{number_takes, number_again}
@@ -73,85 +73,42 @@ define_again version limit error name h =
       error_again error h.1,
     ) refl
 
-register_takes : (version : Version) (bytes : List ℕ) (r : Record) → register_line bytes ≡ Some r
-    → IsTale version (codes "register " ++ bytes) r
-unfolding register_line
-register_takes version bytes r e =
+-- a record of a queue and a name, and one of a unit, that is a tale behind this front
+registration_takes : (version : Version) (kind : ℕ → List ℕ → Record) (front bytes : List ℕ) (r : Record)
+    → ((queue : ℕ) (name : List ℕ) → queue < 2 ^ 32 → IsTrue (is_name name)
+    → IsTale version (front ++ (decimal queue ++ 32 ∷ name)) (kind queue name))
+    → registration_line kind bytes ≡ Some r → IsTale version (front ++ bytes) r
+unfolding registration_at
+registration_takes version kind front bytes r tale e =
+    let a = bind_some (registration_at bytes) (λ x. Some (kind x.0 x.1)) r e in
     let b = bind_some (number_field 4294967295 bytes)
-    (λ queue. name_of queue.1 >>= λ name. Some (Register queue.0 name)) r e in
-    let c = bind_some (name_of b.0.1) (λ name. Some (Register b.0.0 name)) r b.2 in
+    (λ queue. name_of queue.1 >>= λ name. Some (queue.0, name)) a.0 a.1 in
+    let c = bind_some (name_of b.0.1) (λ name. Some (b.0.0, name)) a.0 b.2 in
     let t1 = number_at_takes 4294967295 bytes b.0 (omega arith) b.1 in
     let t2 = name_takes b.0.1 c.0 c.1 in
     let whole : bytes ≡ decimal b.0.0 ++ 32 ∷ c.0 = t1.0 ∙ behind (decimal b.0.0) _ _ t2.0 in
-    subst (IsTale version (codes "register " ++ bytes)) (some_is _ _ c.2)
-    (((omega (arith, t1.1), t2.1), tt), ap (λ (l : List ℕ). codes "register " ++ l) whole)
+    let told : kind b.0.0 c.0 ≡ r = ap (λ (x : ℕ × List ℕ). kind x.0 x.1) (some_is _ _ c.2) ∙ some_is _ _ a.2 in
+    subst (IsTale version (front ++ bytes)) told
+    (subst (λ (l : List ℕ). IsTale version (front ++ l) (kind b.0.0 c.0)) (sym whole)
+    (tale b.0.0 c.0 (omega (arith, t1.1)) t2.1))
 
-register_again : (version : Version) (queue : ℕ) (name : List ℕ) → IsRecord version (Register queue name)
-    → register_line (decimal queue ++ 32 ∷ name) ≡ Some (Register queue name)
-unfolding register_line
-register_again version queue name h =
-    rw (number_at_again 4294967295 queue name (omega arith) (omega (arith, h.0)), name_again name h.1) refl
+registration_again : (kind : ℕ → List ℕ → Record) (queue : ℕ) (name : List ℕ) → queue < 2 ^ 32 → IsTrue (is_name name)
+    → registration_line kind (decimal queue ++ 32 ∷ name) ≡ Some (kind queue name)
+unfolding registration_at
+registration_again kind queue name few is =
+    rw (number_at_again 4294967295 queue name (omega arith) (omega (arith, few)), name_again name is) refl
 
-deregister_takes : (version : Version) (bytes : List ℕ) (r : Record) → deregister_line bytes ≡ Some r
-    → IsTale version (codes "deregister " ++ bytes) r
-unfolding deregister_line
-deregister_takes version bytes r e =
-    let b = bind_some (number_field 4294967295 bytes)
-    (λ queue. name_of queue.1 >>= λ name. Some (Deregister queue.0 name)) r e in
-    let c = bind_some (name_of b.0.1) (λ name. Some (Deregister b.0.0 name)) r b.2 in
-    let t1 = number_at_takes 4294967295 bytes b.0 (omega arith) b.1 in
-    let t2 = name_takes b.0.1 c.0 c.1 in
-    let whole : bytes ≡ decimal b.0.0 ++ 32 ∷ c.0 = t1.0 ∙ behind (decimal b.0.0) _ _ t2.0 in
-    subst (IsTale version (codes "deregister " ++ bytes)) (some_is _ _ c.2)
-    (((omega (arith, t1.1), t2.1), tt), ap (λ (l : List ℕ). codes "deregister " ++ l) whole)
-
-deregister_again : (version : Version) (queue : ℕ) (name : List ℕ) → IsRecord version (Deregister queue name)
-    → deregister_line (decimal queue ++ 32 ∷ name) ≡ Some (Deregister queue name)
-unfolding deregister_line
-deregister_again version queue name h =
-    rw (number_at_again 4294967295 queue name (omega arith) (omega (arith, h.0)), name_again name h.1) refl
-
-begin_takes : (version : Version) (bytes : List ℕ) (r : Record) → begin_line bytes ≡ Some r
-    → IsTale version (codes "begin " ++ bytes) r
-unfolding begin_line
-begin_takes version bytes r e =
-    let a = bind_some (unit_number bytes) (λ unit. Some (Begin unit)) r e in
+unit_takes : (version : Version) (kind : ℕ → Record) (front bytes : List ℕ) (r : Record)
+    → ((unit : ℕ) → unit < 2 ^ 64 → IsTale version (front ++ decimal unit) (kind unit))
+    → unit_line kind bytes ≡ Some r → IsTale version (front ++ bytes) r
+unit_takes version kind front bytes r tale e =
+    let a = bind_some (unit_number bytes) (λ unit. Some (kind unit)) r e in
     let t = number_takes 18446744073709551615 bytes a.0 (omega arith) a.1 in
-    subst (IsTale version (codes "begin " ++ bytes)) (some_is _ _ a.2)
-    ((omega (arith, t.1), tt), ap (λ (l : List ℕ). codes "begin " ++ l) t.0)
+    subst (IsTale version (front ++ bytes)) (some_is _ _ a.2)
+    (subst (λ (l : List ℕ). IsTale version (front ++ l) (kind a.0)) (sym t.0) (tale a.0 (omega (arith, t.1))))
 
-begin_again : (version : Version) (unit : ℕ) → IsRecord version (Begin unit)
-    → begin_line (decimal unit) ≡ Some (Begin unit)
-unfolding begin_line
-begin_again version unit h = rw (number_again 18446744073709551615 unit (omega arith) (omega (arith, h))) refl
-
-commit_takes : (version : Version) (bytes : List ℕ) (r : Record) → commit_line bytes ≡ Some r
-    → IsTale version (codes "commit " ++ bytes) r
-unfolding commit_line
-commit_takes version bytes r e =
-    let a = bind_some (unit_number bytes) (λ unit. Some (Commit unit)) r e in
-    let t = number_takes 18446744073709551615 bytes a.0 (omega arith) a.1 in
-    subst (IsTale version (codes "commit " ++ bytes)) (some_is _ _ a.2)
-    ((omega (arith, t.1), tt), ap (λ (l : List ℕ). codes "commit " ++ l) t.0)
-
-commit_again : (version : Version) (unit : ℕ) → IsRecord version (Commit unit)
-    → commit_line (decimal unit) ≡ Some (Commit unit)
-unfolding commit_line
-commit_again version unit h = rw (number_again 18446744073709551615 unit (omega arith) (omega (arith, h))) refl
-
-abort_takes : (version : Version) (bytes : List ℕ) (r : Record) → abort_line bytes ≡ Some r
-    → IsTale version (codes "abort " ++ bytes) r
-unfolding abort_line
-abort_takes version bytes r e =
-    let a = bind_some (unit_number bytes) (λ unit. Some (Abort unit)) r e in
-    let t = number_takes 18446744073709551615 bytes a.0 (omega arith) a.1 in
-    subst (IsTale version (codes "abort " ++ bytes)) (some_is _ _ a.2)
-    ((omega (arith, t.1), tt), ap (λ (l : List ℕ). codes "abort " ++ l) t.0)
-
-abort_again : (version : Version) (unit : ℕ) → IsRecord version (Abort unit)
-    → abort_line (decimal unit) ≡ Some (Abort unit)
-unfolding abort_line
-abort_again version unit h = rw (number_again 18446744073709551615 unit (omega arith) (omega (arith, h))) refl
+unit_again : (kind : ℕ → Record) (unit : ℕ) → unit < 2 ^ 64 → unit_line kind (decimal unit) ≡ Some (kind unit)
+unit_again kind unit few = rw (number_again 18446744073709551615 unit (omega arith) (omega (arith, few))) refl
 
 enqueue_takes : (version : Version) (bytes : List ℕ) (r : Record) → enqueue_line bytes ≡ Some r
     → IsTale version (codes "enqueue " ++ bytes) r
@@ -338,14 +295,18 @@ told_by_takes : (version : Version) (word bytes : List ℕ) (r : Record) → tol
 unfolding told_by
 told_by_takes version word bytes r e =
     choose version word (codes "define") bytes (define_line bytes) _ r (define_takes version bytes r)
-    (λ o. choose version word (codes "register") bytes (register_line bytes) _ r (register_takes version bytes r)
-    (λ o. choose version word (codes "deregister") bytes (deregister_line bytes) _ r
-    (deregister_takes version bytes r)
-    (λ o. choose version word (codes "begin") bytes (begin_line bytes) _ r (begin_takes version bytes r)
+    (λ o. choose version word (codes "register") bytes (registration_line Register bytes) _ r
+    (registration_takes version Register (codes "register ") bytes r (λ queue name few is. (((few, is), tt), refl)))
+    (λ o. choose version word (codes "deregister") bytes (registration_line Deregister bytes) _ r
+    (registration_takes version Deregister (codes "deregister ") bytes r (λ queue name few is. (((few, is), tt), refl)))
+    (λ o. choose version word (codes "begin") bytes (unit_line Begin bytes) _ r
+    (unit_takes version Begin (codes "begin ") bytes r (λ unit few. ((few, tt), refl)))
     (λ o. choose version word (codes "enqueue") bytes (enqueue_line bytes) _ r (enqueue_takes version bytes r)
     (λ o. choose version word (codes "dequeue") bytes (dequeue_line bytes) _ r (dequeue_takes version bytes r)
-    (λ o. choose version word (codes "commit") bytes (commit_line bytes) _ r (commit_takes version bytes r)
-    (λ o. choose version word (codes "abort") bytes (abort_line bytes) _ r (abort_takes version bytes r)
+    (λ o. choose version word (codes "commit") bytes (unit_line Commit bytes) _ r
+    (unit_takes version Commit (codes "commit ") bytes r (λ unit few. ((few, tt), refl)))
+    (λ o. choose version word (codes "abort") bytes (unit_line Abort bytes) _ r
+    (unit_takes version Abort (codes "abort ") bytes r (λ unit few. ((few, tt), refl)))
     (λ o. choose version word (codes "checkpoint-hex") bytes (checkpoint_line bytes) _ r
     (checkpoint_takes version bytes r)
     (λ o. choose version word (codes "kill") bytes (kill_line_in version bytes) None r
@@ -363,14 +324,14 @@ record_again : (version : Version) (r : Record) → IsRecord version r → IsTel
     → record_at version (record_text r) ≡ Some r
 unfolding record_at told_by
 record_again version (Define limit error name) h t = define_again version limit error name h
-record_again version (Register queue name) h t = register_again version queue name h
-record_again version (Deregister queue name) h t = deregister_again version queue name h
-record_again version (Begin unit) h t = begin_again version unit h
+record_again version (Register queue name) h t = registration_again Register queue name h.0 h.1
+record_again version (Deregister queue name) h t = registration_again Deregister queue name h.0 h.1
+record_again version (Begin unit) h t = unit_again Begin unit h
 record_again version (Enqueue unit queue priority by payload) h t =
     enqueue_again version unit queue priority by payload h t
 record_again version (Dequeue unit queue by) h t = dequeue_again version unit queue by h t
-record_again version (Commit unit) h t = commit_again version unit h
-record_again version (Abort unit) h t = abort_again version unit h
+record_again version (Commit unit) h t = unit_again Commit unit h
+record_again version (Abort unit) h t = unit_again Abort unit h
 record_again version (Checkpoint bytes) h t = checkpoint_again version bytes h t
 record_again One (Kill queue element) h t = absurd h
 record_again Two (Kill queue element) h t = kill_again queue element h

@@ -98,35 +98,23 @@ define_line bytes = do
   error ← error_of limit.1
   Some (Define limit.0 error name)
 
-unfoldable pub register_line : List ℕ → Option Record
-register_line bytes = do
+-- the queue and the name that follow the word of a registration or of its end
+unfoldable pub registration_at : List ℕ → Option (ℕ × List ℕ)
+registration_at bytes = do
   queue ← number_field 4294967295 bytes
   name ← name_of queue.1
-  Some (Register queue.0 name)
+  Some (queue.0, name)
 
-unfoldable pub deregister_line : List ℕ → Option Record
-deregister_line bytes = do
-  queue ← number_field 4294967295 bytes
-  name ← name_of queue.1
-  Some (Deregister queue.0 name)
+-- the record of this kind that they tell
+abbrev pub registration_line : (ℕ → List ℕ → Record) → List ℕ → Option Record
+registration_line kind bytes = registration_at bytes >>= λ x. Some (kind x.0 x.1)
 
 abbrev pub unit_number : List ℕ → Option ℕ
 unit_number bytes = number_of 18446744073709551615 bytes
 
-unfoldable pub begin_line : List ℕ → Option Record
-begin_line bytes = do
-  unit ← unit_number bytes
-  Some (Begin unit)
-
-unfoldable pub commit_line : List ℕ → Option Record
-commit_line bytes = do
-  unit ← unit_number bytes
-  Some (Commit unit)
-
-unfoldable pub abort_line : List ℕ → Option Record
-abort_line bytes = do
-  unit ← unit_number bytes
-  Some (Abort unit)
+-- the record of this kind that a unit tells
+abbrev pub unit_line : (ℕ → Record) → List ℕ → Option Record
+unit_line kind bytes = unit_number bytes >>= λ unit. Some (kind unit)
 
 unfoldable pub enqueue_line : List ℕ → Option Record
 enqueue_line bytes = do
@@ -168,13 +156,13 @@ kill_line_in Two bytes = kill_line bytes
 unfoldable pub told_by : Version → List ℕ → List ℕ → Option Record
 told_by version word bytes =
     if bytes_eq word (codes "define") then define_line bytes
-    else if bytes_eq word (codes "register") then register_line bytes
-    else if bytes_eq word (codes "deregister") then deregister_line bytes
-    else if bytes_eq word (codes "begin") then begin_line bytes
+    else if bytes_eq word (codes "register") then registration_line Register bytes
+    else if bytes_eq word (codes "deregister") then registration_line Deregister bytes
+    else if bytes_eq word (codes "begin") then unit_line Begin bytes
     else if bytes_eq word (codes "enqueue") then enqueue_line bytes
     else if bytes_eq word (codes "dequeue") then dequeue_line bytes
-    else if bytes_eq word (codes "commit") then commit_line bytes
-    else if bytes_eq word (codes "abort") then abort_line bytes
+    else if bytes_eq word (codes "commit") then unit_line Commit bytes
+    else if bytes_eq word (codes "abort") then unit_line Abort bytes
     else if bytes_eq word (codes "checkpoint-hex") then checkpoint_line bytes
     else if bytes_eq word (codes "kill") then kill_line_in version bytes
     else None

@@ -1,46 +1,18 @@
 //! The front of the log that is being made.
 
-ghost use Rattle.std.specs.Prelude.{◌≡◌, ◌+◌, ◌^◌, ◌<◌, ◌∷◌, ◌++◌, List, [], length, map, IfOk};
-ghost use Rattle.std.specs.Prelude.{IfErr, OnOk};
-ghost use Rattle.rq_model.specs.Machine.{lawful_front, run};
+ghost use Rattle.std.specs.Prelude.{◌≡◌, ◌∷◌, ◌++◌, List, [], IfErr, OnOk};
 ghost use Rattle.rq_model.specs.Records as model;
 ghost use Rattle.rq_record.specs.declared.fault.Fault.TheVariants.{Resources};
 ghost use Rattle.rq_record.specs.Views.{record_of, version_of};
 ghost use Rattle.rq_writer.specs.Fronts.{IsFrontAfter, AreLogged, SpellsFront};
 ghost use Rattle.rq_writer.specs.Made.{IsStateOf};
 
-use rq_catalog::analyse_kept;
-use rq_exchange::replay_analysed;
-use rq_plan::{Open, Plan};
+use rq_exchange::front_redone;
+use rq_plan::Plan;
 use rq_record::{CheckBytes, Fault, KeptRecord, Record, Version};
 use rq_state::{State, spell};
 use std::alloc::Global;
 use std::thread::Threads;
-
-// The state after those of the records that are lawful in the version, each after those before it,
-// and how many these are.
-fn run_lawful<R: Threads + Sync>(
-    rt: &R,
-    alloc: Global,
-    version: Version,
-    plan: &Plan,
-    state: &State,
-    records: &[KeptRecord],
-) -> Result<(State, usize), Fault>
-    requires fits { state.now.next + length records.now < 2 ^ 64 }
-    ensures state { IfOk result (λ found. found.0
-        ≡ run state.now (lawful_front (version_of version) state.now (map record_of records.now))) }
-    ensures count { IfOk result (λ found. found.1
-        ≡ length (lawful_front (version_of version) state.now (map record_of records.now))) }
-    ensures refused { IfErr result (λ e. e ≡ Resources) }
-{
-    rq_model::versions();
-    let analysis = analyse_kept(alloc, version, state, records)?;
-    let count = analysis.lawful();
-    let lawful = &records[..count];
-    let state = replay_analysed(rt, alloc, state, lawful, analysis, plan, &Open)?;
-    Ok((state, count))
-}
 
 /// The state after the first records of the log, and the records after these, until one of them is
 /// found to be unlawful. So a checkpoint costs the records since the one before it, not the whole
@@ -101,7 +73,7 @@ impl MadeFront {
             return Ok(());
         }
         let since = self.since.as_slice();
-        let (state, count) = run_lawful(rt, alloc, version, plan, &self.state, since)?;
+        let (state, count) = front_redone(rt, alloc, version, &self.state, since, plan)?;
         self.ended = count < since.len();
         self.state = state;
         self.since.clear();

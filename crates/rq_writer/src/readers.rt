@@ -9,7 +9,7 @@ ghost use Rattle.rq_writer.specs.Views.{line_of};
 use crate::fields::{by, error, field, name, number, number_field, u32_field};
 use crate::hexes::{kept, payload};
 use crate::line::ScriptLine;
-use rq_record::{ElemId, Fault, QueueNo, Record, UnitNo, Version};
+use rq_record::{ElemId, Fault, Name, QueueNo, Record, UnitNo, Version};
 use std::alloc::Global;
 
 #[tactic(auto, unfolding(crate::specs::Reading::define_line))]
@@ -27,28 +27,13 @@ fn define(bytes: &[u8]) -> Result<Record, Fault>
     })
 }
 
-#[tactic(auto, unfolding(crate::specs::Reading::register_line))]
-fn register(bytes: &[u8]) -> Result<Record, Fault>
-    ensures { Gives record_of result (spec.register_line bytes.now) }
+#[tactic(auto, unfolding(crate::specs::Reading::registration_at))]
+fn registration(bytes: &[u8]) -> Result<(QueueNo, Name), Fault>
+    ensures { Gives (λ x. (x.0.0, x.1)) result (spec.registration_at bytes.now) }
 {
     let (queue, rest) = u32_field(bytes)?;
     let name = name(rest)?;
-    Ok(Record::Register {
-        queue: QueueNo(queue),
-        name,
-    })
-}
-
-#[tactic(auto, unfolding(crate::specs::Reading::deregister_line))]
-fn deregister(bytes: &[u8]) -> Result<Record, Fault>
-    ensures { Gives record_of result (spec.deregister_line bytes.now) }
-{
-    let (queue, rest) = u32_field(bytes)?;
-    let name = name(rest)?;
-    Ok(Record::Deregister {
-        queue: QueueNo(queue),
-        name,
-    })
+    Ok((QueueNo(queue), name))
 }
 
 fn unit(bytes: &[u8]) -> Result<UnitNo, Fault>
@@ -56,30 +41,6 @@ fn unit(bytes: &[u8]) -> Result<UnitNo, Fault>
 {
     let unit = number(u64::MAX, bytes)?;
     Ok(UnitNo(unit))
-}
-
-#[tactic(auto, unfolding(crate::specs::Reading::begin_line))]
-fn begin(bytes: &[u8]) -> Result<Record, Fault>
-    ensures { Gives record_of result (spec.begin_line bytes.now) }
-{
-    let unit = unit(bytes)?;
-    Ok(Record::Begin { unit })
-}
-
-#[tactic(auto, unfolding(crate::specs::Reading::commit_line))]
-fn commit(bytes: &[u8]) -> Result<Record, Fault>
-    ensures { Gives record_of result (spec.commit_line bytes.now) }
-{
-    let unit = unit(bytes)?;
-    Ok(Record::Commit { unit })
-}
-
-#[tactic(auto, unfolding(crate::specs::Reading::abort_line))]
-fn abort(bytes: &[u8]) -> Result<Record, Fault>
-    ensures { Gives record_of result (spec.abort_line bytes.now) }
-{
-    let unit = unit(bytes)?;
-    Ok(Record::Abort { unit })
 }
 
 #[tactic(auto, unfolding(crate::specs::Reading::enqueue_line))]
@@ -154,19 +115,21 @@ fn told_by(alloc: Global, version: Version, word: &[u8], rest: &[u8]) -> Result<
     if word == b"define".as_slice() {
         define(rest)
     } else if word == b"register".as_slice() {
-        register(rest)
+        let (queue, name) = registration(rest)?;
+        Ok(Record::Register { queue, name })
     } else if word == b"deregister".as_slice() {
-        deregister(rest)
+        let (queue, name) = registration(rest)?;
+        Ok(Record::Deregister { queue, name })
     } else if word == b"begin".as_slice() {
-        begin(rest)
+        Ok(Record::Begin { unit: unit(rest)? })
     } else if word == b"enqueue".as_slice() {
         enqueue(alloc, rest)
     } else if word == b"dequeue".as_slice() {
         dequeue(rest)
     } else if word == b"commit".as_slice() {
-        commit(rest)
+        Ok(Record::Commit { unit: unit(rest)? })
     } else if word == b"abort".as_slice() {
-        abort(rest)
+        Ok(Record::Abort { unit: unit(rest)? })
     } else if word == b"checkpoint-hex".as_slice() {
         checkpoint(alloc, rest)
     } else if word == b"kill".as_slice() {

@@ -10,17 +10,6 @@ use rq_state::State;
 use std::alloc::Global;
 use std::thread::Threads;
 
-/// A checkpoint that is to stand behind a log.
-#[derive(Drop)]
-pub(crate) struct Marked {
-    /// So many bytes of the log stay.
-    pub(crate) used: usize,
-    /// Where the checkpoint will stand.
-    pub(crate) offset: usize,
-    /// All that is to be written behind them.
-    pub(crate) frames: Vec<u8>,
-}
-
 fn refused(why: NotTaken) -> Refusal {
     match why {
         NotTaken::Resources => Refusal::Memory,
@@ -38,16 +27,13 @@ fn aborts_of(alloc: Global, state: &State) -> Result<Vec<Record>, Fault> {
 }
 
 // Appends these records, all of which are lawful there.
-fn append_all(
-    alloc: Global,
-    log: &mut OpenLog,
-    records: &[Record],
-    frames: &mut Vec<u8>,
-) -> Result<(), Refusal> {
-    if !log.has_numbers(records.len()) {
-        return Err(Refusal::Ended);
-    }
-    match log.opened.appender.append_each(alloc, records, frames) {
+fn append_all(alloc: Global, log: &mut OpenLog, records: &[Record]) -> Result<(), Refusal> {
+    log.expect_numbers(records.len())?;
+    match log
+        .opened
+        .appender
+        .append_each(alloc, records, &mut log.frames)
+    {
         (_, None) => {
             log.next = log.next.saturating_add(records.len() as u64);
             Ok(())
@@ -63,10 +49,9 @@ fn end_units<R: Threads + Sync>(
     log: &mut OpenLog,
     front: &RedoneFront,
     plan: &Plan,
-    frames: &mut Vec<u8>,
 ) -> Result<State, Refusal> {
     let aborts = aborts_of(alloc, &front.state)?;
-    append_all(alloc, log, &aborts, frames)?;
+    append_all(alloc, log, &aborts)?;
     let aborts = kept_records(alloc, &aborts)?;
     let mut standing = Standing::of(alloc, front.version, &front.state)?;
     go_on(rt, alloc, &mut standing, &aborts, plan)?;
@@ -74,57 +59,43 @@ fn end_units<R: Threads + Sync>(
 }
 
 // Appends a checkpoint of the state, behind which the log stands.
-fn append_checkpoint(
-    alloc: Global,
-    log: &mut OpenLog,
-    state: &State,
-    frames: &mut Vec<u8>,
-) -> Result<(), Refusal> {
-    if log.is_at_end() {
-        return Err(Refusal::Ended);
-    }
+fn append_checkpoint(alloc: Global, log: &mut OpenLog, state: &State) -> Result<(), Refusal> {
+    log.expect_numbers(1)?;
     let checkpoint = checkpoint_of(alloc, state)?;
-    match log.opened.appender.append(alloc, &checkpoint, frames) {
-        Ok(()) => Ok(()),
-        Err(why) => Err(refused(why)),
-    }
+    append_all(alloc, log, &[checkpoint])
 }
 
-// A checkpoint of the state where the log stands, behind ABORTs of the open units if these are to
-// end.
-fn marked_behind<R: Threads + Sync>(
+// Appends a checkpoint of the state where the log stands, behind ABORTs of the open units if these
+// are to end. Answers its offset.
+fn mark_behind<R: Threads + Sync>(
     rt: &R,
     alloc: Global,
     log: &mut OpenLog,
     mut front: RedoneFront,
     plan: &Plan,
     ends_units: bool,
-) -> Result<Marked, Refusal> {
-    let mut made = Marked {
-        used: log.opened.used,
-        offset: 0,
-        frames: Vec::new(alloc),
-    };
+) -> Result<usize, Refusal> {
     if ends_units {
-        front.state = end_units(rt, alloc, log, &front, plan, &mut made.frames)?;
+        front.state = end_units(rt, alloc, log, &front, plan)?;
     }
-    made.offset = made.used.saturating_add(made.frames.len());
-    append_checkpoint(alloc, log, &front.state, &mut made.frames)?;
-    Ok(made)
+    let offset = log.len();
+    append_checkpoint(alloc, log, &front.state)?;
+    Ok(offset)
 }
 
-/// A checkpoint of the state behind the front of a log, behind ABORTs of the open units if these are
-/// to end.
+/// A log with a checkpoint of the state behind its front, behind ABORTs of the open units if these
+/// are to end; and the checkpoint's offset.
 pub(crate) fn mark<R: Threads + Sync>(
     rt: &R,
     alloc: Global,
     bytes: &[u8],
     plan: &Plan,
     ends_units: bool,
-) -> Result<Marked, Refusal> {
+) -> Result<(OpenLog, usize), Refusal> {
     let mut log = opened_front(rt, alloc, bytes, plan)?;
     let front = redone_behind(rt, alloc, bytes, plan)?;
-    marked_behind(rt, alloc, &mut log, front, plan, ends_units)
+    let offset = mark_behind(rt, alloc, &mut log, front, plan, ends_units)?;
+    Ok((log, offset))
 }
 
 // The ABORT of each unit that is open behind the front of a log.
@@ -147,6 +118,8 @@ pub(crate) fn close_carried<R: Threads + Sync>(
 ) -> Result<(), Refusal> {
     let mut log = front_of(rt, alloc, bytes, plan)?;
     let aborts = aborts_behind(rt, alloc, bytes, plan)?;
+    append_all(alloc, &mut log, &aborts)?;
     bytes.truncate(log.opened.used);
-    append_all(alloc, &mut log, &aborts, bytes)
+    bytes.append(&mut log.frames)?;
+    Ok(())
 }

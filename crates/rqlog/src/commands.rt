@@ -1,10 +1,10 @@
 //! What the program does for each of its commands.
 
-use crate::checkpoints::{Marked, close_carried, mark};
+use crate::checkpoints::{close_carried, mark};
 use crate::files::{HeldLog, Hold, put_whole};
 use crate::fronts::{OpenLog, front_in, opened_front};
 use crate::inputs::{begun_log, log_from, log_in, opened, rest_of_log, script_in};
-use crate::lines::{Written, frames_of};
+use crate::lines::{Written, append_script};
 use crate::messages::{audit_text, tell_appended, tell_carried, tell_marked, warn_of_end};
 use crate::new_log::{expect_free, name_one_file, put_new};
 use crate::refusal::{Refusal, Stream};
@@ -12,7 +12,7 @@ use clap::ArgMatches;
 use rq_file::Patient;
 use rq_journal::{CARRIED_AT, Fault, Plan, audit_carried, carried, carried_again, is_carried};
 use rq_restart::closed;
-use rq_tool::{Open, OverRead, OverWrite, Work};
+use rq_tool::{Open, OverRead, OverWrite, Work, through};
 use std::fs::File;
 use std::io::{self, Read};
 use std::rt::{Clock, Files};
@@ -38,7 +38,7 @@ fn told(done: io::Result<()>) -> Result<(), Refusal> {
     }
 }
 
-// Writes the frames of a script behind a log, if they are kept, and tells so.
+// Writes the frames of a script behind its log, if they are kept, and tells so.
 fn write_script<R: Files<File = File> + Print>(
     rt: &R,
     held: &mut HeldLog,
@@ -49,15 +49,14 @@ fn write_script<R: Files<File = File> + Print>(
     if !made.is_kept() {
         return Ok(());
     }
-    let used = log.opened.used;
-    held.append(rt, log.read, used, &made.frames)?;
-    let len = used.saturating_add(made.frames.len()) as u64;
-    told(tell_appended(rt, json, made.count, used as u64, len))
+    held.append(rt, log)?;
+    let (used, len) = (log.opened.used as u64, log.len() as u64);
+    told(tell_appended(rt, json, made.count, used, len))
 }
 
 // Appends the frames of a script behind an open log, if any of its lines are kept, or says why one
 // is refused.
-fn append_script<R>(
+fn append_lines<R>(
     rt: &R,
     held: &mut HeldLog,
     log: &mut OpenLog,
@@ -67,7 +66,7 @@ fn append_script<R>(
 where
     R: Files<File = File> + Print + AllocGlobal,
 {
-    let made = frames_of(rt.alloc(), log, script, words.get_flag("each"))?;
+    let made = append_script(rt.alloc(), log, script, words.get_flag("each"))?;
     write_script(rt, held, log, &made, words.get_flag("json"))?;
     made.lines_refused()
 }
@@ -84,7 +83,7 @@ where
     R: Files<File = File> + Print + AllocGlobal + Threads + Sync,
 {
     let mut log = front_in(rt, held.file(), plan)?;
-    append_script(rt, held, &mut log, script, words)
+    append_lines(rt, held, &mut log, script, words)
 }
 
 fn append<R>(rt: &R, path: &str, plan: &Plan, words: &ArgMatches<'_>) -> Result<(), Refusal>
@@ -94,19 +93,6 @@ where
     let script = script_in(rt, words.get_str("SCRIPT").unwrap_or("-"))?;
     let mut held = HeldLog::open(rt, path, Hold::ToWrite)?;
     append_behind(rt, &mut held, plan, &script, words)
-}
-
-// Writes a checkpoint behind a log of which so many bytes were read, and tells so.
-fn write_mark<R: Files<File = File> + Print>(
-    rt: &R,
-    held: &mut HeldLog,
-    read: usize,
-    made: &Marked,
-    json: bool,
-) -> Result<(), Refusal> {
-    held.append(rt, read, made.used, &made.frames)?;
-    let len = made.used.saturating_add(made.frames.len()) as u64;
-    told(tell_marked(rt, json, made.offset as u64, len))
 }
 
 // Writes a checkpoint of the state behind a log, and tells so.
@@ -120,8 +106,10 @@ where
     R: Files<File = File> + Print + AllocGlobal + Threads + Sync,
 {
     let bytes = rest_of_log(rt, held.file())?;
-    let made = mark(rt, rt.alloc(), &bytes, plan, words.get_flag("close"))?;
-    write_mark(rt, held, bytes.len(), &made, words.get_flag("json"))
+    let (log, offset) = mark(rt, rt.alloc(), &bytes, plan, words.get_flag("close"))?;
+    held.append(rt, &log)?;
+    let json = words.get_flag("json");
+    told(tell_marked(rt, json, offset as u64, log.len() as u64))
 }
 
 fn checkpoint<R>(rt: &R, path: &str, plan: &Plan, words: &ArgMatches<'_>) -> Result<(), Refusal>
@@ -184,19 +172,8 @@ where
     carry_bytes(rt, &bytes, plan, new, words.get_flag("json"))
 }
 
-// What is printed of a log.
-#[derive(Clone, Copy)]
-enum Printed {
-    // The report of a plain log.
-    Report,
-    // The report of one that was carried on.
-    CarriedReport,
-    // Which checkpoints of a plain log are true.
-    Audit,
-}
-
-// Prints it.
-fn print_log<R, F>(rt: &R, printed: Printed, from: F, plan: &Plan) -> Result<(), Fault>
+// Prints what is made of a log.
+fn print_log<R, F>(rt: &R, work: Work, from: F, plan: &Plan) -> Result<(), Fault>
 where
     R: Print + Clock + AllocGlobal + Threads + Sync,
     F: Read + Drop,
@@ -206,24 +183,7 @@ where
         rt,
         inner: io::writer(rt),
     });
-    match printed {
-        Printed::Report => rq_tool::run(rt, rt.alloc(), &mut input, &mut output, plan, &Open),
-        Printed::CarriedReport => {
-            let offset = CARRIED_AT as u64;
-            rq_tool::run_at(rt, rt.alloc(), &mut input, &mut output, offset, plan, &Open)
-        }
-        Printed::Audit => {
-            rq_tool::through(
-                rt,
-                rt.alloc(),
-                &mut input,
-                &mut output,
-                Work::Audit,
-                plan,
-                &Open,
-            )
-        }
-    }
+    through(rt, rt.alloc(), &mut input, &mut output, work, plan, &Open)
 }
 
 fn restart<R>(rt: &R, path: &str, plan: &Plan) -> Result<(), Refusal>
@@ -231,12 +191,12 @@ where
     R: Files<File = File> + Print + Clock + AllocGlobal + Threads + Sync,
 {
     let (is_carried, from) = begun_log(rt, opened(rt, path, Stream::Log)?)?;
-    let printed = if is_carried {
-        Printed::CarriedReport
+    let work = if is_carried {
+        Work::ReportAt(CARRIED_AT as u64)
     } else {
-        Printed::Report
+        Work::Report
     };
-    Ok(print_log(rt, printed, from, plan)?)
+    Ok(print_log(rt, work, from, plan)?)
 }
 
 // The closed log, plain or carried on.
@@ -313,7 +273,7 @@ where
     if is_carried {
         return tell_audit(rt, from, plan);
     }
-    Ok(print_log(rt, Printed::Audit, from, plan)?)
+    Ok(print_log(rt, Work::Audit, from, plan)?)
 }
 
 /// Does the command of the words.

@@ -1,5 +1,6 @@
 //! The file of a log, which one program writes at a time.
 
+use crate::fronts::OpenLog;
 use crate::refusal::{Refusal, Stream, failed};
 use rq_file::NamedFile;
 use std::fs::{File, Files, OpenFile, OpenOptions, TryLockError};
@@ -100,33 +101,31 @@ impl HeldLog {
         }
     }
 
-    /// Writes frames behind the first bytes of the log, of which so many were read, and tells the
-    /// disk. If that fails, what was written is taken back, as far as the system lets us.
-    pub(crate) fn append<R: Files<File = File>>(
-        &mut self,
-        rt: &R,
-        read: usize,
-        used: usize,
-        frames: &[u8],
-    ) -> Result<(), Refusal> {
-        self.expect_as_read(rt, read)?;
-        match write_behind(self.place.file_mut(), read, used, frames) {
+    /// Writes the frames behind the front of the log, and tells the disk. If that fails, what was
+    /// written is taken back, as far as the system lets us.
+    pub(crate) fn append<R>(&mut self, rt: &R, log: &OpenLog) -> Result<(), Refusal>
+    where
+        R: Files<File = File>,
+    {
+        self.expect_as_read(rt, log.read)?;
+        match write_behind(self.place.file_mut(), log) {
             Ok(()) => Ok(()),
             Err(error) => {
-                let left = self.take_back(used);
+                let left = self.take_back(log.opened.used);
                 Err(Refusal::Failed(left, error))
             }
         }
     }
 }
 
-// Cuts a file to its first bytes, if it has more, and writes behind them.
-fn write_behind(file: &mut File, read: usize, used: usize, frames: &[u8]) -> io::Result<()> {
-    if used < read {
+// Cuts the file of a log to its front, if it has more, and writes the frames behind that.
+fn write_behind(file: &mut File, log: &OpenLog) -> io::Result<()> {
+    let used = log.opened.used;
+    if used < log.read {
         OpenFile::set_len(file, used as u64)?;
     }
     file.seek(SeekFrom::Start(used as u64))?;
-    file.write_all(frames)?;
+    file.write_all(&log.frames)?;
     OpenFile::sync_all(file)
 }
 

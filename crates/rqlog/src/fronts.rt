@@ -13,10 +13,7 @@ use std::alloc::Global;
 use std::fs::File;
 use std::thread::Threads;
 
-// A state that is spelled numbers at most so many records.
-const NUMBERS: u64 = 4_294_967_295;
-
-/// Stands where the front of a log ends.
+/// Stands where the front of a log ends, and gathers what is to be written there.
 #[derive(Drop)]
 pub(crate) struct OpenLog {
     /// Its file, opened.
@@ -25,6 +22,8 @@ pub(crate) struct OpenLog {
     pub(crate) read: usize,
     /// The number of the next record, over all files of the log.
     pub(crate) next: u64,
+    /// The frames that are to be written behind the front.
+    pub(crate) frames: Vec<u8>,
 }
 
 impl OpenLog {
@@ -33,39 +32,51 @@ impl OpenLog {
         self.opened.appender.version()
     }
 
-    /// Whether a state behind so many records more can be spelled.
-    pub(crate) fn has_numbers(&self, count: usize) -> bool {
-        count as u64 <= NUMBERS.saturating_sub(self.next)
+    /// How many bytes the log has with the frames.
+    pub(crate) fn len(&self) -> usize {
+        self.opened.used.saturating_add(self.frames.len())
     }
 
-    /// Whether no state behind one more record can be spelled.
-    pub(crate) fn is_at_end(&self) -> bool {
-        !self.has_numbers(1)
+    /// Whether a state behind so many records more can be spelled: it numbers 4,294,967,295 at most.
+    pub(crate) fn has_numbers(&self, count: usize) -> bool {
+        count as u64 <= u64::from(u32::MAX).saturating_sub(self.next)
+    }
+
+    /// Refuses so many records more if no state behind them can be spelled.
+    pub(crate) fn expect_numbers(&self, count: usize) -> Result<(), Refusal> {
+        if self.has_numbers(count) {
+            Ok(())
+        } else {
+            Err(Refusal::Ended)
+        }
     }
 
     /// How many records stand before a log that goes on from this one.
     pub(crate) fn next_carried(&self) -> Result<u64, Refusal> {
-        if self.is_at_end() {
-            return Err(Refusal::Ended);
-        }
+        self.expect_numbers(1)?;
         Ok(self.next)
     }
 }
 
-// How many records were numbered before the first frame of a log that was carried on: the spelling of
-// the state that it begins with tells it first, behind the length and the kind of its checkpoint.
+// How many records were numbered before the first frame of a log. If it was carried on, the spelling
+// of the state that it begins with tells it first, behind the length and the kind of its checkpoint.
 fn numbered_before(bytes: &[u8]) -> u64 {
     let at = CARRIED_AT + 5;
-    if bytes.len() < at + 8 {
+    if !is_carried(bytes) || bytes.len() < at + 8 {
         return 0;
     }
     BigEndian::read_u64(&bytes[at..])
 }
 
 // Where a log of so many bytes was opened, before whose first frame so many records were numbered.
-fn open_at(opened: Opened, read: usize, before: u64) -> OpenLog {
+fn open_at(alloc: Global, opened: Opened, read: usize, before: u64) -> OpenLog {
     let next = before.saturating_add(opened.records as u64);
-    OpenLog { opened, read, next }
+    OpenLog {
+        opened,
+        read,
+        next,
+        frames: Vec::new(alloc),
+    }
 }
 
 /// Where the front of a log ends.
@@ -75,11 +86,12 @@ pub(crate) fn front_of<R: Threads + Sync>(
     bytes: &[u8],
     plan: &Plan,
 ) -> Result<OpenLog, Fault> {
-    if is_carried(bytes) {
-        let opened = open_carried(rt, alloc, bytes, plan)?;
-        return Ok(open_at(opened, bytes.len(), numbered_before(bytes)));
-    }
-    Ok(open_at(open(rt, alloc, bytes, plan)?, bytes.len(), 0))
+    let opened = if is_carried(bytes) {
+        open_carried(rt, alloc, bytes, plan)?
+    } else {
+        open(rt, alloc, bytes, plan)?
+    };
+    Ok(open_at(alloc, opened, bytes.len(), numbered_before(bytes)))
 }
 
 // Refuses a front behind which bytes stand that are no beginning of a frame: they hide records, or
@@ -118,7 +130,7 @@ where
     let mut front = GrowingFront::new(rt.alloc());
     let read = feed_file(rt, file, &mut front, plan)?;
     let judged = front.judged(rt, rt.alloc(), plan)?;
-    Ok(open_at(opened_behind(judged), read, 0))
+    Ok(open_at(rt.alloc(), opened_behind(judged), read, 0))
 }
 
 /// Where the front of the log in an open file ends, behind which records may follow.

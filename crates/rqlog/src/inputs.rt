@@ -85,55 +85,14 @@ fn read_piece(file: &mut File, piece: &mut [u8]) -> Result<usize, Refusal>
     Err(Refusal::Refused(Fault::ReadFailed))
 }
 
-// Reads on, goes along with what comes, and answers how many bytes these are.
-fn feed_piece<R>(
-    rt: &R,
-    file: &mut File,
-    piece: &mut [u8],
-    front: &mut GrowingFront,
-    plan: &Plan,
-) -> Result<usize, Refusal>
-where
-    R: AllocGlobal + Threads + Sync,
-    requires { (b : List ℕ) × GoesAlong b front.old }
-    ensures { OnOk result ((b : List ℕ) × GoesAlong b front.new) }
-{
-    let count = read_piece(file, piece)?;
-    front.feed(rt, rt.alloc(), &piece[..count], plan)?;
-    Ok(count)
-}
-
-// Room for what is read at a time.
+// Room for what is read at a time. (A function of its own, since the check of one that knows its
+// bytes would look at each.)
 fn room_for_piece(alloc: Global) -> Result<Vec<u8>, AllocError> {
     vec![in alloc; 0u8; PIECE]
 }
 
-// Goes along with all that comes, piece by piece, and answers how many bytes these are.
-fn feed_pieces<R>(
-    rt: &R,
-    file: &mut File,
-    piece: &mut [u8],
-    front: &mut GrowingFront,
-    plan: &Plan,
-) -> Result<usize, Refusal>
-where
-    R: AllocGlobal + Threads + Sync,
-    requires { (b : List ℕ) × GoesAlong b front.old }
-    ensures { OnOk result ((b : List ℕ) × GoesAlong b front.new) }
-{
-    let mut total = 0usize;
-    for _ in 0..u64::MAX {
-        let count = feed_piece(rt, file, piece, front, plan)?;
-        if count == 0 {
-            break;
-        }
-        total = total.saturating_add(count);
-    }
-    Ok(total)
-}
-
-/// Goes along with the log in an open file, read from where that stands to its end, and answers how
-/// many bytes these are.
+/// Goes along with the log in an open file, piece by piece, read from where that stands to its end,
+/// and answers how many bytes these are.
 pub(crate) fn feed_file<R>(
     rt: &R,
     file: &mut File,
@@ -146,7 +105,16 @@ where
     ensures { OnOk result ((b : List ℕ) × GoesAlong b front.new) }
 {
     let mut piece = room_for_piece(rt.alloc())?;
-    feed_pieces(rt, file, &mut piece, front, plan)
+    let mut total = 0usize;
+    for _ in 0..u64::MAX {
+        let count = read_piece(file, &mut piece)?;
+        front.feed(rt, rt.alloc(), &piece[..count], plan)?;
+        if count == 0 {
+            break;
+        }
+        total = total.saturating_add(count);
+    }
+    Ok(total)
 }
 
 /// Opens a log or a script to read it.

@@ -67,19 +67,17 @@ impl fmt::Display for LineRefused {
     }
 }
 
-/// The frames of the records of a script.
+/// What came of the lines of a script.
 #[derive(Drop)]
 pub(crate) struct Written {
-    /// The frames, one behind the other.
-    pub(crate) frames: Vec<u8>,
-    /// How many there are.
+    /// How many records were appended.
     pub(crate) count: u64,
     /// Where and why they end before the script does.
     refused: Option<LineRefused>,
 }
 
 impl Written {
-    /// Whether the frames are appended: all lines are taken, or those before the first that is not
+    /// Whether the frames are written: all lines are taken, or those before the first that is not
     /// are kept.
     pub(crate) fn is_kept(&self) -> bool {
         match &self.refused {
@@ -90,13 +88,7 @@ impl Written {
 
     /// Refuses the first line that is not appended, if there is one.
     pub(crate) fn lines_refused(self) -> Result<(), Refusal> {
-        let Written {
-            frames,
-            refused,
-            ..
-        } = self;
-        drop(frames);
-        match refused {
+        match self.refused {
             Some(refused) => Err(Refusal::Line(refused)),
             None => Ok(()),
         }
@@ -150,16 +142,11 @@ fn reason_of(alloc: Global, log: &OpenLog, record: &Record, why: NotTaken) -> Re
 }
 
 // Appends the frame of a record.
-fn append_record(
-    alloc: Global,
-    log: &mut OpenLog,
-    record: &Record,
-    frames: &mut Vec<u8>,
-) -> Result<(), Reason> {
-    if log.is_at_end() {
+fn append_record(alloc: Global, log: &mut OpenLog, record: &Record) -> Result<(), Reason> {
+    if !log.has_numbers(1) {
         return Err(Reason::Ended);
     }
-    match log.opened.appender.append(alloc, record, frames) {
+    match log.opened.appender.append(alloc, record, &mut log.frames) {
         Ok(()) => {
             log.next = log.next.saturating_add(1);
             Ok(())
@@ -169,14 +156,9 @@ fn append_record(
 }
 
 // Appends the frame of a line's record.
-fn append_line(
-    alloc: Global,
-    log: &mut OpenLog,
-    text: &[u8],
-    frames: &mut Vec<u8>,
-) -> Result<(), Reason> {
+fn append_line(alloc: Global, log: &mut OpenLog, text: &[u8]) -> Result<(), Reason> {
     match read_line(alloc, log.version(), text) {
-        Ok(ScriptLine::Told(record)) => append_record(alloc, log, &record, frames),
+        Ok(ScriptLine::Told(record)) => append_record(alloc, log, &record),
         Ok(ScriptLine::Spelled) => Err(Reason::Checkpoint),
         Err(Fault::Resources) => Err(Reason::Memory),
         Err(_) => Err(reason_unread(alloc, log, text)),
@@ -189,10 +171,9 @@ fn append_next<'a>(
     log: &mut OpenLog,
     line: u64,
     rest: &'a [u8],
-    frames: &mut Vec<u8>,
 ) -> (&'a [u8], &'a [u8], Result<(), Reason>) {
     match line_at(line, rest) {
-        Ok((text, after)) => (text, after, append_line(alloc, log, text, frames)),
+        Ok((text, after)) => (text, after, append_line(alloc, log, text)),
         Err(_) => (rest, rest, Err(Reason::NoLine)),
     }
 }
@@ -203,14 +184,13 @@ fn append_lines<'a>(
     alloc: Global,
     log: &mut OpenLog,
     script: &'a [u8],
-    frames: &mut Vec<u8>,
 ) -> (u64, &'a [u8], Result<(), Reason>) {
     let (mut rest, mut count) = (script, 0u64);
     for line in 1..u64::MAX {
         if rest.is_empty() {
             break;
         }
-        let (text, after, done) = append_next(alloc, log, line, rest, frames);
+        let (text, after, done) = append_next(alloc, log, line, rest);
         if done.is_err() {
             return (count, text, done);
         }
@@ -242,20 +222,15 @@ fn refusal_of(
     }))
 }
 
-/// The frames of the records that a script tells, up to the first that may not follow. Those before
-/// it are kept if that is said.
-pub(crate) fn frames_of(
+/// Appends the frames of the records that a script tells, up to the first that may not follow. Those
+/// before it are kept if that is said.
+pub(crate) fn append_script(
     alloc: Global,
     log: &mut OpenLog,
     script: &[u8],
     keeps: bool,
 ) -> Result<Written, AllocError> {
-    let mut frames = Vec::new(alloc);
-    let (count, text, done) = append_lines(alloc, log, script, &mut frames);
+    let (count, text, done) = append_lines(alloc, log, script);
     let refused = refusal_of(alloc, count.saturating_add(1), text, done, keeps)?;
-    Ok(Written {
-        frames,
-        count,
-        refused,
-    })
+    Ok(Written { count, refused })
 }

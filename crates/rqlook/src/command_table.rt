@@ -1,13 +1,10 @@
 //! The commands of the program, with their words.
 
+use WordForm::{Flag, Letter, Several, Value, With, WithName, WithOr};
 use clap::builder::ValueParser;
+use rq_words::{SMALL, Subcommand, TEXT, WORKERS, Word, WordForm};
 
-/// What the value of a word has to be: any text.
-pub(crate) const TEXT: ValueParser<'static> = ValueParser::String;
-
-// Or a number that 32 bits hold, or 64.
-const SMALL: ValueParser<'static> = ValueParser::Signed(0, 4_294_967_295);
-
+// What the value of a word has to be: a number that 64 bits hold.
 const NUMBER: ValueParser<'static> = ValueParser::Unsigned(0, u64::MAX);
 
 // Or the name of a kind of record.
@@ -27,57 +24,17 @@ const KIND: ValueParser<'static> = ValueParser::Names(&[
 // Or that of an order of a page's queues.
 const ORDER: ValueParser<'static> = ValueParser::Names(&["depth", "number", "name"]);
 
-/// How a word is given.
-#[derive(Clone, Copy)]
-pub(crate) enum ArgumentForm {
-    /// A value, which must be there.
-    Value(ValueParser<'static>),
-    /// An option with nothing.
-    Flag,
-    /// The same, which a letter gives too.
-    Letter(char),
-    /// An option with a value, as the help calls it.
-    Option(&'static str, ValueParser<'static>),
-    /// The same, whose value may begin with a hyphen.
-    Name(&'static str),
-    /// The same, or else this value.
-    Usual(&'static str, ValueParser<'static>, &'static str),
-    /// The same, which may be given several times.
-    Several(&'static str, ValueParser<'static>),
-}
+const LOG: Word = Word(
+    "LOG",
+    Value(TEXT),
+    "The file of the log, or - for standard input",
+);
 
-/// A word of a command: its name, how it is given, and what the help says of it.
-#[derive(Clone, Copy)]
-pub(crate) struct Argument {
-    pub(crate) name: &'static str,
-    pub(crate) form: ArgumentForm,
-    pub(crate) help: &'static str,
-}
-
-/// A command: its name, what the help says of it, and its words.
-pub(crate) struct Subcommand {
-    pub(crate) name: &'static str,
-    pub(crate) about: &'static str,
-    pub(crate) words: &'static [Argument],
-}
-
-const LOG: Argument = Argument {
-    name: "LOG",
-    form: ArgumentForm::Value(TEXT),
-    help: "The file of the log, or - for standard input",
-};
-
-const WIDTH: Argument = Argument {
-    name: "width",
-    form: ArgumentForm::Option("COLUMNS", SMALL),
-    help: "Cuts lines to so many columns, 0 for none; those of the terminal if the output is one",
-};
-
-const WORKERS: Argument = Argument {
-    name: "workers",
-    form: ArgumentForm::Usual("WORKERS", SMALL, "4"),
-    help: "How many threads work, 1 to 64",
-};
+const WIDTH: Word = Word(
+    "width",
+    With("COLUMNS", SMALL),
+    "Cuts lines to so many columns, 0 for none; those of the terminal if the output is one",
+);
 
 /// The commands of the program, as its help shows them. (A function of its own, since the check of
 /// one grows with the statics that it names.)
@@ -91,51 +48,31 @@ static COMMANDS: [Subcommand; 9] = [
         about: "Shows a line for each record, and where the front ends and why",
         words: &[
             LOG,
-            Argument {
-                name: "from",
-                form: ArgumentForm::Option("OFFSET", NUMBER),
-                help: "Only records at this offset and behind it",
-            },
-            Argument {
-                name: "unit",
-                form: ArgumentForm::Option("UNIT", NUMBER),
-                help: "Only records of this unit",
-            },
-            Argument {
-                name: "queue",
-                form: ArgumentForm::Option("QUEUE", SMALL),
-                help: "Only records that define or name this queue",
-            },
-            Argument {
-                name: "registrant",
-                form: ArgumentForm::Name("NAME"),
-                help: "Only records that name this registrant",
-            },
-            Argument {
-                name: "kind",
-                form: ArgumentForm::Option("KIND", KIND),
-                help: "Only records of this kind",
-            },
-            Argument {
-                name: "limit",
-                form: ArgumentForm::Option("COUNT", NUMBER),
-                help: "At most so many records",
-            },
-            Argument {
-                name: "full",
-                form: ArgumentForm::Flag,
-                help: "Shows payloads whole",
-            },
-            Argument {
-                name: "json",
-                form: ArgumentForm::Flag,
-                help: "Shows each line as an object of JSON",
-            },
-            Argument {
-                name: "behind",
-                form: ArgumentForm::Flag,
-                help: "Shows the right frames behind the front too, each marked so",
-            },
+            Word(
+                "from",
+                With("OFFSET", NUMBER),
+                "Only records at this offset and behind it",
+            ),
+            Word("unit", With("UNIT", NUMBER), "Only records of this unit"),
+            Word(
+                "queue",
+                With("QUEUE", SMALL),
+                "Only records that define or name this queue",
+            ),
+            Word(
+                "registrant",
+                WithName("NAME"),
+                "Only records that name this registrant",
+            ),
+            Word("kind", With("KIND", KIND), "Only records of this kind"),
+            Word("limit", With("COUNT", NUMBER), "At most so many records"),
+            Word("full", Flag, "Shows payloads whole"),
+            Word("json", Flag, "Shows each line as an object of JSON"),
+            Word(
+                "behind",
+                Flag,
+                "Shows the right frames behind the front too, each marked so",
+            ),
             WIDTH,
             WORKERS,
         ],
@@ -146,11 +83,7 @@ static COMMANDS: [Subcommand; 9] = [
                 something",
         words: &[
             LOG,
-            Argument {
-                name: "quiet",
-                form: ArgumentForm::Letter('q'),
-                help: "Says nothing",
-            },
+            Word("quiet", Letter('q'), "Says nothing"),
             WIDTH,
             WORKERS,
         ],
@@ -160,16 +93,8 @@ static COMMANDS: [Subcommand; 9] = [
         about: "Shows the report of the log's restart",
         words: &[
             LOG,
-            Argument {
-                name: "queue",
-                form: ArgumentForm::Option("QUEUE", SMALL),
-                help: "Only this queue",
-            },
-            Argument {
-                name: "json",
-                form: ArgumentForm::Flag,
-                help: "Shows the report as JSON",
-            },
+            Word("queue", With("QUEUE", SMALL), "Only this queue"),
+            Word("json", Flag, "Shows the report as JSON"),
             WIDTH,
             WORKERS,
         ],
@@ -186,11 +111,11 @@ static COMMANDS: [Subcommand; 9] = [
                 from",
         words: &[
             LOG,
-            Argument {
-                name: "OUT",
-                form: ArgumentForm::Value(TEXT),
-                help: "The file of the script, or - for standard output",
-            },
+            Word(
+                "OUT",
+                Value(TEXT),
+                "The file of the script, or - for standard output",
+            ),
             WORKERS,
         ],
     },
@@ -199,16 +124,12 @@ static COMMANDS: [Subcommand; 9] = [
         about: "Shows numbers of the log: records by kind, units by outcome, and what is greatest",
         words: &[
             LOG,
-            Argument {
-                name: "json",
-                form: ArgumentForm::Flag,
-                help: "Shows them as JSON",
-            },
-            Argument {
-                name: "time",
-                form: ArgumentForm::Flag,
-                help: "Tells on standard error how long a megabyte of the log took",
-            },
+            Word("json", Flag, "Shows them as JSON"),
+            Word(
+                "time",
+                Flag,
+                "Tells on standard error how long a megabyte of the log took",
+            ),
             WIDTH,
             WORKERS,
         ],
@@ -218,11 +139,11 @@ static COMMANDS: [Subcommand; 9] = [
         about: "Shows what became of one element",
         words: &[
             LOG,
-            Argument {
-                name: "ELEMENT",
-                form: ArgumentForm::Value(NUMBER),
-                help: "The number of the record that put it in",
-            },
+            Word(
+                "ELEMENT",
+                Value(NUMBER),
+                "The number of the record that put it in",
+            ),
             WIDTH,
             WORKERS,
         ],
@@ -232,11 +153,7 @@ static COMMANDS: [Subcommand; 9] = [
         about: "Shows what one unit did, and what became of it",
         words: &[
             LOG,
-            Argument {
-                name: "UNIT",
-                form: ArgumentForm::Value(NUMBER),
-                help: "The number of the unit",
-            },
+            Word("UNIT", Value(NUMBER), "The number of the unit"),
             WIDTH,
             WORKERS,
         ],
@@ -246,26 +163,26 @@ static COMMANDS: [Subcommand; 9] = [
         about: "Makes a page of HTML that shows the log, with its queues and their elements",
         words: &[
             LOG,
-            Argument {
-                name: "OUT",
-                form: ArgumentForm::Value(TEXT),
-                help: "The file of the page, or - for standard output",
-            },
-            Argument {
-                name: "order",
-                form: ArgumentForm::Usual("ORDER", ORDER, "depth"),
-                help: "In which order the queues stand",
-            },
-            Argument {
-                name: "element",
-                form: ArgumentForm::Several("ELEMENT", NUMBER),
-                help: "Shows what became of this element also if the log is long; may be given several times",
-            },
-            Argument {
-                name: "unit",
-                form: ArgumentForm::Several("UNIT", NUMBER),
-                help: "Shows what this unit did also if the log is long; may be given several times",
-            },
+            Word(
+                "OUT",
+                Value(TEXT),
+                "The file of the page, or - for standard output",
+            ),
+            Word(
+                "order",
+                WithOr("ORDER", ORDER, "depth"),
+                "In which order the queues stand",
+            ),
+            Word(
+                "element",
+                Several("ELEMENT", NUMBER),
+                "Shows what became of this element also if the log is long; may be given several times",
+            ),
+            Word(
+                "unit",
+                Several("UNIT", NUMBER),
+                "Shows what this unit did also if the log is long; may be given several times",
+            ),
             WORKERS,
         ],
     },

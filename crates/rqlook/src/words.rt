@@ -1,86 +1,13 @@
 //! The words of the program.
 
-use crate::command_table::{Argument, ArgumentForm, Subcommand, TEXT, subcommands};
-use clap::builder::ValueParser;
-use clap::{Arg, ArgAction, ArgMatches, Command};
+use crate::command_table::subcommands;
+use clap::{ArgMatches, Command};
 use rq_file::VERSION;
 use rq_found::Subject;
 use rq_look::Wanted;
 use rq_page::Order;
+use rq_words::commands;
 use std::alloc::{AllocError, Global};
-
-fn plain<'a>(alloc: Global, word: &Argument) -> Arg<'a> {
-    Arg::new(alloc, word.name).help(word.help)
-}
-
-fn flag<'a>(alloc: Global, word: &Argument) -> Arg<'a> {
-    plain(alloc, word)
-        .long(word.name)
-        .action(ArgAction::SetTrue)
-}
-
-fn option<'a>(
-    alloc: Global,
-    word: &Argument,
-    value: &'static str,
-    parser: ValueParser<'static>,
-) -> Arg<'a> {
-    plain(alloc, word)
-        .long(word.name)
-        .value_name(value)
-        .value_parser(parser)
-}
-
-fn argument<'a>(alloc: Global, word: &Argument) -> Arg<'a> {
-    match word.form {
-        ArgumentForm::Value(parser) => plain(alloc, word).required(true).value_parser(parser),
-        ArgumentForm::Flag => flag(alloc, word),
-        ArgumentForm::Letter(letter) => flag(alloc, word).short(letter),
-        ArgumentForm::Option(value, parser) => option(alloc, word, value, parser),
-        ArgumentForm::Name(value) => option(alloc, word, value, TEXT).allow_hyphen_values(true),
-        ArgumentForm::Usual(value, parser, usual) => {
-            option(alloc, word, value, parser).default_value(usual)
-        }
-        ArgumentForm::Several(value, parser) => {
-            option(alloc, word, value, parser).action(ArgAction::Append)
-        }
-    }
-}
-
-fn arguments<'a>(alloc: Global, words: &'static [Argument]) -> Result<Vec<Arg<'a>>, AllocError> {
-    let mut arguments = Vec::new(alloc);
-    for word in words {
-        arguments.push(argument(alloc, word))?;
-    }
-    Ok(arguments)
-}
-
-fn command_of<'a>(alloc: Global, text: &Subcommand) -> Result<Command<'a>, AllocError> {
-    let arguments = arguments(alloc, text.words)?;
-    Command::new(alloc, text.name)
-        .about(text.about)
-        .args(arguments)
-}
-
-fn add_command<'a>(
-    alloc: Global,
-    text: &Subcommand,
-    commands: &mut Vec<Command<'a>>,
-) -> Result<(), AllocError> {
-    commands.push(command_of(alloc, text)?)?;
-    Ok(())
-}
-
-fn commands<'a>(
-    alloc: Global,
-    texts: &'static [Subcommand],
-) -> Result<Vec<Command<'a>>, AllocError> {
-    let mut commands = Vec::new(alloc);
-    for text in texts {
-        add_command(alloc, text, &mut commands)?;
-    }
-    Ok(commands)
-}
 
 // The program without its commands.
 fn bare<'a>(alloc: Global) -> Command<'a> {

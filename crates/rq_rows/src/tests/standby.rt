@@ -304,12 +304,6 @@ fn stops_behind_four<R: Threads + Sync + AllocGlobal>(rt: &R) -> Result<bool, Fa
     Ok(stops(rt, &mut keeper, &log, &records, &plan))
 }
 
-#[test]
-fn a_keeper_stops_before_an_unlawful_record(rt: HostRuntime) -> Result<(), Fail> {
-    assert!(rt; stops_behind_four(&rt)?);
-    Ok(())
-}
-
 // How many records a keeper takes of a KILL of the element of record 2.
 fn killed<R: Threads + Sync + AllocGlobal>(
     rt: &R,
@@ -358,12 +352,6 @@ fn kills_by_version<R: Threads + Sync + AllocGlobal>(rt: &R) -> Result<bool, Fai
     Ok(first && after_kill(rt, Version::Two)? == (Some(4), Some(1), Some((5, 0, 0))))
 }
 
-#[test]
-fn a_keeper_goes_by_the_rules_of_its_version(rt: HostRuntime) -> Result<(), Fail> {
-    assert!(rt; kills_by_version(&rt)?);
-    Ok(())
-}
-
 // A state that spells nothing but the number of its next record.
 fn state_before(alloc: Global, next: u64) -> Result<State, Fail> {
     let mut bytes = [0u8; 52];
@@ -402,8 +390,16 @@ fn is_full<R: Threads + Sync + AllocGlobal>(rt: &R) -> Result<bool, Fail> {
 }
 
 #[test]
-fn a_keeper_takes_no_more_records_than_a_log_may_have(rt: HostRuntime) -> Result<(), Fail> {
-    assert!(rt; is_full(&rt)?);
+fn a_keeper_takes_no_record_too_many(rt: HostRuntime) -> Result<(), Fail> {
+    assert!(rt;
+        stops_behind_four(&rt)?,
+        "it stops before an unlawful record"
+    );
+    assert!(rt;
+        kills_by_version(&rt)?,
+        "it goes by the rules of its version"
+    );
+    assert!(rt; is_full(&rt)?, "it takes no more than a log may have");
     Ok(())
 }
 
@@ -497,12 +493,6 @@ fn come_to_one_state<R: Threads + Sync + AllocGlobal>(rt: &R) -> Result<bool, Fa
     )
 }
 
-#[test]
-fn large_and_small_pieces_come_to_one_state(rt: HostRuntime) -> Result<(), Fail> {
-    assert!(rt; come_to_one_state(&rt)?);
-    Ok(())
-}
-
 // By how many of the records a new machine goes on, by a plan of this grain.
 fn went_on<R: Threads + Sync + AllocGlobal>(
     rt: &R,
@@ -525,7 +515,8 @@ fn goes_on_by_all<R: Threads + Sync + AllocGlobal>(rt: &R) -> Result<bool, Fail>
 }
 
 #[test]
-fn a_machine_goes_on_as_far_as_is_lawful(rt: HostRuntime) -> Result<(), Fail> {
-    assert!(rt; goes_on_by_all(&rt)?);
+fn large_and_small_pieces_come_to_one_state(rt: HostRuntime) -> Result<(), Fail> {
+    assert!(rt; come_to_one_state(&rt)?);
+    assert!(rt; goes_on_by_all(&rt)?, "as far as is lawful");
     Ok(())
 }

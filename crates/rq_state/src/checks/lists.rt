@@ -14,7 +14,8 @@ use crate::checks::members::{
 };
 use crate::fields::KeptFields;
 use crate::kept_element::KeptElement;
-use crate::members::{Definition, Note, Registrant};
+use crate::kept_registrant::KeptRegistrant;
+use crate::members::{Definition, Note};
 use rq_record::UnitNo;
 
 pub(crate) fn do_units_rise(units: &[UnitNo]) -> bool
@@ -23,7 +24,7 @@ pub(crate) fn do_units_rise(units: &[UnitNo]) -> bool
     units.is_sorted_by(|one, next| one.0 < next.0)
 }
 
-pub(crate) fn do_registrants_rise(registrants: &[Registrant]) -> bool
+pub(crate) fn do_registrants_rise(registrants: &[KeptRegistrant]) -> bool
     ensures { IsTrue result ↔ Ordered (λ r t. model.registrant_before r t ≡ true) registrants.now }
 {
     registrants.is_sorted_by(|one, next| one.is_before(next))

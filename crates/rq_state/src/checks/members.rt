@@ -1,6 +1,6 @@
 //! What each member of a well-formed state keeps.
 
-ghost use Rattle.std.specs.Prelude.{◌≡◌, ◌<◌, ℕ, true, length, map};
+ghost use Rattle.std.specs.Prelude.{◌≡◌, ◌<◌, ℕ, true, length, map, option_map};
 ghost use Rattle.rq_model.specs.States.{State, registrant_before, definition_at};
 ghost use Rattle.rq_model.specs.WellFormed.{Ordered};
 ghost use Rattle.rq_state.specs.Inside.{state_of};
@@ -12,7 +12,8 @@ ghost use Rattle.rq_state.specs.Views.{kind_of, mark_of, id_of, unit_of};
 use crate::checks::searches::{has_registrant, has_unit};
 use crate::fields::KeptFields;
 use crate::kept_element::KeptElement;
-use crate::members::{Definition, Last, Mark, Note, OpKind, Registrant};
+use crate::kept_registrant::KeptRegistrant;
+use crate::members::{Definition, Last, Mark, Note, OpKind};
 use rq_record::{ElemId, QueueNo, UnitNo};
 
 /// At least 1, and at most the greatest unit that began.
@@ -108,8 +109,8 @@ fn is_last(next: u64, last: &Last) -> bool
     last.place < next && is_operation(last.kind, last.place, last.element)
 }
 
-fn is_optional(next: u64, last: &Option<Last>) -> bool
-    ensures { result ≡ optional_test next last.now }
+fn is_optional(next: u64, last: Option<&Last>) -> bool
+    ensures { result ≡ optional_test next (option_map (λ l. l.now) last.entry) }
 {
     match last {
         None => true,
@@ -118,11 +119,11 @@ fn is_optional(next: u64, last: &Option<Last>) -> bool
 }
 
 /// A registrant of a queue that is defined, whose last operation is below the next record number.
-pub(crate) fn is_registrant(fields: &KeptFields, registrant: &Registrant) -> bool
+pub(crate) fn is_registrant(fields: &KeptFields, registrant: &KeptRegistrant) -> bool
     ensures { result ≡ registrant_test (state_of fields.now) registrant.now }
 {
-    (registrant.queue.0 as usize) < fields.definitions.len()
-        && is_optional(fields.next, &registrant.last)
+    (registrant.queue().0 as usize) < fields.definitions.len()
+        && is_optional(fields.next, registrant.last())
 }
 
 /// A note of an open unit and a registrant, whose operation is below the next record number.

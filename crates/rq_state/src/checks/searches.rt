@@ -6,7 +6,7 @@ ghost use Rattle.rq_model.specs.States.{is_registrant, registrant_before};
 ghost use Rattle.rq_model.specs.WellFormed.{Ordered};
 ghost use Rattle.rq_state.specs.Views.{unit_of};
 
-use crate::members::Registrant;
+use crate::kept_registrant::KeptRegistrant;
 use rq_record::{Name, QueueNo, UnitNo};
 
 /// Whether the unit is among these, which rise.
@@ -18,7 +18,7 @@ pub(crate) fn has_unit(units: &[UnitNo], unit: UnitNo) -> bool
 }
 
 /// Whether a registrant of that name is among these, which rise by queue and name.
-pub(crate) fn has_registrant(registrants: &[Registrant], queue: QueueNo, name: Name) -> bool
+pub(crate) fn has_registrant(registrants: &[KeptRegistrant], queue: QueueNo, name: Name) -> bool
     requires { Ordered (λ r t. registrant_before r t ≡ true) registrants.now }
     ensures { result ≡ list_any (is_registrant queue.0 name) registrants.now }
 {

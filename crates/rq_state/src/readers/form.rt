@@ -7,7 +7,8 @@ ghost use Rattle.rq_model.specs.StateReading.{note_read};
 ghost use Rattle.rq_state.specs.Reading.{passed, form_read};
 
 use crate::kept_element::KeptElement;
-use crate::members::{Definition, Note, Registrant};
+use crate::kept_registrant::KeptRegistrant;
+use crate::members::{Definition, Note};
 use crate::readers::members::{Member, take_unit};
 use rq_bytes::Cursor;
 
@@ -63,7 +64,7 @@ pub(crate) fn check_form(bytes: &[u8]) -> Option<()>
     let _aborted = bytes.u64()?;
     pass_all::<Definition>(&mut bytes)?;
     pass_all_units(&mut bytes)?;
-    pass_all::<Registrant>(&mut bytes)?;
+    pass_all::<KeptRegistrant>(&mut bytes)?;
     pass_all::<KeptElement>(&mut bytes)?;
     pass_all::<Note>(&mut bytes)?;
     bytes.end()

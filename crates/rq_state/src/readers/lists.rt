@@ -10,7 +10,8 @@ ghost use Rattle.rq_model.specs.StateReading.{note_read, state_read};
 
 use crate::fields::KeptFields;
 use crate::kept_element::KeptElement;
-use crate::members::{Definition, Note, Registrant};
+use crate::kept_registrant::KeptRegistrant;
+use crate::members::{Definition, Note};
 use crate::readers::members::{Member, take_unit};
 use rq_bytes::Cursor;
 use rq_record::{Fault, UnitNo};
@@ -25,7 +26,8 @@ fn take_members<M: Member>(
     ensures { GivesFromCheckpoint (λ x. (x.items, bytes.new)) result
         (members M.read count bytes.old) }
 {
-    let mut members = Vec::new(alloc);
+    // The form was looked at before: the bytes have as many members as the count says.
+    let mut members = Vec::with_capacity(alloc, count as usize)?;
     for _ in 0..count {
         let member = M::take(alloc, bytes)?;
         members.push(member)?;
@@ -75,7 +77,7 @@ fn take_fields(alloc: Global, bytes: &mut Cursor<'_>) -> Result<KeptFields, Faul
     let aborted = bytes.u64().ok_or(Fault::BadCheckpoint)?;
     let definitions = take_all::<Definition>(alloc, bytes)?;
     let units = take_all_units(alloc, bytes)?;
-    let registrants = take_all::<Registrant>(alloc, bytes)?;
+    let registrants = take_all::<KeptRegistrant>(alloc, bytes)?;
     let elements = take_all::<KeptElement>(alloc, bytes)?;
     let notes = take_all::<Note>(alloc, bytes)?;
     Ok(KeptFields {

@@ -11,6 +11,7 @@ ghost use Rattle.rq_state.specs.Views.{mark_of, kind_of, id_of, unit_of};
 ghost use Rattle.rq_state.specs.Reading.{GivesFromCheckpoint, passed};
 
 use crate::kept_element::KeptElement;
+use crate::kept_registrant::KeptRegistrant;
 use crate::members::{Definition, Last, Mark, Note, OpKind, Registrant};
 use rq_bytes::Cursor;
 use rq_record::{ElemId, Fault, KeptPayload, Name, QueueNo, UnitNo};
@@ -105,7 +106,7 @@ fn take_last(bytes: &mut Cursor<'_>) -> Option<Option<Last>>
 }
 
 #[tactic(auto, unfolding(rq_model::specs::StateReading::registrant_read))]
-pub(crate) fn take_registrant(bytes: &mut Cursor<'_>) -> Option<Registrant>
+fn take_registrant(bytes: &mut Cursor<'_>) -> Option<Registrant>
     ensures { option_map (λ x. (x, bytes.new)) result ≡ registrant_read bytes.old }
 {
     let queue = bytes.u32()?;
@@ -116,6 +117,14 @@ pub(crate) fn take_registrant(bytes: &mut Cursor<'_>) -> Option<Registrant>
         name,
         last,
     })
+}
+
+fn take_kept_registrant(alloc: Global, bytes: &mut Cursor<'_>) -> Result<KeptRegistrant, Fault>
+    ensures { GivesFromCheckpoint (λ x. (x, bytes.new)) result (registrant_read bytes.old) }
+{
+    let registrant = take_registrant(bytes).ok_or(Fault::BadCheckpoint)?;
+    let kept = KeptRegistrant::of(alloc, &registrant)?;
+    Ok(kept)
 }
 
 #[tactic(auto, unfolding(rq_model::specs::StateReading::mark_read))]
@@ -237,11 +246,11 @@ impl Member for Definition {
     }
 }
 
-impl Member for Registrant {
+impl Member for KeptRegistrant {
     ghost read = { registrant_read };
 
-    fn take(_alloc: Global, bytes: &mut Cursor<'_>) -> Result<Registrant, Fault> {
-        take_registrant(bytes).ok_or(Fault::BadCheckpoint)
+    fn take(alloc: Global, bytes: &mut Cursor<'_>) -> Result<KeptRegistrant, Fault> {
+        take_kept_registrant(alloc, bytes)
     }
 
     fn pass(bytes: &mut Cursor<'_>) -> Option<()> {

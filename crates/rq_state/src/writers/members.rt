@@ -1,6 +1,6 @@
 //! Appends members of a state to what is spelled already.
 
-ghost use Rattle.std.specs.Prelude.{◌≡◌, ◌++◌, ◌∷◌, [], ℕ, List, length};
+ghost use Rattle.std.specs.Prelude.{◌≡◌, ◌++◌, ◌∷◌, [], ℕ, List, length, option_map};
 ghost use Rattle.std.specs.Int.{w16, w64, to_be_bytes};
 ghost use Rattle.rq_model.specs.StateSpelling.{name_bytes, element_number, kind_byte};
 ghost use Rattle.rq_model.specs.StateSpelling.{definition_bytes, last_bytes, registrant_bytes};
@@ -9,9 +9,12 @@ ghost use Rattle.rq_state.specs.Views.{mark_of};
 ghost use Rattle.rq_state.specs.Writing.{PutsSpelling};
 
 use crate::kept_element::KeptElement;
-use crate::members::{Definition, Last, Mark, Note, Registrant};
+use crate::kept_registrant::KeptRegistrant;
+use crate::members::{Definition, Last, Mark, Note};
 use crate::writers::output::{put_id, put_kind, put_name, put_payload};
-use crate::writers::sizes::{definition_size, element_size, note_size, registrant_size};
+use crate::writers::sizes::{
+    SHORTEST_DEFINITION, SHORTEST_ELEMENT, SHORTEST_NOTE, SHORTEST_REGISTRANT, last_size, mark_size,
+};
 use rq_bytes::{put_u8, put_u16, put_u32, put_u64};
 use std::alloc::AllocError;
 
@@ -56,29 +59,14 @@ fn put_operation(out: &mut Vec<u8>, last: &Last) -> Result<(), AllocError>
     put_operation_end(out, last)
 }
 
-fn put_last(out: &mut Vec<u8>, last: &Option<Last>) -> Result<(), AllocError>
-    ensures { PutsSpelling out.old.items out.new.items (last_bytes last.now) result }
+fn put_last(out: &mut Vec<u8>, last: Option<&Last>) -> Result<(), AllocError>
+    ensures { PutsSpelling out.old.items out.new.items
+        (last_bytes (option_map (λ l. l.now) last.entry)) result }
 {
     match last {
         None => put_u8(out, 0),
         Some(last) => put_operation(out, last),
     }
-}
-
-pub(crate) fn put_definition(out: &mut Vec<u8>, definition: &Definition) -> Result<(), AllocError>
-    ensures { PutsSpelling out.old.items out.new.items (definition_bytes definition.now) result }
-{
-    put_u16(out, definition.limit)?;
-    put_u32(out, definition.error.0)?;
-    put_name(out, &definition.name)
-}
-
-pub(crate) fn put_registrant(out: &mut Vec<u8>, registrant: &Registrant) -> Result<(), AllocError>
-    ensures { PutsSpelling out.old.items out.new.items (registrant_bytes registrant.now) result }
-{
-    put_u32(out, registrant.queue.0)?;
-    put_name(out, &registrant.name)?;
-    put_last(out, &registrant.last)
 }
 
 fn put_element_end(out: &mut Vec<u8>, element: &KeptElement) -> Result<(), AllocError>
@@ -90,15 +78,6 @@ fn put_element_end(out: &mut Vec<u8>, element: &KeptElement) -> Result<(), Alloc
     put_u64(out, element.attempts)?;
     put_mark(out, element.mark)?;
     put_payload(out, element.payload.bytes())
-}
-
-pub(crate) fn put_element(out: &mut Vec<u8>, element: &KeptElement) -> Result<(), AllocError>
-    ensures { PutsSpelling out.old.items out.new.items (element_bytes element.now) result }
-{
-    put_u64(out, element.id.0)?;
-    put_u32(out, element.home.0)?;
-    put_u32(out, element.origin.0)?;
-    put_element_end(out, element)
 }
 
 // The kind, the tag and the element of a note's operation; its place comes before them.
@@ -121,15 +100,6 @@ fn put_note_end(out: &mut Vec<u8>, note: &Note) -> Result<(), AllocError>
     put_done(out, &note.last)
 }
 
-pub(crate) fn put_note(out: &mut Vec<u8>, note: &Note) -> Result<(), AllocError>
-    ensures { PutsSpelling out.old.items out.new.items (note_bytes note.now) result }
-{
-    put_u64(out, note.last.place)?;
-    put_u64(out, note.unit.0)?;
-    put_u32(out, note.queue.0)?;
-    put_note_end(out, note)
-}
-
 /// A member of one of a state's lists, and how it is spelled.
 pub(crate) trait Spell: Drop {
     ghost spelling: { Self → List ℕ };
@@ -147,23 +117,27 @@ impl Spell for Definition {
     ghost spelling = { definition_bytes };
 
     fn put(&self, out: &mut Vec<u8>) -> Result<(), AllocError> {
-        put_definition(out, self)
+        put_u16(out, self.limit)?;
+        put_u32(out, self.error.0)?;
+        put_name(out, &self.name)
     }
 
     fn size(&self) -> u32 {
-        definition_size(self)
+        SHORTEST_DEFINITION + self.name.bytes().len() as u32
     }
 }
 
-impl Spell for Registrant {
+impl Spell for KeptRegistrant {
     ghost spelling = { registrant_bytes };
 
     fn put(&self, out: &mut Vec<u8>) -> Result<(), AllocError> {
-        put_registrant(out, self)
+        put_u32(out, self.queue().0)?;
+        put_name(out, &self.name().name())?;
+        put_last(out, self.last())
     }
 
     fn size(&self) -> u32 {
-        registrant_size(self)
+        SHORTEST_REGISTRANT - 1 + self.name().bytes().len() as u32 + last_size(self.last())
     }
 }
 
@@ -171,11 +145,14 @@ impl Spell for KeptElement {
     ghost spelling = { element_bytes };
 
     fn put(&self, out: &mut Vec<u8>) -> Result<(), AllocError> {
-        put_element(out, self)
+        put_u64(out, self.id.0)?;
+        put_u32(out, self.home.0)?;
+        put_u32(out, self.origin.0)?;
+        put_element_end(out, self)
     }
 
     fn size(&self) -> u32 {
-        element_size(self)
+        SHORTEST_ELEMENT - 1 + mark_size(self.mark) + self.payload.bytes().len() as u32
     }
 }
 
@@ -183,10 +160,13 @@ impl Spell for Note {
     ghost spelling = { note_bytes };
 
     fn put(&self, out: &mut Vec<u8>) -> Result<(), AllocError> {
-        put_note(out, self)
+        put_u64(out, self.last.place)?;
+        put_u64(out, self.unit.0)?;
+        put_u32(out, self.queue.0)?;
+        put_note_end(out, self)
     }
 
     fn size(&self) -> u32 {
-        note_size(self)
+        SHORTEST_NOTE + self.name.bytes().len() as u32
     }
 }

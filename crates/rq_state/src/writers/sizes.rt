@@ -1,16 +1,14 @@
 //! How long a spelling is, known before its first byte is written.
 
-ghost use Rattle.std.specs.Prelude.{◌≡◌, ◌≤◌, ◌*◌, length, map};
+ghost use Rattle.std.specs.Prelude.{◌≡◌, ◌≤◌, ◌*◌, length, map, option_map};
 ghost use Rattle.std.specs.List.{flat_map};
 ghost use Rattle.std.specs.Int.{w64, to_be_bytes};
-ghost use Rattle.rq_model.specs.StateSpelling.{definition_bytes, last_bytes, registrant_bytes};
-ghost use Rattle.rq_model.specs.StateSpelling.{mark_bytes, element_bytes, note_bytes, state_bytes};
+ghost use Rattle.rq_model.specs.StateSpelling.{last_bytes, mark_bytes, state_bytes};
 ghost use Rattle.rq_state.specs.Inside.{state_of};
 ghost use Rattle.rq_state.specs.Views.{mark_of, unit_of};
 
 use crate::fields::KeptFields;
-use crate::kept_element::KeptElement;
-use crate::members::{Definition, Last, Mark, Note, Registrant};
+use crate::members::{Last, Mark};
 use crate::state::State;
 use crate::writers::members::Spell;
 use rq_record::UnitNo;
@@ -28,14 +26,9 @@ pub const SHORTEST_NOTE: u32 = 38;
 /// The bytes of a state without members: four numbers of 8 bytes and five counts of 4.
 pub const SHORTEST_STATE: u32 = 52;
 
-pub(crate) fn definition_size(definition: &Definition) -> u32
-    ensures { result ≡ length (definition_bytes definition.now) }
-{
-    SHORTEST_DEFINITION + definition.name.bytes().len() as u32
-}
-
-fn last_size(last: &Option<Last>) -> u32
-    ensures size { result ≡ length (last_bytes last.now) }
+/// How many bytes spell what a registrant did last.
+pub(crate) fn last_size(last: Option<&Last>) -> u32
+    ensures size { result ≡ length (last_bytes (option_map (λ l. l.now) last.entry)) }
     ensures small { result ≤ 25 }
 {
     match last {
@@ -44,13 +37,8 @@ fn last_size(last: &Option<Last>) -> u32
     }
 }
 
-pub(crate) fn registrant_size(registrant: &Registrant) -> u32
-    ensures { result ≡ length (registrant_bytes registrant.now) }
-{
-    SHORTEST_REGISTRANT - 1 + registrant.name.bytes().len() as u32 + last_size(&registrant.last)
-}
-
-fn mark_size(mark: Mark) -> u32
+/// How many bytes spell a mark.
+pub(crate) fn mark_size(mark: Mark) -> u32
     ensures size { result ≡ length (mark_bytes (mark_of mark)) }
     ensures small { result ≤ 9 }
 {
@@ -58,18 +46,6 @@ fn mark_size(mark: Mark) -> u32
         Mark::Free => 1,
         _ => 9,
     }
-}
-
-pub(crate) fn element_size(element: &KeptElement) -> u32
-    ensures { result ≡ length (element_bytes element.now) }
-{
-    SHORTEST_ELEMENT - 1 + mark_size(element.mark) + element.payload.bytes().len() as u32
-}
-
-pub(crate) fn note_size(note: &Note) -> u32
-    ensures { result ≡ length (note_bytes note.now) }
-{
-    SHORTEST_NOTE + note.name.bytes().len() as u32
 }
 
 fn size_of_all<M: Spell>(members: &[M]) -> u128

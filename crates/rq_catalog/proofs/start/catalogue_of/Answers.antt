@@ -9,14 +9,14 @@ returns-in_err-touching-clause-refused c =
 pub returns-clause-follows : goal.returns-clause-follows
 returns-clause-follows c =
     let begun = c.in_ok-units.ensures in
-    let marked = c.in_ok-engage_by_marks.ensures in
-    let noted = c.in_ok-engage_by_notes.ensures in
+    let marked = c.in_ok-engage_by_marks.ensures.engaged in
+    let noted = c.in_ok-engage_by_notes.ensures.engaged in
     starts _ _ _ _ _ c.units.ensures c.elements.ensures c.notes.ensures c.in_ok-grounds.ensures.knows
     c.committed.ensures c.aborted.ensures
-    (noted.numbers ∙ marked.numbers ∙ begun.numbers)
-    (λ u. noted.outcomes u ∙ marked.outcomes u ∙ begun.outcomes u)
-    (λ u q. engaged_in_turn _ _ _ _ _ _ u q (marked.numbers ∙ begun.numbers) begun.numbers
-    (noted.engaged u q) (marked.engaged u q) (begun.engaged u q))
+    (noted.0 ∙ marked.0 ∙ begun.numbers)
+    (λ u. noted.1 u ∙ marked.1 u ∙ begun.outcomes u)
+    (λ u q. engaged_in_turn _ _ _ _ _ _ u q (marked.0 ∙ begun.numbers) begun.numbers
+    (noted.3 u q) (marked.3 u q) (begun.engaged u q))
     (c.in_ok-touching.ensures.len ∙ c.definition_count.ensures) c.in_ok-touching.ensures.listed
     c.requires
 

@@ -1,13 +1,10 @@
-use Rattle.std.proofs.Common.{◌≡◌, ℕ, ◌||◌, ◌&&◌, take}
+use Rattle.std.proofs.Common.{take}
 use Rattle.std.specs.List.{list_any}
 use Rattle.rq_catalog.specs.Members.{is_marked_at}
-use Rattle.rq_catalog.specs.Units.{numbers, has_unit, outcome_at, engages_at}
+use Rattle.rq_catalog.specs.Units.{EngagesToo}
 use Rattle.rq_catalog.proofs.start.engage_by_marks.Given as goal
 
 abbrev pub invariant-loop-element : goal.invariant-loop-element
-invariant-loop-element l =
-    (numbers l.units ≡ numbers l.fn.units)
-    × ((u : ℕ) → outcome_at l.units u ≡ outcome_at l.fn.units u)
-    × ((u q : ℕ) → engages_at l.units u q
-    ≡ ((has_unit l.fn.units u && list_any (is_marked_at u q) (take l.element-index l.elements))
-    || engages_at l.fn.units u q))
+invariant-loop-element g l =
+    EngagesToo g.E.Engaging.numbers_of g.E.Engaging.outcome_in g.E.Engaging.has g.E.Engaging.engages l.fn.units
+    (λ u q. list_any (is_marked_at u q) (take l.element-index l.elements)) l.units

@@ -3,10 +3,7 @@ use Rattle.rq_judged.proofs.bodies.+shares.Given as goal
 
 -- the others are fewer workers
 abbrev pub decreases-read_apart : goal.decreases-read_apart
-decreases-read_apart g l = 3 * l.workers
+decreases-read_apart g l = 2 * l.workers
 
-abbrev pub decreases-read_whole : goal.decreases-read_whole
-decreases-read_whole g l = 3 * l.workers + 1
-
-abbrev pub decreases-read_apart-join+arg2 : goal.decreases-read_apart-join+arg2
-decreases-read_apart-join+arg2 g l = 3 * l.fewer + 2
+abbrev pub decreases-join+arg2 : goal.decreases-join+arg2
+decreases-join+arg2 g l = 2 * l.fewer + 1

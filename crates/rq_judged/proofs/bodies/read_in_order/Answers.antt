@@ -10,8 +10,8 @@ use Rattle.rq_judged.proofs.bodies.read_in_order.Goals as goal
 pub returns-in-Err-Form-clause-records : goal.returns-in-Err-Form-clause-records
 returns-in-Err-Form-clause-records c =
     let d : Span = record { start = 0; len = 0 } in
-    let body = body_at c.args.bytes.now (get_or c.args.spans.now c.loop-span.span-index d) in
-    read_stop (version_of c.args.version) c.args.bytes.now c.args.spans.now c.loop-span.span-index d _
+    let body = body_at c.args.log.now (get_or c.args.spans.now c.loop-span.span-index d) in
+    read_stop (version_of c.args.version) c.args.log.now c.args.spans.now c.loop-span.span-index d _
     (omega arith) c.loop-span.invariant.records c.loop-span.invariant.spelled
     (subst (λ (e : Fault). Decodes (version_of c.args.version) body (Err e)) c.in-Err-Form.field-0-is
     c.in-Err-Form.ensures.decodes)

@@ -9,5 +9,5 @@ use Rattle.rq_judged.proofs.bodies.read_in_order.Given as goal
 abbrev pub invariant-loop-span : goal.invariant-loop-span
 invariant-loop-span l = record {
   records : AllByRecursion (IsRecord (version_of l.version)) (map record_of l.records.items);
-  spelled : bodies_at l.bytes (take l.span-index l.spans) ≡ bodies_of (map record_of l.records.items);
+  spelled : bodies_at l.log (take l.span-index l.spans) ≡ bodies_of (map record_of l.records.items);
 }

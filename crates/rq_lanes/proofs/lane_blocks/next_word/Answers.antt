@@ -17,8 +17,14 @@ returns-clause-value g c j h =
       c.add-word.ensures j h,
       c.add-sum1.ensures j h,
       c.add-sum0.ensures j h,
-      c.small_sigma1-high.ensures j h,
-      c.small_sigma0-low.ensures j h,
+      c.xor_three-high.ensures j h,
+      c.rotate.ensures j h,
+      c.rotate-2.ensures j h,
+      c.shift.ensures j h,
+      c.xor_three-low.ensures j h,
+      c.rotate-3.ensures j h,
+      c.rotate-4.ensures j h,
+      c.shift-2.ensures j h,
     ) refl
 
 pub returns-clause-window : goal.returns-clause-window

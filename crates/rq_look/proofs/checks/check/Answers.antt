@@ -1,5 +1,4 @@
 use Rattle.std.proofs.Common.{◌∙◌, ◌++◌, List, ℕ, Option, false, ap, subst, sym, refl, codes, string_bytes}
-use Rattle.rq_model.specs.Fronts.{Why}
 use Rattle.rq_found.specs.Ends.{end_line, IsRestartFrom}
 use Rattle.rq_found.proofs.Lines.{same_line}
 use Rattle.rq_judged.specs.Views.{why_of}
@@ -20,17 +19,20 @@ returns-in-None-clause-checked g c =
     let reason = string_bytes c.in_ok-end.end.reason in
     let behind = c.in_ok-behind.behind in
     let found = c.in_ok-found-in-None.found in
-    let h = c.in_ok-found-in-None.ensures.audited in
+    let checkpoints = c.in_ok-checkpoints-in-None.checkpoints.items in
+    let is = c.in_ok-found-in-None.ensures in
+    let all = c.deref.ensures.value in
     subst (λ (at : Option ℕ). IsFindings at b found.fine (string_bytes found.text)) (sym c.in-None.is) (
       end.0,
-      h.0,
+      checkpoints,
       behind,
       reason,
       subst (λ (at : Option ℕ). IsRestartFrom at b end.0) c.in-None.is end.1,
-      h.1,
+      c.in_ok-checkpoints-in-None.ensures.2,
       subst (λ (used : ℕ). IsBehind b used behind) end.2.used c.in_ok-behind.ensures.found,
-      h.2 ∙ ap (λ (why : Why). all_fine why h.0) end.2.why,
-      h.3 ∙ (λ i. findings_text (end.2.records i) (end.2.used i) (end.2.total i) (end.2.why i) reason behind h.0),
+      is.fine ∙ (λ i. all_fine (end.2.why i) (all i)),
+      is.text
+          ∙ (λ i. findings_text (end.2.records i) (end.2.used i) (end.2.total i) (end.2.why i) reason behind (all i)),
     )
 
 pub returns-clause-checked : goal.returns-clause-checked

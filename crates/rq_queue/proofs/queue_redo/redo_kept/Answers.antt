@@ -1,11 +1,5 @@
-use Rattle.std.proofs.Common.{◌≡◌, List, sym, ◌∙◌, subst}
-use Rattle.std.proofs.lemmas.Result.{IfOk-weaker}
-use Rattle.rq_model.specs.Machine.{run}
-use Rattle.rq_model.specs.Queues.{part_of, moves}
-use Rattle.rq_model.specs.Records.{Version, Record}
-use Rattle.rq_model.specs.Redo.{redone, all_sent}
-use Rattle.rq_model.specs.States.{State}
-use Rattle.rq_queue.specs.Case.{AreRising, IsCase}
+use Rattle.std.proofs.Common.{sym, ◌∙◌, subst}
+use Rattle.rq_queue.specs.Case.{AreRising}
 use Rattle.rq_queue.proofs.Cases.{goes_well, arrivals_rise, redone_part, sent_moves}
 use Rattle.rq_queue.proofs.queue_redo.redo_kept.Goals as goal
 
@@ -18,22 +12,10 @@ pub redo_in_order-requires-clause-rising : goal.redo_in_order-requires-clause-ri
 redo_in_order-requires-clause-rising c =
     subst AreRising (sym c.requires.3.are_arrivals) (arrivals_rise c.requires.1 c.requires.2 c.args.part.queue)
 
-pub returns-clause-part : goal.returns-clause-part
-returns-clause-part c =
+pub returns-clause-redone : goal.returns-clause-redone
+returns-clause-redone c = λ version s rs k.
     let ops = c.args.ops.now in
-    let ms = c.args.arrivals.items in
-    IfOk-weaker c.redo_in_order.result (λ r. r.0 ≡ redone c.args.part ops ms)
-    (λ r. (version : Version) (s : State) (rs : List Record) → IsCase version s rs c.args.part ops ms
-    → r.0 ≡ part_of (run s rs) c.args.part.queue)
-    (λ r is version s rs k. is ∙ redone_part c.projection.ensures version s rs c.args.part ops ms k)
-    c.redo_in_order.ensures.part
-
-pub returns-clause-moves : goal.returns-clause-moves
-returns-clause-moves c =
-    let ops = c.args.ops.now in
-    let ms = c.args.arrivals.items in
-    IfOk-weaker c.redo_in_order.result (λ r. r.1.items ≡ all_sent c.args.part ops ms)
-    (λ r. (version : Version) (s : State) (rs : List Record) → IsCase version s rs c.args.part ops ms
-    → r.1.items ≡ moves s rs c.args.part.queue)
-    (λ r is version s rs k. is ∙ sent_moves c.projection.ensures version s rs c.args.part ops ms k)
-    c.redo_in_order.ensures.sent
+    let ms = c.args.arrivals.items in (
+      c.in_ok-redone.ensures.part ∙ redone_part c.projection.ensures version s rs c.args.part ops ms k,
+      c.in_ok-redone.ensures.sent ∙ sent_moves c.projection.ensures version s rs c.args.part ops ms k,
+    )

@@ -5,6 +5,6 @@ use Rattle.rq_queue.specs.Roll.{registrant_of}
 use Rattle.rq_state.specs.Comparing.{left_after}
 use Rattle.rq_queue.proofs.registrants.compare_each.Given as goal
 
-abbrev pub invariant-loop-key : goal.invariant-loop-key
-invariant-loop-key l = left_after (flat_map registrant_bytes (map registrant_of l.key-iterator)) l.bytes
-    ≡ left_after (flat_map registrant_bytes (map registrant_of l.lasts.entries)) l.fn.bytes
+abbrev pub invariant-loop-name : goal.invariant-loop-name
+invariant-loop-name l = left_after (flat_map registrant_bytes (map (registrant_of l.queue.0) l.name-iterator)) l.bytes
+    ≡ left_after (flat_map registrant_bytes (map (registrant_of l.queue.0) l.lasts.entries)) l.fn.bytes

@@ -14,16 +14,14 @@ pub loop-place-preserved : goal.loop-place-preserved
 loop-place-preserved c =
     one_further c.args.standing.now c.loop-place.standing c.take_one.new.standing c.args.records.now c.loop-place.place
     c.index-records-place.result c.in_ok-take_one.field-0 c.loop-place-test.true c.index-records-place.is
-    c.loop-place.invariant
-    (record { judged = c.in_ok-take_one.ensures.lawful; stood = c.in_ok-take_one.ensures.stands })
+    c.loop-place.invariant c.in_ok-take_one.ensures.takes
     c.if-not-branch.false
 
 pub returns-then-not-branch-clause-went_on : goal.returns-then-not-branch-clause-went_on
 returns-then-not-branch-clause-went_on c =
     ends_there c.args.standing.now c.loop-place.standing c.take_one.new.standing c.args.records.now c.loop-place.place
     c.index-records-place.result c.in_ok-take_one.field-0 c.loop-place-test.true c.index-records-place.is
-    c.loop-place.invariant
-    (record { judged = c.in_ok-take_one.ensures.lawful; stood = c.in_ok-take_one.ensures.stands })
+    c.loop-place.invariant c.in_ok-take_one.ensures.takes
     c.if-not-branch.true
 
 pub returns-clause-went_on : goal.returns-clause-went_on

@@ -1,25 +1,17 @@
-use Rattle.std.proofs.Common.{◌≤◌, ℕ, List, length, map, subst}
-use Rattle.std.specs.Prelude.{IfOk}
-use Rattle.rq_model.specs.Frames.{HasHeader, log_limit}
-use Rattle.rq_model.specs.States.{State, empty}
-use Rattle.rq_record.specs.Views.{record_of, version_of}
-use Rattle.rq_restart.specs.RedoneFronts.{IsStateBehind}
-use Rattle.rq_judged.specs.Ends.{IsFrontFrom}
-use Rattle.rq_judged.specs.Views.{why_of}
+use Rattle.std.proofs.Common.{List, ℕ, subst}
+use Rattle.rq_restart.specs.FoundFronts.{IsFoundFront}
 use Rattle.rq_restart.proofs.RedoneFronts.{redoes}
 use Rattle.rq_restart.proofs.redone.redone_front.Goals as goal
+use Rattle.rq_restart.proofs.redone.redone_front.Goals.{In_ok-from}
+
+found : (g : _) (c : In_ok-from g) → IsFoundFront c.args.bytes.now c.in_ok-from.from
+found g c = subst (λ (b : List ℕ). IsFoundFront b c.in_ok-from.from) c.borrowed.ensures c.in_ok-from.ensures
+
+pub state_behind-requires-clause-front : goal.state_behind-requires-clause-front
+state_behind-requires-clause-front g c κs within =
+    (40, (found g ((goal.at.state_behind-requires-clause-front g c).In_ok-from)).found)
 
 pub returns : goal.returns
 returns g c =
-    let b = c.args.bytes.now in
-    let front = c.in_ok-version.front in
-    let found = c.in_ok-version.ensures in
-    let version = version_of c.in_ok-version.version in
-    let rs = map record_of front.records.items in
-    let is = subst (λ (z : List ℕ). (length z ≤ log_limit) × HasHeader version z
-    × IsFrontFrom version empty z 40 rs front.end (why_of front.why)) c.borrowed.ensures
-    (found.short, found.header, found.front) in
-    redoes c.frames_join.ensures.end b version rs front.end (why_of front.why) is.0 is.1 is.2
-    c.state_behind-2.result
-    (subst (λ (s : State). IfOk c.state_behind-2.result (IsStateBehind version s b rs front.end)) c.empty.ensures
-    c.state_behind-2.ensures.behind) c.state_behind-2.ensures.refused
+    redoes c.args.bytes.now c.in_ok-from.from (found g ((goal.at.returns g c).In_ok-from)) c.state_behind.result
+    c.state_behind.ensures.behind c.state_behind.ensures.refused

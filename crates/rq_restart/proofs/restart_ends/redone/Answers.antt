@@ -1,39 +1,55 @@
-use Rattle.std.proofs.Common.{◌≤◌, List, length, map, take, sym, subst}
-use Rattle.rq_model.specs.Records.{Two}
-use Rattle.rq_model.specs.Machine.{run}
-use Rattle.rq_record.specs.Views.{Record, record_of, version_of}
-use Rattle.rq_catalog.specs.Analyses.{IsAnalysis}
-use Rattle.rq_catalog.proofs.Fronts.{analysis_is_wider}
+use Rattle.std.proofs.Common.{◌≡◌, true, List, length, map, sym, ap, ◌∙◌, subst, arith}
+use Rattle.std.proofs.lemmas.List.{length-map}
+use Rattle.rq_model.specs.Records as model
+use Rattle.rq_model.specs.States.{State}
+use Rattle.rq_model.specs.Machine.{run, all_lawful}
+use Rattle.rq_record.specs.Views.{record_of}
+use Rattle.rq_exchange.specs.Agendas.{IsAgenda}
 use Rattle.rq_exchange.specs.Gathering.{IsRedoneTo}
+use Rattle.rq_restart.specs.Cleared.{first_cleared}
+use Rattle.rq_restart.proofs.Clearing.{run_cleared, lawful_cleared, agenda_cleared, length_cleared}
 use Rattle.rq_restart.proofs.restart_ends.redone.Goals as goal
+use Rattle.rq_restart.proofs.restart_ends.redone.Goals.{After-deref}
 
-pub go_on-requires-clause-within : goal.go_on-requires-clause-within
-go_on-requires-clause-within g c =
-    subst (λ (xs : List Record). c.args.analysis.lawful ≤ length xs) (sym c.deref.ensures.value) c.requires.within
+-- the records that are redone spell nothing at first
+whole : (g : _) (c : After-deref g)
+    → map record_of c.deref.result.now ≡ first_cleared (map record_of c.args.records.items)
+whole g c = ap (map record_of) c.deref.ensures.value ∙ c.clear_first.ensures
 
-pub go_on-requires-clause-analysed : goal.go_on-requires-clause-analysed
-go_on-requires-clause-analysed g c =
-    subst (λ (xs : List Record). IsAnalysis (version_of c.args.version) c.args.state
-    (map record_of (take c.args.analysis.lawful xs)) c.args.analysis) (sym c.deref.ensures.value) c.requires.analysed
+pub redo_agenda-requires-clause-lawful : goal.redo_agenda-requires-clause-lawful
+redo_agenda-requires-clause-lawful g c κs within =
+    let d = (goal.at.redo_agenda-requires-clause-lawful g c).After-deref in
+    let rs = map record_of c.args.records.items in
+    subst (λ (xs : List model.Record). all_lawful model.Two c.args.state xs ≡ true) (sym (whole g d))
+    (lawful_cleared model.Two c.args.state rs ∙ c.requires.lawful)
 
-pub redo_analysed-requires-clause-analysis : goal.redo_analysed-requires-clause-analysis
-redo_analysed-requires-clause-analysis g c κs within =
-    let s = c.args.state in
-    let all = c.args.records.items in
-    let here = subst (λ (xs : List Record). IsAnalysis (version_of c.args.version) s
-    (map record_of xs) c.in_ok-analysis.analysis) c.deref.ensures.value c.in_ok-analysis.ensures.analysis in
-    subst (λ (xs : List Record). IsAnalysis Two s (map record_of xs) c.in_ok-analysis.analysis)
-    (sym c.deref-2.ensures.value)
-    (analysis_is_wider c.versions.ensures.two (version_of c.args.version) s
-    (map record_of all) c.in_ok-analysis.analysis c.requires.lawful here)
+pub redo_agenda-requires-clause-fits : goal.redo_agenda-requires-clause-fits
+redo_agenda-requires-clause-fits g c κs within =
+    let d = (goal.at.redo_agenda-requires-clause-fits g c).After-deref in
+    omega (
+      arith,
+      c.requires.fits,
+      length-map c.args.records.items record_of,
+      length-map c.deref.result.now record_of,
+      ap length (whole g d),
+      length_cleared (map record_of c.args.records.items),
+    )
+
+pub redo_agenda-requires-clause-agenda : goal.redo_agenda-requires-clause-agenda
+redo_agenda-requires-clause-agenda g c κs within =
+    let d = (goal.at.redo_agenda-requires-clause-agenda g c).After-deref in
+    subst (λ (xs : List model.Record). IsAgenda c.args.state xs c.args.agenda) (sym (whole g d))
+    (agenda_cleared c.args.state (map record_of c.args.records.items) c.args.agenda c.requires.agenda)
 
 pub gather-requires : goal.gather-requires
 gather-requires g c =
-    record { redone = (run c.args.state (map record_of c.deref-2.result.now), c.in_ok-all.ensures.redone) }
+    record { redone = (run c.args.state (map record_of c.deref.result.now), c.in_ok-all.ensures.redone) }
 
 pub returns-clause-state : goal.returns-clause-state
 returns-clause-state g c =
+    let d = (goal.at.returns-clause-state g c).After-deref in
     let s = c.args.state in
-    c.gather.ensures.state (run s (map record_of c.args.records.items))
-    (subst (λ (xs : List Record). IsRedoneTo (run s (map record_of xs)) c.in_ok-all.all) c.deref-2.ensures.value
+    let rs = map record_of c.args.records.items in
+    c.gather.ensures.state (run s rs)
+    (subst (λ (t : State). IsRedoneTo t c.in_ok-all.all) (ap (run s) (whole g d) ∙ run_cleared s rs)
     c.in_ok-all.ensures.redone)

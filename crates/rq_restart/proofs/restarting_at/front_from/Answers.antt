@@ -7,8 +7,14 @@ returns g c =
     let begun = c.in_ok-begun.begun in
     let is = subst (λ (b : List ℕ). IsBegun b c.args.offset begun) c.as_slice.ensures c.in_ok-begun.ensures in
     record {
-      found = begun.found;
+      chain = begun.found;
       begun = is;
-      front = c.in_ok-front.ensures.front c.args.offset is.chain;
-      analysis = c.in_ok-front.ensures.analysis;
+      found = record {
+        short = is.chain.short;
+        behind = is.chain.after;
+        well = is.spells.keeps;
+        next = is.spells.next;
+        front = c.in_ok-front.ensures.front c.args.offset is.chain;
+        analysis = c.in_ok-front.ensures.analysis;
+      };
     }

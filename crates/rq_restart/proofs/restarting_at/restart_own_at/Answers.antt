@@ -1,33 +1,23 @@
-use Rattle.std.proofs.Common.{◌≡◌, ◌-◌, ℕ, map, subst, ◌∙◌, arith}
-use Rattle.std.specs.Prelude.{IfOk}
-use Rattle.std.proofs.lemmas.List.{length-map}
-use Rattle.rq_model.specs.Machine.{run}
-use Rattle.rq_model.specs.Fronts.{restarted}
-use Rattle.rq_record.specs.Views.{record_of}
-use Rattle.rq_judged.specs.Views.{why_of}
+use Rattle.std.proofs.Common.{◌≡◌, ◌∙◌, List, ℕ, length, subst}
+use Rattle.rq_restart.specs.FoundFronts.{IsFoundAt}
 use Rattle.rq_restart.proofs.ByFronts.{restarts_at}
 use Rattle.rq_restart.proofs.restarting_at.restart_own_at.Goals as goal
+use Rattle.rq_restart.proofs.restarting_at.restart_own_at.Goals.{In_ok-from}
 
-pub finish-requires-clause-few : goal.finish-requires-clause-few
-finish-requires-clause-few g c = λ κs within.
-    let from = c.in_ok-from.ensures in
-    omega (
-      arith,
-      from.front.few,
-      from.front.within,
-      from.begun.chain.short,
-      length-map c.in_ok-from.from.front.records.items record_of,
-    )
+found : (g : _) (c : In_ok-from g) → IsFoundAt c.args.bytes.items c.args.offset c.in_ok-from.from
+found g c = subst (λ (b : List ℕ). IsFoundAt b c.args.offset c.in_ok-from.from)
+    (c.shared.ensures ∙ c.in_ok-log.ensures) c.in_ok-from.ensures
+
+total : (g : _) (c : In_ok-from g) → c.len-total.result ≡ length c.args.bytes.items
+total g c = c.len-total.ensures ∙ c.args.bytes.ok.0
+
+pub finish-requires-clause-front : goal.finish-requires-clause-front
+finish-requires-clause-front g c κs within =
+    let d = (goal.at.finish-requires-clause-front g c).In_ok-from in
+    (c.args.bytes.items, c.args.offset, (found g d).found, total g d)
 
 pub returns : goal.returns
 returns g c =
-    let from = c.in_ok-from.from in
-    let is = c.in_ok-from.ensures in
-    let rs = map record_of from.front.records.items in
-    let why = why_of from.front.why in
-    let answer = subst (λ (n : ℕ). IfOk c.finish.result
-    (λ r. r ≡ restarted (run from.state rs) (n - from.front.end) n why))
-    (c.len-total.ensures ∙ c.args.bytes.ok.0) c.finish.ensures.answer in
-    restarts_at c.args.bytes.items c.args.offset
-    (record { version = from.version; found = is.found; state = from.state })
-    rs from.front.end why is.begun is.front c.finish.result answer c.finish.ensures.refused
+    let d = (goal.at.returns g c).In_ok-from in
+    restarts_at c.args.bytes.items c.args.offset c.in_ok-from.from (found g d) c.len-total.result (total g d)
+    c.finish.result c.finish.ensures.answer c.finish.ensures.refused

@@ -1,24 +1,23 @@
-use Rattle.std.proofs.Common.{◌≡◌, ◌-◌, ℕ, map, subst, ◌∙◌}
-use Rattle.std.specs.Prelude.{IfOk}
-use Rattle.rq_model.specs.States.{State, empty}
-use Rattle.rq_model.specs.Machine.{run}
-use Rattle.rq_model.specs.Fronts.{restarted}
-use Rattle.rq_record.specs.Views.{record_of, version_of}
-use Rattle.rq_judged.specs.Views.{why_of}
+use Rattle.std.proofs.Common.{◌≡◌, ◌∙◌, List, ℕ, length, subst}
+use Rattle.rq_restart.specs.FoundFronts.{IsFoundFront}
 use Rattle.rq_restart.proofs.ByFronts.{restarts}
 use Rattle.rq_restart.proofs.restarts.restart_own.Goals as goal
+use Rattle.rq_restart.proofs.restarts.restart_own.Goals.{In_ok-from}
+
+found : (g : _) (c : In_ok-from g) → IsFoundFront c.args.bytes.items c.in_ok-from.from
+found g c = subst (λ (b : List ℕ). IsFoundFront b c.in_ok-from.from)
+    (c.shared.ensures ∙ c.in_ok-log.ensures) c.in_ok-from.ensures
+
+total : (g : _) (c : In_ok-from g) → c.len-total.result ≡ length c.args.bytes.items
+total g c = c.len-total.ensures ∙ c.args.bytes.ok.0
+
+pub finish-requires-clause-front : goal.finish-requires-clause-front
+finish-requires-clause-front g c κs within =
+    let d = (goal.at.finish-requires-clause-front g c).In_ok-from in
+    (c.args.bytes.items, 40, (found g d).found, total g d)
 
 pub returns : goal.returns
 returns g c =
-    let b = c.args.bytes.items in
-    let front = c.in_ok-version.front in
-    let is = c.in_ok-version.ensures in
-    let rs = map record_of front.records.items in
-    let why = why_of front.why in
-    let total = c.len-total.result in
-    let from_empty = subst (λ (s : State). IfOk c.finish.result
-    (λ r. r ≡ restarted (run s rs) (total - front.end) total why)) c.empty.ensures c.finish.ensures.answer in
-    let answer = subst (λ (n : ℕ). IfOk c.finish.result
-    (λ r. r ≡ restarted (run empty rs) (n - front.end) n why)) (c.len-total.ensures ∙ c.args.bytes.ok.0) from_empty in
-    restarts (version_of c.in_ok-version.version) c.frames_join.ensures.end b rs front.end
-    why is.short is.header is.front c.finish.result answer c.finish.ensures.refused
+    let d = (goal.at.returns g c).In_ok-from in
+    restarts c.args.bytes.items c.in_ok-from.from (found g d) c.len-total.result (total g d) c.finish.result
+    c.finish.ensures.answer c.finish.ensures.refused

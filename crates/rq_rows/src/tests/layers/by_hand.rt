@@ -2,7 +2,6 @@
 //! take them.
 
 ghost use Rattle.std.specs.Prelude.{◌≡◌, ℕ, List, IfOk};
-ghost use Rattle.rq_model.specs.States as states;
 ghost use Rattle.rq_state.specs.Inside.{state_of};
 ghost use Rattle.rq_rows.specs.ByHand.{by_hand, element_by_hand};
 
@@ -131,11 +130,11 @@ fn has_registrant(state: &State) -> bool {
         return false;
     }
     let registrant = state.registrant(0);
-    let last = match &registrant.last {
+    let last = match registrant.last() {
         Some(last) => last.kind == OpKind::Enqueue && last.tag == 70 && last.place == 3,
         None => false,
     };
-    last && registrant.name.bytes() == b"ann".as_slice()
+    last && registrant.name().bytes() == b"ann".as_slice()
 }
 
 // Whether that is the state after the records.
@@ -163,23 +162,6 @@ fn element(payload: Payload) -> Element
         attempts: 0,
         payload,
         mark: Mark::Free,
-    }
-}
-
-// Fields without members.
-fn no_fields(alloc: Global) -> Fields
-    ensures { state_of result ≡ states.empty }
-{
-    Fields {
-        next: 0,
-        greatest: 0,
-        committed: 0,
-        aborted: 0,
-        definitions: Vec::new(alloc),
-        units: Vec::new(alloc),
-        registrants: Vec::new(alloc),
-        elements: Vec::new(alloc),
-        notes: Vec::new(alloc),
     }
 }
 
@@ -219,23 +201,24 @@ fn fields(alloc: Global, queue: Name, ann: Name, payload: Payload) -> Result<Fie
     })
 }
 
-// Their state.
-fn built(alloc: Global, queue: Name, ann: Name, payload: Payload) -> Result<State, Fault>
-    ensures { IfOk result (λ s. s ≡ by_hand queue ann payload) }
-{
-    let fields = fields(alloc, queue, ann, payload)?;
-    State::build(alloc, fields)
-}
-
-// The state of a queue `jobs` where `ann` enqueued one byte.
-fn state_by_hand(alloc: Global) -> Result<State, Fail>
+// Those of a queue `jobs` where `ann` enqueued one byte.
+fn fields_by_hand(alloc: Global) -> Result<Fields, Fail>
     ensures { IfOk result
-        (λ s. (queue ann payload : List ℕ) × (s ≡ by_hand queue ann payload)) }
+        (λ f. (queue ann payload : List ℕ) × (state_of f ≡ by_hand queue ann payload)) }
 {
     let queue = name(b"jobs")?;
     let ann = name(b"ann")?;
     let payload = Payload::new(Vec::from_slice(alloc, b"a")?).ok_or("payload")?;
-    Ok(built(alloc, queue, ann, payload)?)
+    Ok(fields(alloc, queue, ann, payload)?)
+}
+
+// Their state.
+fn state_by_hand(alloc: Global) -> Result<State, Fail>
+    ensures { IfOk result
+        (λ s. (queue ann payload : List ℕ) × (s ≡ by_hand queue ann payload)) }
+{
+    let fields = fields_by_hand(alloc)?;
+    Ok(State::build(alloc, fields)?)
 }
 
 // The part of its queue after a KILL of the element, and what left it.
@@ -254,9 +237,9 @@ fn killed(alloc: Global, state: &State) -> Result<(Part, Vec<Move>), Fault>
     redo(alloc, part, &ops, Vec::new(alloc))
 }
 
-// How many elements and registrants a part has.
-fn poured(alloc: Global, part: Part) -> Result<[usize; 2], Fault> {
-    let mut fields = no_fields(alloc);
+// How many elements and registrants there are if a part is poured to those by hand.
+fn poured(alloc: Global, part: Part) -> Result<[usize; 2], Fail> {
+    let mut fields = fields_by_hand(alloc)?;
     part.pour(&mut fields)?;
     Ok([fields.elements.len(), fields.registrants.len()])
 }
@@ -269,7 +252,7 @@ fn leaves_registrant(alloc: Global, state: &State) -> Result<bool, Fail>
     let none = moves.is_empty();
     drop(moves);
     let counts = poured(alloc, part)?;
-    Ok(none && counts == [0, 1])
+    Ok(none && counts == [1, 2])
 }
 
 // Whether it does in that state.

@@ -294,44 +294,12 @@ fn spelled_of(alloc: Global, standing: &Standing) -> Result<Vec<u8>, Fault>
     spelled(alloc, &state)
 }
 
-// Whether the machine knows the spelling of its state behind the records.
-fn knows_behind(alloc: Global, standing: &mut Standing, cases: &[Case]) -> Result<bool, Fail>
-    requires { (version : records.Version) × (s : states.State) × Stands version standing.old s }
+// Whether the machine knows its version, the number of the next record, and how much room its state
+// needs at least, which is spelled in so many bytes.
+fn has_its_numbers(alloc: Global, standing: &Standing, length: usize) -> Result<bool, Fail>
+    requires { (version : records.Version) × (s : states.State) × Stands version standing.now s }
 {
-    if !goes_on(alloc, standing, cases)? {
-        return Ok(false);
-    }
-    let bytes = spelled_of(alloc, standing)?;
-    is_spelled_by_these_alone(alloc, standing, &bytes)
-}
-
-// Whether a new machine does.
-fn knows_its_spelling(alloc: Global, cases: &[Case]) -> Result<bool, Fail> {
-    let mut standing = Standing::new(alloc, Version::Two);
-    knows_behind(alloc, &mut standing, cases)
-}
-
-#[test]
-fn it_knows_the_spelling_of_its_state(rt: HostRuntime) -> Result<(), Fail> {
-    for count in 0..=CASES.len() {
-        assert!(rt;
-            knows_its_spelling(rt.alloc(), &CASES[..count])?,
-            "after {count} records"
-        );
-    }
-    Ok(())
-}
-
-// Whether the machine behind the records knows its version, the number of the next record, and how
-// much room its state needs at least.
-fn has_its_numbers(alloc: Global, standing: &mut Standing, cases: &[Case]) -> Result<bool, Fail>
-    requires { (version : records.Version) × (s : states.State) × Stands version standing.old s }
-{
-    if !goes_on(alloc, standing, cases)? {
-        return Ok(false);
-    }
     let next = standing.state(alloc)?.next();
-    let length = spelled_of(alloc, standing)?.len();
     Ok(
         matches!(standing.version(), Version::Two)
             && standing.next() == next
@@ -340,17 +308,29 @@ fn has_its_numbers(alloc: Global, standing: &mut Standing, cases: &[Case]) -> Re
     )
 }
 
+// Whether the machine behind the records knows its numbers, and the spelling of its state.
+fn knows_behind(alloc: Global, standing: &mut Standing, cases: &[Case]) -> Result<bool, Fail>
+    requires { (version : records.Version) × (s : states.State) × Stands version standing.old s }
+{
+    if !goes_on(alloc, standing, cases)? {
+        return Ok(false);
+    }
+    let bytes = spelled_of(alloc, standing)?;
+    let numbers = has_its_numbers(alloc, standing, bytes.len())?;
+    Ok(numbers && is_spelled_by_these_alone(alloc, standing, &bytes)?)
+}
+
 // Whether a new machine does.
-fn knows_its_numbers(alloc: Global, cases: &[Case]) -> Result<bool, Fail> {
+fn knows_itself(alloc: Global, cases: &[Case]) -> Result<bool, Fail> {
     let mut standing = Standing::new(alloc, Version::Two);
-    has_its_numbers(alloc, &mut standing, cases)
+    knows_behind(alloc, &mut standing, cases)
 }
 
 #[test]
-fn it_knows_its_numbers(rt: HostRuntime) -> Result<(), Fail> {
+fn it_knows_its_numbers_and_its_spelling(rt: HostRuntime) -> Result<(), Fail> {
     for count in 0..=CASES.len() {
         assert!(rt;
-            knows_its_numbers(rt.alloc(), &CASES[..count])?,
+            knows_itself(rt.alloc(), &CASES[..count])?,
             "after {count} records"
         );
     }

@@ -77,15 +77,12 @@ fn restarts<R: Threads + Sync + AllocGlobal>(rt: &R, workers: u32) -> Result<boo
     )
 }
 
+// If no memory is left, the thread of a second worker is refused.
 #[test]
 fn a_restart_is_whole_or_refused(rt: HostRuntime) -> Result<(), Fail> {
-    assert!(rt; restarts(&rt, 1)?);
-    Ok(())
-}
-
-#[test]
-fn a_restart_without_threads_is_whole_or_refused(rt: HostRuntime) -> Result<(), Fail> {
-    assert!(rt; restarts(&rt, 2)?);
+    for workers in [1, 2] {
+        assert!(rt; restarts(&rt, workers)?, "{workers} workers");
+    }
     Ok(())
 }
 

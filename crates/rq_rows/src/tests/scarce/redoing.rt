@@ -156,12 +156,8 @@ fn replays<R: Threads + Sync + AllocGlobal>(rt: &R, workers: u32) -> Result<bool
 
 #[test]
 fn a_replay_is_whole_or_refused(rt: HostRuntime) -> Result<(), Fail> {
-    assert!(rt; replays(&rt, 1)?);
-    Ok(())
-}
-
-#[test]
-fn a_replay_without_threads_is_whole_or_refused(rt: HostRuntime) -> Result<(), Fail> {
-    assert!(rt; replays(&rt, 2)?);
+    for workers in [1, 2] {
+        assert!(rt; replays(&rt, workers)?, "{workers} workers");
+    }
     Ok(())
 }

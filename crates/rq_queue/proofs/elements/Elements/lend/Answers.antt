@@ -14,7 +14,7 @@ returns-clause-lent c =
     let before = c.args.lent.now.items in
     subst (λ (xs : List Element). IsPermutation (before ++ c.args.self.now) xs)
     (sym (c.in_ok-lend_marked.ensures.lent
-    ∙ (ap (λ (xs : List Element). xs ++ items_of c.self.inside.marked.entries) c.in_ok-lend_free.ensures.lent
+    ∙ (ap (λ (xs : List Element). xs ++ items_of c.self.inside.marked.entries) c.in_ok-lend_values.ensures.lent
     ∙ append_assoc before (values_of c.self.inside.free.entries) (items_of c.self.inside.marked.entries))))
     (subst (λ (xs : List Element). IsPermutation (before ++ xs) (before ++ all)) c.self.view_is
     (IsPermutation-append_right before (elements_inside c.self.inside) all

@@ -1,5 +1,5 @@
-use Rattle.std.proofs.Common.{◌≡◌, ◌<◌, ◌==◌, true, sym, subst}
-use Rattle.rq_model.specs.States.{Element, Note, Registrant, registrant_before}
+use Rattle.std.proofs.Common.{◌<◌, ◌==◌, sym, subst}
+use Rattle.rq_model.specs.States.{Element, Note}
 use Rattle.rq_model.specs.WellFormed.{Ordered}
 use Rattle.rq_model.proofs.Merged.{ordered_filter}
 use Rattle.rq_queue.proofs.part.Part.of.Goals as goal
@@ -8,12 +8,6 @@ pub of-requires : goal.of-requires
 of-requires c = subst (Ordered (λ (e f : Element). e.id < f.id)) (sym c.in_ok-elements.ensures.elements)
     (ordered_filter (λ (e f : Element). e.id < f.id)
     (λ e. e.home == c.args.queue.0) c.args.state.now.elements c.is_well_formed.ensures.elements_rise)
-
-pub of-requires-2 : goal.of-requires-2
-of-requires-2 c = subst (Ordered (λ (r t : Registrant). registrant_before r t ≡ true))
-    (sym c.in_ok-registrants.ensures.registrants)
-    (ordered_filter (λ (r t : Registrant). registrant_before r t ≡ true)
-    (λ r. r.queue == c.args.queue.0) c.args.state.now.registrants c.is_well_formed.ensures.registrants_rise)
 
 pub of-requires-3 : goal.of-requires-3
 of-requires-3 c = subst (Ordered (λ (n m : Note). n.last.place < m.last.place)) (sym c.in_ok-notes.ensures.notes)

@@ -1,9 +1,10 @@
 use Rattle.std.proofs.Common.{sym, ap, ◌∙◌, subst, map, ℕ, List}
+use Rattle.std.specs.Cmp.Lexicographic.{slice_cmp}
+use Rattle.std.specs.Ordering.{nat_cmp}
+use Rattle.std.proofs.lemmas.Cmp.{nat_list_cmp_total}
 use Rattle.rq_model.specs.Machine.{deregistered}
 use Rattle.rq_model.proofs.Merged.{ordered_filter}
-use Rattle.rq_state.specs.Orders.{key_cmp}
-use Rattle.rq_state.proofs.InOrder.{key_total}
-use Rattle.rq_queue.specs.Roll.{registrant_of, IsRoll}
+use Rattle.rq_queue.specs.Roll.{RollEntry, registrant_of, IsRoll}
 use Rattle.rq_queue.proofs.Roll.{removed}
 use Rattle.rq_queue.proofs.Registered.{deregistered_then}
 use Rattle.rq_queue.proofs.registrants.Registrants.deregister.Goals as goal
@@ -12,13 +13,13 @@ pub invariant_of-self : goal.invariant_of-self
 invariant_of-self c =
     let k = c.in_ok-key.key in
     subst IsRoll (sym (c.remove.ensures.entries
-    ∙ removed key_cmp key_total k c.self.inside.lasts.entries c.self.invariant))
+    ∙ removed (slice_cmp nat_cmp) nat_list_cmp_total k c.self.inside.lasts.entries c.self.invariant))
     (ordered_filter _ _ _ c.self.invariant)
 
 pub returns-clause-done : goal.returns-clause-done
-returns-clause-done c =
+returns-clause-done c = λ queue.
     let es = c.self.inside.lasts.entries in
-    ap (map registrant_of) c.remove.ensures.entries
-    ∙ (deregistered_then c.in_ok-key.key es c.self.invariant
-    ∙ (ap (λ (k : ℕ × List ℕ). deregistered k.0 k.1 (map registrant_of es)) c.in_ok-key.ensures.key
-    ∙ ap (deregistered c.args.queue.0 c.args.name.now) c.self.view_is))
+    ap (map (registrant_of queue)) c.remove.ensures.entries
+    ∙ (deregistered_then queue c.in_ok-key.key es c.self.invariant
+    ∙ (ap (λ (name : List ℕ). deregistered queue name (map (registrant_of queue) es)) c.in_ok-key.ensures.kept
+    ∙ ap (λ (es : List RollEntry). deregistered queue c.args.name.now (map (registrant_of queue) es)) c.self.view_is))

@@ -1,23 +1,27 @@
-use Rattle.std.proofs.Common.{◌≡◌, true, ◌++◌, ◌∷◌, [], sym, ap, ◌∙◌, subst, map, List}
-use Rattle.std.specs.List.{AllByRecursion}
+use Rattle.std.proofs.Common.{◌≡◌, ◌++◌, ◌∷◌, [], List, true, sym, ap, ◌∙◌, subst}
 use Rattle.std.specs.BTreeMap.{insert_entry}
-use Rattle.rq_model.specs.States.{Registrant, registrant_before}
-use Rattle.rq_state.specs.Orders.{key_cmp}
-use Rattle.rq_state.proofs.InOrder.{key_total}
-use Rattle.rq_queue.specs.Roll.{registrant_of, IsRoll}
+use Rattle.std.specs.Cmp.Lexicographic.{slice_cmp}
+use Rattle.std.specs.List.{AllByRecursion}
+use Rattle.std.specs.Ordering.{nat_cmp}
+use Rattle.std.proofs.lemmas.Cmp.{nat_list_cmp_total}
+use Rattle.rq_model.specs.States.{name_before}
+use Rattle.rq_queue.specs.Roll.{RollEntry, IsRoll}
 use Rattle.rq_queue.proofs.Roll.{up_inserted}
 use Rattle.rq_queue.proofs.Registered.{added_last}
 use Rattle.rq_queue.proofs.registrants.Registrants.push.Goals as goal
 
 pub invariant_of-self-2 : goal.invariant_of-self-2
 invariant_of-self-2 c = subst IsRoll (sym c.in_ok-insert.ensures.entries)
-    (up_inserted key_cmp key_total _ _ c.self.inside.lasts.entries c.self.invariant)
+    (up_inserted (slice_cmp nat_cmp) nat_list_cmp_total _ _ c.self.inside.lasts.entries c.self.invariant)
 
 pub returns-clause-done : goal.returns-clause-done
 returns-clause-done c =
-    ap (map registrant_of) (c.in_ok-insert.ensures.entries
-    ∙ (λ i. insert_entry key_cmp c.self.inside.lasts.entries ((c.in_ok-key.ensures.key ∙ c.key.ensures) i)
-    ((c.in_ok-last.ensures.kept ∙ c.into_last.ensures) i)))
-    ∙ (added_last c.args.r c.self.inside.lasts.entries
-    (subst (AllByRecursion (λ (x : Registrant). registrant_before x c.args.r ≡ true))
-    (sym c.self.view_is) c.requires) ∙ ap (λ (rs : List Registrant). rs ++ c.args.r ∷ []) c.self.view_is)
+    let r = c.args.r.now in
+    let es = c.self.inside.lasts.entries in
+    c.in_ok-insert.ensures.entries
+    ∙ ((λ i. insert_entry (slice_cmp nat_cmp) es
+    ((c.in_ok-name.ensures.kept ∙ c.name-2.ensures ∙ c.name.ensures) i)
+    ((c.in_ok-last.ensures.kept ∙ c.last.ensures) i))
+    ∙ (added_last r.name r.last es
+    (subst (AllByRecursion (λ (e : RollEntry). name_before e.0 r.name ≡ true)) (sym c.self.view_is) c.requires)
+    ∙ ap (λ (xs : List RollEntry). xs ++ (r.name, r.last) ∷ []) c.self.view_is))

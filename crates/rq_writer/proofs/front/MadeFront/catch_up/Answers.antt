@@ -13,8 +13,8 @@ returns-then-self-clause-state g c =
           c.one_front.ensures.from_run _ _ _ rs c.if-self.true h l,
     )
 
-pub run_lawful-requires-clause-fits : goal.run_lawful-requires-clause-fits
-run_lawful-requires-clause-fits g c = λ κs within.
+pub front_redone-requires-after_bounds : goal.front_redone-requires-after_bounds
+front_redone-requires-after_bounds g c = λ κs within.
     omega (
       arith,
       behind_fits (version_of c.args.version) c.args.self.now.state c.args.self.now.since.items
@@ -26,12 +26,12 @@ pub returns-clause-state : goal.returns-clause-state
 returns-clause-state g c = λ rs h l. caught (version_of c.args.version) c.one_run.ensures.stops
     c.one_spelling.ensures.body c.one_front.ensures.from_run c.args.self.now.state _ c.args.self.now.since.items
     c.clear.new.self.items c.args.self.now.ended _ rs c.if-self.false
-    (c.in_ok-state.ensures.state
+    (c.in_ok-state.ensures.redone.state
     ∙ ap (λ (l : List Record). run c.args.self.now.state
     (lawful_front (version_of c.args.version) c.args.self.now.state (map record_of l)))
     c.as_slice-since.ensures.value)
     c.clear.ensures.items
-    (ap (λ (n : ℕ). nat_lt n (length c.as_slice-since.result.now)) c.in_ok-state.ensures.count
+    (ap (λ (n : ℕ). nat_lt n (length c.as_slice-since.result.now)) c.in_ok-state.ensures.redone.count
     ∙ ap (λ (l : List Record).
     nat_lt (length (lawful_front (version_of c.args.version) c.args.self.now.state (map record_of l))) (length l))
     c.as_slice-since.ensures.value) h l

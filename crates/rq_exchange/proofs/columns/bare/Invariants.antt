@@ -1,9 +1,0 @@
-use Rattle.std.proofs.Common.{◌≡◌, ◌≤◌, ◌-◌, ℕ, [], length}
-use Rattle.rq_exchange.proofs.Words.{listed}
-use Rattle.rq_exchange.proofs.columns.bare.Given as goal
-
-abbrev pub invariant-loop-alloc : goal.invariant-loop-alloc
-invariant-loop-alloc g l = (length l.lists.items ≤ l.count) × ((x : ℕ) → listed l.lists.items x ≡ [])
-
-abbrev pub decreases-loop-alloc : goal.decreases-loop-alloc
-decreases-loop-alloc g l = l.count - length l.lists.items
