@@ -1,59 +1,40 @@
 -- The law of lists with their counts in front.
-use Rattle.std.proofs.Common.{◌≡◌, ℕ, zero, suc, ◌^◌, ◌<◌, List, [], ◌∷◌, ◌++◌, length, Some, refl, sym, ap, subst, ◌∙◌}
-use Rattle.std.proofs.Common.{append_assoc, arith}
+use Rattle.std.proofs.Common.{◌≡◌, ℕ, zero, suc, ◌^◌, ◌<◌, List, [], ◌∷◌, ◌++◌, length, drop, refl, sym, ap, subst, arith}
 use Rattle.std.specs.List.{flat_map, AllByRecursion}
 use Rattle.std.specs.Int.{w32, to_be_bytes}
+use Rattle.std.proofs.lemmas.List.{nil_from_length}
 use Rattle.std.proofs.lemmas.List.Concat.{flat_map-cons}
-use Rattle.rq_bytes.specs.Readers.{Reader, ◌>>=◌, number, members, counted_members}
-use Rattle.rq_bytes.specs.Reads.{IsBytes, Takes, Reads, Any}
-use Rattle.rq_bytes.proofs.Single.{bind_some, reads_u32}
+use Rattle.rq_bytes.specs.Readers.{Reader, members, counted_members}
+use Rattle.rq_bytes.specs.Reads.{Reads, Any}
+use Rattle.rq_bytes.proofs.Single.{reads_nothing, reads_u32}
+use Rattle.rq_bytes.proofs.Together.{reads_made, reads_bind}
+
+-- this many, each with P
+abbrev AreMembers : {X : Type 0} → (X → Type 0) → ℕ → List X → Type 0
+AreMembers P n xs = (length xs ≡ n) × AllByRecursion P xs
+
+-- x, and this many behind it
+abbrev Begins : {X : Type 0} → (X → Type 0) → ℕ → X → List X → Type 0
+Begins P n x xs = (x ∷ drop 1 xs ≡ xs) × AreMembers P n (drop 1 xs)
+
+begins : {X : Type 0} {P : X → Type 0} (n : ℕ) (xs : List X) → AreMembers P (suc n) xs
+    → (x : X) × P x × Begins P n x xs
+begins n [] h = absurd (omega (arith, h.0))
+begins n (x ∷ xs) h = (x, h.1.0, (refl, (omega (arith, h.0), h.1.1)))
 
 reads_members : {X : Type 0} {P : X → Type 0} {s : X → List ℕ} {r : Reader X} (n : ℕ) → Reads P s Any r
-    → Reads (λ (xs : List X). (length xs ≡ n) × AllByRecursion P xs) (flat_map s) Any (members r n)
+    → Reads (AreMembers P n) (flat_map s) Any (members r n)
 unfolding members
-reads_members {X} {P} {s} {r} n reads =
-    record {
-      takes = takes n;
-      again =
-          λ xs rest fits ends. subst (λ (m : ℕ). members r m (flat_map s xs ++ rest) ≡ Some (xs, rest)) fits.0
-          (again xs rest fits.1);
-    }
-  where
-    takes : (n : ℕ) (bytes : List ℕ) (x : List X × List ℕ) → IsBytes bytes → members r n bytes ≡ Some x
-        → Takes (λ (xs : List X). (length xs ≡ n) × AllByRecursion P xs) (flat_map s) Any bytes x
-    takes zero bytes x fits e =
-        let same : ([], bytes) ≡ x = cc e in
-        subst (Takes (λ (xs : List X). (length xs ≡ 0) × AllByRecursion P xs) (flat_map s) Any bytes) same
-        (record { parts = refl; fits = (refl, tt); rest_fits = fits; ends = tt })
-    takes (suc n) bytes x fits e =
-        let a = bind_some (r bytes) (λ first. members r n first.1 >>= λ others. Some (first.0 ∷ others.0, others.1)) x
-        e in
-        let b = bind_some (members r n a.0.1) (λ others. Some (a.0.0 ∷ others.0, others.1)) x a.2 in
-        let h = reads.takes bytes a.0 fits a.1 in
-        let k = takes n a.0.1 b.0 h.rest_fits b.1 in
-        let same : (a.0.0 ∷ b.0.0, b.0.1) ≡ x = cc (b.2) in
-        let parts : bytes ≡ flat_map s (a.0.0 ∷ b.0.0) ++ b.0.1 =
-        rw flat_map-cons (h.parts ∙ ap (λ (c : List ℕ). s a.0.0 ++ c) k.parts
-        ∙ sym (append_assoc (s a.0.0) (flat_map s b.0.0) b.0.1)) in
-        let whole : Takes (λ (xs : List X). (length xs ≡ suc n) × AllByRecursion P xs) (flat_map s) Any bytes
-        (a.0.0 ∷ b.0.0, b.0.1) =
-        record {
-          parts = parts;
-          fits = (ap suc k.fits.0, (h.fits, k.fits.1));
-          rest_fits = k.rest_fits;
-          ends =
-              tt;
-        } in
-        subst (Takes (λ (xs : List X). (length xs ≡ suc n) × AllByRecursion P xs) (flat_map s) Any bytes) same whole
-
-    again : (xs : List X) (rest : List ℕ) → AllByRecursion P xs
-        → members r (length xs) (flat_map s xs ++ rest) ≡ Some (xs, rest)
-    again [] rest fits = refl
-    again (x ∷ xs) rest fits =
-        let regrouped : flat_map s (x ∷ xs) ++ rest ≡ s x ++ (flat_map s xs ++ rest) =
-        ap (λ (t : List ℕ). t ++ rest) (flat_map-cons s x xs) ∙ append_assoc (s x) (flat_map s xs) rest in
-        ap (members r (suc (length xs))) regrouped
-        ∙ rw (reads.again x (flat_map s xs ++ rest) fits.0 tt, again xs rest fits.1) refl
+reads_members zero reads =
+    reads_made (λ e. []) (λ xs. tt) (λ e fits. ((refl, tt), refl)) (λ xs h. (tt, sym (nil_from_length xs h.0)))
+    reads_nothing
+reads_members {X} {P} {s} (suc n) reads =
+    reads_bind {Q = Begins P n} {t = λ x xs. flat_map s (drop 1 xs)} reads
+    (λ x. reads_made (λ others. x ∷ others) (drop 1) (λ others h. ((refl, h), refl)) (λ xs h. (h.1, h.0))
+    (reads_members n reads))
+    (λ x xs fits h.
+    subst (λ (ys : List X). AreMembers P (suc n) ys × (s x ++ flat_map s (drop 1 xs) ≡ flat_map s ys)) h.0
+    ((ap suc h.1.0, (fits, h.1.1)), sym (flat_map-cons s x (drop 1 xs)))) (begins n)
 
 -- fewer than 2 ^ 32, each with P
 abbrev pub AreCounted : {X : Type 0} → (X → Type 0) → List X → Type 0
@@ -62,23 +43,7 @@ AreCounted P xs = (length xs < 2 ^ 32) × AllByRecursion P xs
 pub reads_counted : {X : Type 0} {P : X → Type 0} {s : X → List ℕ} {r : Reader X} → Reads P s Any r
     → Reads (AreCounted P) (λ (xs : List X). to_be_bytes w32 (length xs) ++ flat_map s xs) Any (counted_members r)
 unfolding counted_members
-reads_counted {X} {P} {s} {r} reads = record {
-  takes = λ bytes x fits e.
-      let a = bind_some (number 4 bytes) (λ count. members r count.0 count.1) x e in
-      let h = reads_u32.takes bytes a.0 fits a.1 in
-      let k = (reads_members a.0.0 reads).takes a.0.1 x h.rest_fits a.2 in
-      let parts : bytes ≡ to_be_bytes w32 (length x.0) ++ (flat_map s x.0 ++ x.1) =
-      h.parts ∙ ap (λ (m : ℕ). to_be_bytes w32 m ++ a.0.1) (sym k.fits.0)
-      ∙ ap (λ (c : List ℕ). to_be_bytes w32 (length x.0) ++ c) k.parts in
-      record {
-        parts = parts ∙ sym (append_assoc (to_be_bytes w32 (length x.0)) (flat_map s x.0) x.1);
-        fits =
-            (omega (arith, k.fits.0, h.fits), k.fits.1);
-        rest_fits = k.rest_fits;
-        ends = tt;
-      };
-  again = λ xs rest fits ends.
-      ap (counted_members r) (append_assoc (to_be_bytes w32 (length xs)) (flat_map s xs) rest)
-      ∙ rw (reads_u32.again (length xs) (flat_map s xs ++ rest) fits.0 tt)
-      ((reads_members (length xs) reads).again xs rest (refl, fits.1) tt);
-}
+reads_counted {X} {P} {s} reads =
+    reads_bind reads_u32 (λ n. reads_members n reads)
+    (λ n xs lt h. ((omega (arith, h.0, lt), h.1), ap (λ (k : ℕ). to_be_bytes w32 k ++ flat_map s xs) (sym h.0)))
+    (λ xs h. (length xs, h.0, (refl, h.1)))

@@ -1,6 +1,6 @@
 -- The laws of single readers.
 use Rattle.std.proofs.Common.{◌≡◌, ℕ, suc, ◌+◌, ◌^◌, ◌<◌, ◌≤◌, Bool, true, false, cond, ltb, eqb, List, [], ◌∷◌, ◌++◌}
-use Rattle.std.proofs.Common.{length, take, drop, Option, Some, None, refl, sym, subst, arith, inl, inr, ◌⊎◌}
+use Rattle.std.proofs.Common.{length, take, drop, Option, Some, None, refl, sym, ap, ◌∙◌, subst, arith, inl, inr, ◌⊎◌}
 use Rattle.std.specs.Prelude.{⊤}
 use Rattle.std.specs.Int.{w16, w32, w64, to_be_bytes}
 use Rattle.std.proofs.lemmas.Bool.{cases_lt, ltb-false, le-ltb, eqb-true}
@@ -8,7 +8,7 @@ use Rattle.std.proofs.lemmas.List.{nil_from_length, take_at, drop_at, take-appen
 use Rattle.std.proofs.lemmas.List.{length-take, get_or-drop, get_or-take, get_or_past}
 use Rattle.std.proofs.lemmas.Nat.{be_bytes_2, be_bytes_4, be_bytes_8}
 use Rattle.byteorder.specs.Endian.{big_number, big_bytes}
-use Rattle.byteorder.specs.Numbers.{big_number-reads_back, big_from-lt, length-bytes_high_first}
+use Rattle.byteorder.specs.Numbers.{big_number-reads_back, big_from-lt, big_from-take, length-bytes_high_first}
 use Rattle.rq_bytes.specs.Readers.{◌>>=◌, byte, number, piece, all, nothing, ending}
 use Rattle.rq_bytes.specs.Reads.{IsBytes, Takes, Reads, Any, End}
 
@@ -52,78 +52,51 @@ reads_byte = record { takes = takes; again = λ x rest fits ends. refl }
         subst (Takes (λ x. x < 2 ^ 8) (λ x. x ∷ []) Any (b ∷ bytes)) same
         (record { parts = refl; fits = fits 0; rest_fits = λ i. fits (suc i); ends = tt })
 
-pub reads_piece : (n : ℕ) → Reads (λ (p : List ℕ). length p ≡ n) (λ p. p) Any (piece n)
-reads_piece n = record {
+-- a value of the first n bytes
+reads_front : {X : Type 0} {P : X → Type 0} {s : X → List ℕ} (n : ℕ) (value : List ℕ → X)
+    → ((bytes : List ℕ) → n ≤ length bytes → IsBytes bytes → P (value bytes) × (s (value bytes) ≡ take n bytes))
+    → ((x : X) (rest : List ℕ) → P x → (length (s x) ≡ n) × (value (s x ++ rest) ≡ x))
+    → Reads P s Any (λ bytes. cond (ltb (length bytes) n) None (Some (value bytes, drop n bytes)))
+reads_front {X} {P} {s} n value there back = record {
   takes = λ bytes x fits e.
-      let g = guard_past (ltb (length bytes) n) (take n bytes, drop n bytes) x e in
-      let long : n ≤ length bytes = ltb-false _ _ g.0 in
-      let whole : Takes (λ (p : List ℕ). length p ≡ n) (λ p. p) Any bytes (take n bytes, drop n bytes) =
-      record {
-        parts = sym (take-append-drop n bytes);
-        fits = omega (arith, length-take n bytes);
-        rest_fits =
-            IsBytes-drop n bytes fits;
-        ends = tt;
-      } in
-      subst (Takes (λ (p : List ℕ). length p ≡ n) (λ p. p) Any bytes) g.1 whole;
-  again = λ p rest len ends.
-      let long : ltb (length (p ++ rest)) n ≡ false = le-ltb _ _ (omega (arith, length-append p rest)) in
-      rw (long, take_at p rest n len, drop_at p rest n len) refl;
-}
-
-reads_number : (n : ℕ)
-    → ((bytes : List ℕ) → n ≤ length bytes → IsBytes bytes → big_bytes n (big_number n bytes) ≡ take n bytes)
-    → Reads (λ x. x < 256 ^ n) (big_bytes n) Any (number n)
-reads_number n back = record {
-  takes = λ bytes x fits e.
-      let g = guard_past (ltb (length bytes) n) (big_number n bytes, drop n bytes) x e in
-      let long : n ≤ length bytes = ltb-false _ _ g.0 in
-      let whole : Takes (λ x. x < 256 ^ n) (big_bytes n) Any bytes (big_number n bytes, drop n bytes) =
-      record {
-        parts = rw (back bytes long fits) (sym (take-append-drop n bytes));
-        fits =
-            big_from-lt 0 n bytes fits;
+      let g = guard_past (ltb (length bytes) n) (value bytes, drop n bytes) x e in
+      let k = there bytes (ltb-false _ _ g.0) fits in
+      subst (Takes P s Any bytes) g.1 (record {
+        parts = sym (take-append-drop n bytes) ∙ ap (λ (c : List ℕ). c ++ drop n bytes) (sym k.1);
+        fits = k.0;
         rest_fits = IsBytes-drop n bytes fits;
         ends = tt;
-      } in
-      subst (Takes (λ x. x < 256 ^ n) (big_bytes n) Any bytes) g.1 whole;
-  again = λ x rest lt ends.
-      let len = length-bytes_high_first n x in
-      let long : ltb (length (big_bytes n x ++ rest)) n ≡ false =
-      le-ltb _ _ (omega (arith, length-append (big_bytes n x) rest)) in
-      rw (long, drop_at (big_bytes n x) rest n len, big_number-reads_back n x rest lt) refl;
+      });
+  again = λ x rest fits ends.
+      let k = back x rest fits in
+      let long : ltb (length (s x ++ rest)) n ≡ false = le-ltb _ _ (omega (arith, k.0, length-append (s x) rest)) in
+      rw (long, drop_at (s x) rest n k.0, k.1) refl;
 }
 
+pub reads_piece : (n : ℕ) → Reads (λ (p : List ℕ). length p ≡ n) (λ p. p) Any (piece n)
+reads_piece n = reads_front n (take n) (λ bytes long fits. (omega (arith, length-take n bytes), refl))
+    (λ p rest len. (len, take_at p rest n len))
+
+reads_number : (n : ℕ)
+    → ((bytes : List ℕ) → length bytes ≡ n → IsBytes bytes → big_bytes n (big_number n bytes) ≡ bytes)
+    → Reads (λ x. x < 256 ^ n) (big_bytes n) Any (number n)
+reads_number n back =
+    reads_front n (big_number n)
+    (λ bytes long fits. (
+      big_from-lt 0 n bytes fits,
+      ap (big_bytes n) (sym (big_from-take 0 n n bytes (omega arith)))
+          ∙ back (take n bytes) (omega (arith, length-take n bytes)) (IsBytes-take n bytes fits),
+    ))
+    (λ x rest lt. (length-bytes_high_first n x, big_number-reads_back n x rest lt))
+
 pub reads_u16 : Reads (λ x. x < 2 ^ 16) (to_be_bytes w16) Any (number 2)
-reads_u16 = reads_number 2 (λ bytes long fits.
-    be_bytes_2 (take 2 bytes) (big_number 2 bytes) (omega (arith, length-take 2 bytes)) (IsBytes-take 2 bytes fits)
-    (omega (arith, get_or-take 2 bytes 0 0 (omega arith), get_or-take 2 bytes 1 0 (omega arith))))
+reads_u16 = reads_number 2 (λ bytes len fits. be_bytes_2 bytes (big_number 2 bytes) len fits (omega arith))
 
 pub reads_u32 : Reads (λ x. x < 2 ^ 32) (to_be_bytes w32) Any (number 4)
-reads_u32 = reads_number 4 (λ bytes long fits.
-    be_bytes_4 (take 4 bytes) (big_number 4 bytes) (omega (arith, length-take 4 bytes)) (IsBytes-take 4 bytes fits)
-    (omega (
-      arith,
-      get_or-take 4 bytes 0 0 (omega arith),
-      get_or-take 4 bytes 1 0 (omega arith),
-      get_or-take 4 bytes 2 0 (omega arith),
-      get_or-take 4 bytes 3 0 (omega arith),
-    )))
+reads_u32 = reads_number 4 (λ bytes len fits. be_bytes_4 bytes (big_number 4 bytes) len fits (omega arith))
 
 pub reads_u64 : Reads (λ x. x < 2 ^ 64) (to_be_bytes w64) Any (number 8)
-reads_u64 = reads_number 8 (λ bytes long fits.
-    be_bytes_8 (take 8 bytes) (big_number 8 bytes) (omega (arith, length-take 8 bytes)) (IsBytes-take 8 bytes fits)
-    (omega (
-      arith,
-      get_or-take 8 bytes 0 0 (omega arith),
-      get_or-take 8 bytes 1 0 (omega arith),
-      get_or-take 8 bytes 2 0 (omega arith),
-      get_or-take 8 bytes 3 0 (omega arith),
-      get_or-take 8 bytes 4 0 (omega arith),
-      get_or-take 8 bytes 5 0 (omega arith),
-      get_or-take 8 bytes 6 0 (omega arith),
-      get_or-take 8 bytes 7 0 (omega arith),
-    )))
+reads_u64 = reads_number 8 (λ bytes len fits. be_bytes_8 bytes (big_number 8 bytes) len fits (omega arith))
 
 pub reads_all : Reads (λ (p : List ℕ). ⊤) (λ p. p) End all
 reads_all = record {

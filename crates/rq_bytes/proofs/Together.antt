@@ -1,58 +1,31 @@
 -- The laws of readers that are put together.
 use Rattle.std.proofs.Common.{◌≡◌, ℕ, ◌<◌, cond, eqb, Bool, List, [], ◌∷◌, ◌++◌, length, Some, None, refl, sym, ap}
-use Rattle.std.proofs.Common.{subst, ◌∙◌, append_assoc, inl, inr}
+use Rattle.std.proofs.Common.{subst, ◌∙◌, append_assoc, arith, inl, inr}
 use Rattle.std.specs.Prelude.{IsTrue}
 use Rattle.std.proofs.lemmas.Bool.{eqb-true}
 use Rattle.std.proofs.lemmas.List.{append-nil}
 use Rattle.std.proofs.lemmas.Option.{same_Some}
-use Rattle.rq_bytes.specs.Readers.{Reader, ◌>>=◌, byte, piece, ending, ◌then◌, sized, made, tested, alone, tagged, case}
+use Rattle.rq_bytes.specs.Readers.{Reader, ◌>>=◌, byte, ◌then◌, sized, made, tested, alone, tagged, case}
 use Rattle.rq_bytes.specs.Readers.{no_case}
 use Rattle.rq_bytes.specs.Reads.{IsBytes, Takes, Reads, Any, End, Both, joined}
 use Rattle.rq_bytes.proofs.Single.{bind_some, guard_some, chosen, reads_byte, reads_piece, reads_ending}
 
-pub reads_then : {X Y : Type 0} {P : X → Type 0} {s : X → List ℕ} {r : Reader X} {Q : Y → Type 0} {t : Y → List ℕ}
-    {Ends : List ℕ → Type 0} {q : Reader Y} → Reads P s Any r → Reads Q t Ends q
-    → Reads (Both P Q) (joined s t) Ends (r then q)
-reads_then {X} {Y} {P} {s} {r} {Q} {t} {Ends} {q} one two = record {
-  takes = λ bytes x fits e.
-      let a = bind_some (r bytes) (λ u. q u.1 >>= λ v. Some ((u.0, v.0), v.1)) x e in
-      let b = bind_some (q a.0.1) (λ v. Some ((a.0.0, v.0), v.1)) x a.2 in
-      let h = one.takes bytes a.0 fits a.1 in
-      let k = two.takes a.0.1 b.0 h.rest_fits b.1 in
-      let same : ((a.0.0, b.0.0), b.0.1) ≡ x = cc (b.2) in
-      let whole : Takes (Both P Q) (joined s t) Ends bytes ((a.0.0, b.0.0), b.0.1) = record {
-        parts = h.parts ∙ ap (λ (c : List ℕ). s a.0.0 ++ c) k.parts ∙ sym (append_assoc (s a.0.0) (t b.0.0) b.0.1);
-        fits = (h.fits, k.fits);
-        rest_fits = k.rest_fits;
-        ends = k.ends;
-      } in
-      subst (Takes (Both P Q) (joined s t) Ends bytes) same whole;
-  again = λ x rest fits ends.
-      ap (r then q) (append_assoc (s x.0) (t x.1) rest)
-      ∙ rw (one.again x.0 (t x.1 ++ rest) fits.0 tt, two.again x.1 rest fits.1 ends) refl;
-}
-
-pub reads_sized : {n : ℕ} {write : ℕ → List ℕ} {r : Reader ℕ} → Reads (λ x. x < n) write Any r
-    → Reads (λ (p : List ℕ). length p < n) (λ p. write (length p) ++ p) Any (sized r)
-reads_sized {n} {write} {r} reads = record {
-  takes = λ bytes x fits e.
-      let a = bind_some (r bytes) (λ u. piece u.0 u.1) x e in
-      let h = reads.takes bytes a.0 fits a.1 in
-      let k = (reads_piece a.0.0).takes a.0.1 x h.rest_fits a.2 in
-      let whole : bytes ≡ write (length x.0) ++ (x.0 ++ x.1) =
-      h.parts ∙ ap (λ (m : ℕ). write m ++ a.0.1) (sym k.fits)
-      ∙ ap (λ (c : List ℕ). write (length x.0) ++ c) k.parts in
-      record {
-        parts = whole ∙ sym (append_assoc (write (length x.0)) x.0 x.1);
-        fits =
-            subst (λ (m : ℕ). m < n) (sym k.fits) h.fits;
-        rest_fits = k.rest_fits;
-        ends = tt;
-      };
-  again = λ p rest lt ends.
-      ap (sized r) (append_assoc (write (length p)) p rest)
-      ∙ rw (reads.again (length p) (p ++ rest) lt tt) ((reads_piece (length p)).again p rest refl tt);
-}
+-- what make builds, behind what stands in front
+made_takes : {X Y : Type 0} {P : X → Type 0} {s : X → List ℕ} {Q : Y → Type 0} {t : Y → List ℕ}
+    {Ends : List ℕ → Type 0} {r : Reader X} (front : List ℕ) (make : X → Y)
+    → Reads P s Ends r → ((x : X) → P x → Q (make x) × (front ++ s x ≡ t (make x))) → (bytes : List ℕ) (y : Y × List ℕ)
+    → IsBytes bytes → made make r bytes ≡ Some y → Takes Q t Ends (front ++ bytes) y
+made_takes {X} {Y} {P} {s} {Q} {t} {Ends} {r} front make reads there bytes y fits e =
+    let a = bind_some (r bytes) (λ u. Some (make u.0, u.1)) y e in
+    let h = reads.takes bytes a.0 fits a.1 in
+    let k = there a.0.0 h.fits in
+    subst (Takes Q t Ends (front ++ bytes)) (same_Some _ _ a.2) (record {
+      parts = ap (λ (c : List ℕ). front ++ c) h.parts ∙ sym (append_assoc front (s a.0.0) a.0.1)
+          ∙ ap (λ (c : List ℕ). c ++ a.0.1) k.1;
+      fits = k.0;
+      rest_fits = h.rest_fits;
+      ends = h.ends;
+    })
 
 -- what make builds, and fields takes apart again
 pub reads_made : {X Y : Type 0} {P : X → Type 0} {s : X → List ℕ} {Q : Y → Type 0} {t : Y → List ℕ}
@@ -60,24 +33,51 @@ pub reads_made : {X Y : Type 0} {P : X → Type 0} {s : X → List ℕ} {Q : Y �
     → ((x : X) → P x → Q (make x) × (s x ≡ t (make x))) → ((y : Y) → Q y → P (fields y) × (make (fields y) ≡ y))
     → Reads P s Ends r → Reads Q t Ends (made make r)
 reads_made {X} {Y} {P} {s} {Q} {t} {Ends} {r} make fields there back reads = record {
-  takes = λ bytes y fits e.
-      let a = bind_some (r bytes) (λ u. Some (make u.0, u.1)) y e in
-      let h = reads.takes bytes a.0 fits a.1 in
-      let k = there a.0.0 h.fits in
-      let same : (make a.0.0, a.0.1) ≡ y = cc (a.2) in
-      let whole : Takes Q t Ends bytes (make a.0.0, a.0.1) =
-      record {
-        parts = h.parts ∙ ap (λ (c : List ℕ). c ++ a.0.1) k.1;
-        fits = k.0;
-        rest_fits = h.rest_fits;
-        ends = h.ends;
-      } in
-      subst (Takes Q t Ends bytes) same whole;
+  takes = made_takes [] make reads there;
   again = λ y rest fits ends.
       let b = back y fits in
       let spelled : t y ≡ s (fields y) = ap t (sym b.1) ∙ sym ((there (fields y) b.0).1) in
       ap (λ (c : List ℕ). made make r (c ++ rest)) spelled ∙ rw (reads.again (fields y) rest b.0 ends, b.1) refl;
 }
+
+-- a value, and behind it another that it calls for
+pub reads_bind : {X Y : Type 0} {P : X → Type 0} {s : X → List ℕ} {r : Reader X} {Q : X → Y → Type 0}
+    {t : X → Y → List ℕ} {Ends : List ℕ → Type 0} {q : X → Reader Y} {R : Y → Type 0} {u : Y → List ℕ}
+    → Reads P s Any r → ((x : X) → Reads (Q x) (t x) Ends (q x))
+    → ((x : X) (y : Y) → P x → Q x y → R y × (s x ++ t x y ≡ u y)) → ((y : Y) → R y → (x : X) × P x × Q x y)
+    → Reads R u Ends (λ bytes. r bytes >>= λ x. q x.0 x.1)
+reads_bind {X} {Y} {P} {s} {r} {Q} {t} {Ends} {q} one two there back = record {
+  takes = λ bytes y fits e.
+      let a = bind_some (r bytes) (λ x. q x.0 x.1) y e in
+      let h = one.takes bytes a.0 fits a.1 in
+      let k = (two a.0.0).takes a.0.1 y h.rest_fits a.2 in
+      let w = there a.0.0 y.0 h.fits k.fits in
+      record {
+        parts = h.parts ∙ ap (λ (c : List ℕ). s a.0.0 ++ c) k.parts ∙ sym (append_assoc (s a.0.0) (t a.0.0 y.0) y.1)
+            ∙ ap (λ (c : List ℕ). c ++ y.1) w.1;
+        fits = w.0;
+        rest_fits = k.rest_fits;
+        ends = k.ends;
+      };
+  again = λ y rest fits ends.
+      let (x, p, h) = back y fits in
+      rw (← (there x y p h).1, append_assoc (s x) (t x y) rest, one.again x (t x y ++ rest) p tt)
+      ((two x).again y rest h ends);
+}
+
+pub reads_then : {X Y : Type 0} {P : X → Type 0} {s : X → List ℕ} {r : Reader X} {Q : Y → Type 0} {t : Y → List ℕ}
+    {Ends : List ℕ → Type 0} {q : Reader Y} → Reads P s Any r → Reads Q t Ends q
+    → Reads (Both P Q) (joined s t) Ends (r then q)
+reads_then {X} {Y} {P} {s} {r} {Q} {t} {Ends} {q} one two =
+    reads_bind {Q = λ x p. (x ≡ p.0) × Q p.1} {t = λ x p. t p.1} one
+    (λ x. reads_made (λ y. (x, y)) (λ p. p.1) (λ y fits. ((refl, fits), refl)) (λ p h. (h.1, λ i. (h.0 i, p.1))) two)
+    (λ x p fits h. ((subst P h.0 fits, h.1), ap (λ (z : X). s z ++ t p.1) h.0)) (λ p h. (p.0, h.0, (refl, h.1)))
+
+pub reads_sized : {n : ℕ} {write : ℕ → List ℕ} {r : Reader ℕ} → Reads (λ x. x < n) write Any r
+    → Reads (λ (p : List ℕ). length p < n) (λ p. write (length p) ++ p) Any (sized r)
+reads_sized {n} {write} {r} reads =
+    reads_bind reads reads_piece
+    (λ size p lt len. (omega (arith, len, lt), ap (λ (k : ℕ). write k ++ p) (sym len))) (λ p lt. (length p, lt, refl))
 
 pub reads_tested : {X : Type 0} {P : X → Type 0} {s : X → List ℕ} {Ends : List ℕ → Type 0} {test : X → Bool}
     {r : Reader X} → Reads P s Ends r → Reads (λ x. P x × IsTrue (test x)) s Ends (tested test r)
@@ -86,32 +86,17 @@ reads_tested {X} {P} {s} {Ends} {test} {r} reads = record {
       let a = bind_some (r bytes) (λ u. cond (test u.0) (Some u) None) x e in
       let g = guard_some (test a.0.0) a.0 x a.2 in
       let h = reads.takes bytes a.0 fits a.1 in
-      let whole : Takes (λ x. P x × IsTrue (test x)) s Ends bytes a.0 =
-      record { parts = h.parts; fits = (h.fits, g.0); rest_fits = h.rest_fits; ends = h.ends } in
-      subst (Takes (λ x. P x × IsTrue (test x)) s Ends bytes) g.1 whole;
+      subst (Takes (λ x. P x × IsTrue (test x)) s Ends bytes) g.1
+      (record { parts = h.parts; fits = (h.fits, g.0); rest_fits = h.rest_fits; ends = h.ends });
   again = λ x rest fits ends. rw (reads.again x rest fits.0 ends, fits.1) refl;
 }
 
 pub reads_alone : {X : Type 0} {P : X → Type 0} {s : X → List ℕ} {r : Reader X} → Reads P s Any r
     → Reads P s End (alone r)
-reads_alone {X} {P} {s} {r} reads = record {
-  takes = λ bytes x fits e.
-      let a = bind_some (r bytes) (λ u. ending u.1 >>= λ v. Some (u.0, v.1)) x e in
-      let b = bind_some (ending a.0.1) (λ v. Some (a.0.0, v.1)) x a.2 in
-      let h = reads.takes bytes a.0 fits a.1 in
-      let k = reads_ending.takes a.0.1 b.0 h.rest_fits b.1 in
-      let same : (a.0.0, b.0.1) ≡ x = cc (b.2) in
-      let whole : Takes P s End bytes (a.0.0, b.0.1) =
-      record {
-        parts = h.parts ∙ ap (λ (c : List ℕ). s a.0.0 ++ c) k.parts;
-        fits = h.fits;
-        rest_fits =
-            k.rest_fits;
-        ends = k.ends;
-      } in
-      subst (Takes P s End bytes) same whole;
-  again = λ x rest fits ends. rw (reads.again x rest fits tt, reads_ending.again tt rest tt ends) refl;
-}
+reads_alone {X} {P} {s} {r} reads =
+    reads_bind {Q = λ x y. x ≡ y} {t = λ x y. []} reads
+    (λ x. reads_made (λ e. x) (λ y. tt) (λ e fits. (refl, refl)) (λ y same. (tt, same)) reads_ending)
+    (λ x y fits same. (subst P same fits, append-nil (s x) ∙ ap s same)) (λ y fits. (y, fits, refl))
 
 -- the same law in other words
 pub alike : {X : Type 0} {P : X → Type 0} {s : X → List ℕ} {Ends : List ℕ → Type 0} {r : Reader X} (Q : X → Type 0)
@@ -138,16 +123,7 @@ pub at_byte : {X Y : Type 0} {P : X → Type 0} {s : X → List ℕ} {Q : Y → 
     {Ends : List ℕ → Type 0} {r : Reader X} (n : ℕ) (make : X → Y)
     → Reads P s Ends r → ((x : X) → P x → Q (make x) × (n ∷ s x ≡ t (make x))) → (bytes : List ℕ) (y : Y × List ℕ)
     → IsBytes bytes → made make r bytes ≡ Some y → Takes Q t Ends (n ∷ bytes) y
-at_byte {X} {Y} {P} {s} {Q} {t} {Ends} {r} n make reads there bytes y fits e =
-    let a = bind_some (r bytes) (λ u. Some (make u.0, u.1)) y e in
-    let h = reads.takes bytes a.0 fits a.1 in
-    let k = there a.0.0 h.fits in
-    let same : (make a.0.0, a.0.1) ≡ y = cc (a.2) in
-    let parts : n ∷ bytes ≡ t (make a.0.0) ++ a.0.1 =
-    ap (λ (c : List ℕ). n ∷ c) h.parts ∙ ap (λ (c : List ℕ). c ++ a.0.1) k.1 in
-    let whole : Takes Q t Ends (n ∷ bytes) (make a.0.0, a.0.1) =
-    record { parts = parts; fits = k.0; rest_fits = h.rest_fits; ends = h.ends } in
-    subst (Takes Q t Ends (n ∷ bytes)) same whole
+at_byte n make reads there = made_takes (n ∷ []) make reads there
 
 pub in_case : {X Y : Type 0} {P : X → Type 0} {s : X → List ℕ} {Q : Y → Type 0} {t : Y → List ℕ}
     {Ends : List ℕ → Type 0} {r : Reader X} {others : ℕ → Reader Y} (k : ℕ) (make : X → Y)
@@ -178,12 +154,6 @@ reads_tagged {X} {P} {s} {Ends} {behind} cases again = record {
 }
 
 -- What follows.
-
--- no spelling is the beginning of another
-pub told : {X : Type 0} {P : X → Type 0} {s : X → List ℕ} {r : Reader X} → Reads P s Any r → (x y : X) (a b : List ℕ)
-    → P x → P y → s x ++ a ≡ s y ++ b → (x ≡ y) × (a ≡ b)
-told {X} {P} {s} {r} reads x y a b p q e = let same : ◌≡◌ {A = X × List ℕ} (x, a) (y, b) =
-    same_Some _ _ (sym (reads.again x a p tt) ∙ ap r e ∙ reads.again y b q tt) in (λ i. (same i).0, λ i. (same i).1)
 
 -- what a reader of all bytes reads is what they spell
 pub spelled_by : {X : Type 0} {P : X → Type 0} {s : X → List ℕ} {r : Reader X} (bytes : List ℕ) (x : X × List ℕ)
