@@ -1,10 +1,11 @@
 -- Numbers in decimal.
-use Rattle.std.proofs.Common.{◌≡◌, inl, inr, ℕ, zero, suc, ◌^◌, ◌<◌, ◌≤◌, true, false, ltb, leb, eqb, ◌&&◌, ◌||◌, List}
-use Rattle.std.proofs.Common.{[], ◌∷◌, length, get_or, Some, None, Result, Err, refl, sym, ap, subst, ◌∙◌, arith, rules}
+use Rattle.std.proofs.Common.{◌≡◌, inl, inr, ℕ, zero, suc, ◌^◌, ◌<◌, ◌≤◌, true, false, leb, ◌&&◌, List, []}
+use Rattle.std.proofs.Common.{◌∷◌, length, get_or, Option, Some, None, Result, Err, refl, sym, ap, ◌∙◌, arith, rules}
 use Rattle.std.specs.List.{list_all}
 use Rattle.std.specs.Fmt.{decimal}
 use Rattle.std.specs.Str.Parse.{ParsesUnsigned, digits_value}
-use Rattle.std.proofs.lemmas.Bool.{eqb-true, ltb-true, lt-ltb, leb-true, le-leb, lt-leb, and_parts, or_cases, cases_lt}
+use Rattle.std.proofs.lemmas.Bool.{lt-ltb, leb-true, le-leb, lt-leb, and_parts, cases_lt}
+use Rattle.std.proofs.lemmas.Bool.Decides.{nat_tests}
 use Rattle.std.proofs.lemmas.Str.Parse.{IsNumeralModel, numerals_by_value, parse_digits}
 use Rattle.std.proofs.lemmas.Fmt.{decimal-digits_value, decimal_is_IsNumeral, decimal_digit, first_decimal}
 use Rattle.rq_bytes.proofs.Single.{guard_some}
@@ -21,16 +22,7 @@ pub record IsPlain (bytes : List ℕ) : Type 0 where
 
 pub plain : (bytes : List ℕ) → is_decimal bytes ≡ true → IsPlain bytes
 plain [] h = absurd cc
-plain (b ∷ bs) h =
-    let p = and_parts (list_all is_digit (b ∷ bs)) (eqb (length bs) 0 || ltb 48 b) h in
-    record {
-      digits = p.0;
-      some = omega arith;
-      lead = λ zero-is. elim (or_cases (eqb (length bs) 0) (ltb 48 b) p.1) [
-        | inl k ↦ let e : length bs ≡ 0 = eqb-true (length bs) 0 k in omega arith
-        | inr k ↦ let lt : 48 < b = ltb-true 48 b k in omega arith
-      ];
-    }
+plain (b ∷ bs) h = grind (arith, nat_tests)
 
 pub number_takes : (most : ℕ) (bytes : List ℕ) (n : ℕ) → most < 2 ^ 64 → number_of most bytes ≡ Some n
     → (bytes ≡ decimal n) × (n ≤ most)
@@ -64,9 +56,7 @@ number_again most n small le =
 pub parsed_err : {E : Type 0} (bytes text : List ℕ) (e : E) (r : Result ℕ E) → r ≡ Err e → text ≡ bytes
     → is_decimal bytes ≡ true → ParsesUnsigned 64 10 text r → None ≡ number_of 18446744073709551615 bytes
 parsed_err {E} bytes text e r is-err same h parses =
-    let p : ParsesUnsigned {E = E} 64 10 bytes (Err e) =
-    subst (λ (t : List ℕ). ParsesUnsigned {E = E} 64 10 t (Err e)) same
-    (subst (λ (q : Result ℕ E). ParsesUnsigned {E = E} 64 10 text q) is-err parses) in
+    let p : ParsesUnsigned {E = E} 64 10 bytes (Err e) = rw (is-err, same) at parses in
     let f = plain bytes h in
     let refused = parse_digits own {E = E} 64 bytes (Err e) p f.digits in
     elim (cases_lt (digits_value 10 bytes) (2 ^ 64)) [
@@ -77,34 +67,12 @@ parsed_err {E} bytes text e r is-err same h parses =
 
 pub ascii_digits : (bytes : List ℕ) → list_all is_digit bytes ≡ true → (i : ℕ) → get_or bytes i 0 < 128
 ascii_digits [] all i = omega arith
-ascii_digits (b ∷ bs) all zero = let p =
-    and_parts (leb 48 b) (leb b 57) (and_parts (is_digit b) (list_all is_digit bs) all).0 in let top : b ≤ 57 =
-    leb-true b 57 p.1 in omega arith
-ascii_digits (b ∷ bs) all (suc i) = ascii_digits bs (and_parts (is_digit b) (list_all is_digit bs) all).1 i
+ascii_digits (b ∷ bs) all zero = grind (arith, nat_tests)
+ascii_digits (b ∷ bs) all (suc i) = grind (arith, nat_tests, ascii_digits bs)
 
 -- the number of a text, as it is read
-pub some_number : (most : ℕ) (text : List ℕ) (n : ℕ) → most < 2 ^ 64 → n ≤ most
-    → Some n ≡ number_of 18446744073709551615 text → IsNumber most text (Some n)
-some_number most text n small le is = (le, (number_takes 18446744073709551615 text n (omega arith) (sym is)).0)
-
-pub no_number : (most : ℕ) (text : List ℕ) → most < 2 ^ 64 → number_of 18446744073709551615 text ≡ None
-    → IsNumber most text None
-no_number most text small none = λ n le same.
-    let read : number_of 18446744073709551615 text ≡ Some n =
-    subst (λ (t : List ℕ). number_of 18446744073709551615 t ≡ Some n) (sym same)
-    (number_again 18446744073709551615 n (omega arith) (omega (arith, le, small))) in
-    let no : None ≡ Some n = sym none ∙ read in
-    absurd (cc)
-
-pub other_number : (most : ℕ) (text : List ℕ) (v : ℕ) → most < 2 ^ 64 → most < v
-    → number_of 18446744073709551615 text ≡ Some v → IsNumber most text None
-other_number most text v small more is = λ n le same.
-    let read : number_of 18446744073709551615 text ≡ Some n =
-    subst (λ (t : List ℕ). number_of 18446744073709551615 t ≡ Some n) (sym same)
-    (number_again 18446744073709551615 n (omega arith) (omega (arith, le, small))) in
-    let both : Some v ≡ Some n = sym is ∙ read in
-    let one : v ≡ n = cc in
-    absurd (omega (arith, one, le, more))
-
-pub not_decimal : (most : ℕ) (text : List ℕ) → most < 2 ^ 64 → is_decimal text ≡ false → IsNumber most text None
-not_decimal most text small h = no_number most text small (rw h refl)
+pub number_is : (most : ℕ) (text : List ℕ) (r : Option ℕ) → most < 2 ^ 64 → number_of most text ≡ r
+    → IsNumber most text r
+number_is most text (Some n) small is = let t = number_takes most text n small is in (t.1, t.0)
+number_is most text None small is = λ n le same.
+    let found : number_of most text ≡ Some n = rw same (number_again most n small le) in absurd cc

@@ -1,6 +1,6 @@
 -- A script has one answer: its lines are told one after the other, and end in one way.
-use Rattle.std.proofs.Common.{◌≡◌, ◌⊎◌, ℕ, ◌+◌, ◌<◌, ◌≤◌, List, [], ◌∷◌, ◌++◌, length, Result, Ok, Err, refl, sym}
-use Rattle.std.proofs.Common.{ap, subst, ◌∙◌, append_assoc, arith, inl, inr}
+use Rattle.std.proofs.Common.{◌≡◌, ℕ, ◌+◌, ◌<◌, ◌≤◌, List, [], ◌∷◌, ◌++◌, length, Result, Ok, Err, refl, sym}
+use Rattle.std.proofs.Common.{ap, subst, ◌∙◌, append_assoc, arith}
 use Rattle.std.specs.List.{AllByRecursion}
 use Rattle.std.proofs.lemmas.List.{length-append}
 use Rattle.std.proofs.lemmas.Option.{same_Some}
@@ -26,44 +26,6 @@ pub record AnswerLaws : Type 0 where
   pub front : OneFront
   pub joins : LogJoins
 
--- One line, and what it adds.
-
-same_line : (version : Version) (l m : Line) (x y : List ℕ) → IsLine version l → IsLine version m
-    → ended l ++ x ≡ ended m ++ y → (l ≡ m) × (x ≡ y)
-same_line version l m x y is also e =
-    let whole : line_text l ++ 10 ∷ x ≡ line_text m ++ 10 ∷ y =
-    sym (append_assoc (line_text l) (10 ∷ []) x) ∙ e ∙ append_assoc (line_text m) (10 ∷ []) y in
-    let both : (line_text l, x) ≡ (line_text m, y) =
-    same_Some _ _ (sym (cut_line version l x is) ∙ ap (cut_at 10) whole ∙ cut_line version m y also) in
-    let text : line_text l ≡ line_text m = ap (λ (p : List ℕ × List ℕ). p.0) both in
-    let line : l ≡ m =
-    same_Some _ _ (sym (line_again version l is) ∙ ap (line_at version) text ∙ line_again version m also) in
-    (line, ap (λ (p : List ℕ × List ℕ). p.1) both)
-
-one_state : (version : Version) → OneFront → (rs : List Record) (s t : State) → IsStateOf version rs s
-    → IsStateOf version rs t → s ≡ t
-one_state version front rs s t h k =
-    let one = front (log_of version rs) version version h.0 k.0 h.1 k.1 h.2 k.2 in
-    h.3 ∙ ap (run empty) one.1 ∙ sym k.3
-
-one_added : (version : Version) → OneFront → (rs : List Record) (l : Line) (r q : Record) → Adds version rs l r
-    → Adds version rs l q → r ≡ q
-one_added version front rs (Told told) r q h k = h ∙ sym k
-one_added version front rs Spelled r q h k =
-    h.3 ∙ ap (λ (s : State). Checkpoint (state_bytes s)) (one_state version front rs h.0 k.0 h.1 k.1) ∙ sym k.3
-
--- each record makes the log longer
-longer : (version : Version) → LogJoins → (before : List Record) (ls : List Line) (after : List Record)
-    → AreAdded version before ls after → length (log_of version before) ≤ length (log_of version after)
-longer version joins before [] after h = omega (arith, ap (λ (rs : List Record). length (log_of version rs)) h)
-longer version joins before (l ∷ ls) after h =
-    omega (
-      arith,
-      longer version joins (before ++ h.0 ∷ []) ls after h.2,
-      ap length (log_added version joins before h.0),
-      length-append (log_of version before) (frame (last_of (start version) before) (body_of h.0)),
-    )
-
 -- How a script ends.
 
 data End : Type 0 where
@@ -87,183 +49,153 @@ answer_of version n rs Large = Err faults.TooLarge
 answer_of version n rs Long = Err faults.TooLong
 
 -- the answer, with the lines before the end
-record IsEnded (version : Version) (script : List ℕ) (result : Result (List ℕ) Fault) : Type 0 where
-  pub lines : List Line
-  pub records : List Record
-  pub rest : List ℕ
-  pub end : End
-  pub begins : BeginsWithLines version script lines records rest
-  pub ends : Ends version records rest end
-  pub is : result ≡ answer_of version (length lines) records end
+abbrev IsEnded : Version → List ℕ → Result (List ℕ) Fault → Type 0
+IsEnded version script result = (ls : List Line) × (rs : List Record) × (rest : List ℕ) × (end : End)
+    × BeginsWithLines version script ls rs rest × Ends version rs rest end
+    × (result ≡ answer_of version (length ls) rs end)
 
 is_ended : (version : Version) (script : List ℕ) (result : Result (List ℕ) Fault) → Answers version script result
     → IsEnded version script result
-is_ended version script (Ok log) ((ls, rs, begins, e), some) = record {
-  lines = ls;
-  records = rs;
-  rest = [];
-  end = Done;
-  begins = begins;
-  ends = refl;
-  is = ap Ok e;
-}
-is_ended version script (Err (faults.Script n)) ((ls, rs, rest, stops), some) = record {
-  lines = ls;
-  records = rs;
-  rest = rest;
-  end = Untold;
-  begins = stops.begins;
-  ends = (stops.some, stops.none);
-  is = ap (λ (k : ℕ). Err (faults.Script k)) stops.is;
-}
-is_ended version script (Err faults.TooLarge) ((ls, rs, rest, s, swells), some) = record {
-  lines = ls;
-  records = rs;
-  rest = ended Spelled ++ rest;
-  end = Large;
-  begins = swells.begins;
-  ends = (rest, s, refl, swells.state, swells.long);
-  is = refl;
-}
-is_ended version script (Err faults.TooLong) ((ls, rs, l, r, rest, passes), some) = record {
-  lines = ls;
-  records = rs;
-  rest = ended l ++ rest;
-  end = Long;
-  begins = passes.begins;
-  ends = (l, r, rest, refl, passes.line, passes.adds, passes.long);
-  is = refl;
-}
+is_ended version script (Ok log) ((ls, rs, begins, e), some) = (ls, rs, [], Done, begins, refl, ap Ok e)
+is_ended version script (Err (faults.Script n)) ((ls, rs, rest, stops), some) =
+    let is = ap (λ (k : ℕ). Err (faults.Script k)) stops.is in
+    (ls, rs, rest, Untold, stops.begins, (stops.some, stops.none), is)
+is_ended version script (Err faults.TooLarge) ((ls, rs, rest, s, swells), some) =
+    (ls, rs, ended Spelled ++ rest, Large, swells.begins, (rest, s, refl, swells.state, swells.long), refl)
+is_ended version script (Err faults.TooLong) ((ls, rs, l, r, rest, passes), some) =
+    (ls, rs, ended l ++ rest, Long, passes.begins, (l, r, rest, refl, passes.line, passes.adds, passes.long), refl)
 is_ended version script (Err faults.Resources) (made, some) = absurd (some refl)
 is_ended version script (Err _) (made, some) = absurd made
 
--- After the same lines a script ends in one way.
+-- these lines follow the records before, and so does the end
+abbrev Follows : Version → List Record → List ℕ → List Line → List Record → List ℕ → End → Type 0
+Follows version before script ls rs rest end = AllByRecursion (IsLine version) ls × AreAdded version before ls rs
+    × (script ≡ script_of ls ++ rest) × (length (log_of version rs) ≤ log_limit) × Ends version rs rest end
 
 nothing_left : (l : Line) (rest after : List ℕ) → rest ≡ [] → rest ≡ ended l ++ after → ⊥
 nothing_left l rest after none e =
     omega (arith, ap length none, ap length e, length-append (ended l) after, length-append (line_text l) (10 ∷ []))
 
-told_after_all : (version : Version) (l : Line) (rest after : List ℕ) → NoLine version rest → IsLine version l
-    → rest ≡ ended l ++ after → ⊥
-told_after_all version l rest after none is e = none l after is (e ∙ append_assoc (line_text l) (10 ∷ []) after)
+module _ (version : Version) (laws : AnswerLaws) where
+  -- One line, and what it adds.
 
--- if a checkpoint of a state that is too large comes next, no line adds a record
-too_large : (version : Version) → OneFront → (rs : List Record) (rest : List ℕ) (l : Line) (r : Record)
-    (after : List ℕ) → Ends version rs rest Large → rest ≡ ended l ++ after → IsLine version l → Adds version rs l r → ⊥
-too_large version front rs rest l r after (behind, s, e, state, long) whole is adds =
-    let same = same_line version Spelled l behind after tt is (sym e ∙ whole) in
-    let (t, other, short, spelled) = subst (λ (m : Line). Adds version rs m r) (sym same.0) adds in
-    omega (arith, long, short, ap (λ (z : State). length (state_bytes z)) (one_state version front rs s t state other))
+  same_line : (l m : Line) (x y : List ℕ) → IsLine version l → IsLine version m → ended l ++ x ≡ ended m ++ y
+      → (l ≡ m) × (x ≡ y)
+  same_line l m x y is also e =
+      let whole : line_text l ++ 10 ∷ x ≡ line_text m ++ 10 ∷ y =
+      sym (append_assoc (line_text l) (10 ∷ []) x) ∙ e ∙ append_assoc (line_text m) (10 ∷ []) y in
+      let both : (line_text l, x) ≡ (line_text m, y) =
+      same_Some _ _ (sym (cut_line version l x is) ∙ ap (cut_at 10) whole ∙ cut_line version m y also) in
+      let line = ap (λ (p : List ℕ × List ℕ). line_at version p.0) both in (
+        same_Some _ _ (sym (line_again version l is) ∙ line ∙ line_again version m also),
+        ap (λ (p : List ℕ × List ℕ). p.1) both,
+      )
 
-one_end : (version : Version) → OneFront → (rs : List Record) (rest : List ℕ) (e f : End) → Ends version rs rest e
-    → Ends version rs rest f → e ≡ f
-one_end version front rs rest Done Done h k = refl
-one_end version front rs rest Untold Untold h k = refl
-one_end version front rs rest Large Large h k = refl
-one_end version front rs rest Long Long h k = refl
-one_end version front rs rest Done Untold h k = absurd (omega (arith, ap length h, k.0))
-one_end version front rs rest Untold Done h k = absurd (omega (arith, ap length k, h.0))
-one_end version front rs rest Done Large h k = absurd (nothing_left Spelled rest k.0 h k.2)
-one_end version front rs rest Large Done h k = absurd (nothing_left Spelled rest h.0 k h.2)
-one_end version front rs rest Done Long h k = absurd (nothing_left k.0 rest k.2 h k.3)
-one_end version front rs rest Long Done h k = absurd (nothing_left h.0 rest h.2 k h.3)
-one_end version front rs rest Untold Large h k = absurd (told_after_all version Spelled rest k.0 h.1 tt k.2)
-one_end version front rs rest Large Untold h k = absurd (told_after_all version Spelled rest h.0 k.1 tt h.2)
-one_end version front rs rest Untold Long h k = absurd (told_after_all version k.0 rest k.2 h.1 k.4 k.3)
-one_end version front rs rest Long Untold h k = absurd (told_after_all version h.0 rest h.2 k.1 h.4 h.3)
-one_end version front rs rest Large Long h k = absurd (too_large version front rs rest k.0 k.1 k.2 h k.3 k.4 k.5)
-one_end version front rs rest Long Large h k = absurd (too_large version front rs rest h.0 h.1 h.2 k h.3 h.4 h.5)
+  one_state : (rs : List Record) (s t : State) → IsStateOf version rs s → IsStateOf version rs t → s ≡ t
+  one_state rs s t h k =
+      let one = laws.front (log_of version rs) version version h.0 k.0 h.1 k.1 h.2 k.2 in
+      h.3 ∙ ap (run empty) one.1 ∙ sym k.3
 
--- One more line follows those lines, and the log has room for its record
-record GoesOn (version : Version) (rs : List Record) (rest : List ℕ) : Type 0 where
-  pub line : Line
-  pub more : Record
-  pub after : List ℕ
-  pub is : IsLine version line
-  pub adds : Adds version rs line more
-  pub whole : rest ≡ ended line ++ after
-  pub fits : length (log_of version (rs ++ more ∷ [])) ≤ log_limit
+  one_added : (rs : List Record) (l : Line) (r q : Record) → Adds version rs l r → Adds version rs l q → r ≡ q
+  one_added rs (Told told) r q h k = h ∙ sym k
+  one_added rs Spelled r q h k =
+      h.3 ∙ ap (λ (s : State). Checkpoint (state_bytes s)) (one_state rs h.0 k.0 h.1 k.1) ∙ sym k.3
 
--- so no script ends there
-no_end : (version : Version) → OneFront → (rs : List Record) (rest : List ℕ) (e : End) → Ends version rs rest e
-    → GoesOn version rs rest → ⊥
-no_end version front rs rest Done h on = nothing_left on.line rest on.after h on.whole
-no_end version front rs rest Untold h on = told_after_all version on.line rest on.after h.1 on.is on.whole
-no_end version front rs rest Large h on =
-    too_large version front rs rest on.line on.more on.after h on.whole on.is on.adds
-no_end version front rs rest Long (l, r, after, e, is, adds, long) on =
-    let same = same_line version l on.line after on.after is on.is (sym e ∙ on.whole) in
-    let one = one_added version front rs on.line r on.more
-    (subst (λ (m : Line). Adds version rs m r) same.0 adds) on.adds in
-    omega (arith, long, on.fits, ap (λ (q : Record). length (log_of version (rs ++ q ∷ []))) one)
+  -- each record makes the log longer
+  longer : (before : List Record) (ls : List Line) (after : List Record) → AreAdded version before ls after
+      → length (log_of version before) ≤ length (log_of version after)
+  longer before [] after h = omega (arith, ap (λ (rs : List Record). length (log_of version rs)) h)
+  longer before (l ∷ ls) after h =
+      omega (
+        arith,
+        longer (before ++ h.0 ∷ []) ls after h.2,
+        ap length (log_added version laws.joins before h.0),
+        length-append (log_of version before) (frame (last_of (start version) before) (body_of h.0)),
+      )
 
--- Two lists of lines at the front of a script are the same, or one goes on after the other.
+  -- After the same lines a script ends in one way.
 
-abbrev Compares : Version → List Line → List Line → List Record → List Record → List ℕ → List ℕ → Type 0
-Compares version ls ms rs qs rest more = ((length ls ≡ length ms) × (rs ≡ qs) × (rest ≡ more))
-    ⊎ (GoesOn version rs rest ⊎ GoesOn version qs more)
+  told_after_all : (l : Line) (rest after : List ℕ) → NoLine version rest → IsLine version l → rest ≡ ended l ++ after
+      → ⊥
+  told_after_all l rest after none is e = none l after is (e ∙ append_assoc (line_text l) (10 ∷ []) after)
 
-goes_on : (version : Version) → LogJoins → (before rs qs : List Record) (rest more : List ℕ) (m : Line) (ms : List Line)
-    → rs ≡ before → IsLine version m → AreAdded version before (m ∷ ms) qs → rest ≡ script_of (m ∷ ms) ++ more
-    → length (log_of version qs) ≤ log_limit → GoesOn version rs rest
-goes_on version joins before rs qs rest more m ms same is (r, adds, others) e fits =
-    subst (λ (xs : List Record). GoesOn version xs rest) (sym same) (record {
-      line = m;
-      more = r;
-      after = script_of ms ++ more;
-      is = is;
-      adds = adds;
-      whole = e ∙ append_assoc (ended m) (script_of ms) more;
-      fits = omega (arith, fits, longer version joins (before ++ r ∷ []) ms qs others);
-    })
+  -- if a checkpoint of a state that is too large comes next, no line adds a record
+  too_large : (rs : List Record) (rest : List ℕ) (l : Line) (r : Record) (after : List ℕ) → Ends version rs rest Large
+      → rest ≡ ended l ++ after → IsLine version l → Adds version rs l r → ⊥
+  too_large rs rest l r after (behind, s, e, state, long) whole is adds =
+      let same = same_line Spelled l behind after tt is (sym e ∙ whole) in
+      let (t, other, short, spelled) = subst (λ (m : Line). Adds version rs m r) (sym same.0) adds in
+      omega (arith, long, short, ap (λ (z : State). length (state_bytes z)) (one_state rs s t state other))
 
-compare : (version : Version) → AnswerLaws → (before : List Record) (ls ms : List Line) (rs qs : List Record)
-    (rest more : List ℕ) → AllByRecursion (IsLine version) ls → AllByRecursion (IsLine version) ms
-    → AreAdded version before ls rs → AreAdded version before ms qs → script_of ls ++ rest ≡ script_of ms ++ more
-    → length (log_of version rs) ≤ log_limit → length (log_of version qs) ≤ log_limit
-    → Compares version ls ms rs qs rest more
-compare version laws before [] [] rs qs rest more are also h k e fits short = inl (refl, h ∙ sym k, e)
-compare version laws before [] (m ∷ ms) rs qs rest more are also h k e fits short =
-    inr (inl (goes_on version laws.joins before rs qs rest more m ms h also.0 k e short))
-compare version laws before (l ∷ ls) [] rs qs rest more are also h k e fits short =
-    inr (inr (goes_on version laws.joins before qs rs more rest l ls k are.0 h (sym e) fits))
-compare version laws before (l ∷ ls) (m ∷ ms) rs qs rest more are also (r, adds, others)
-    (q, adds', others') e fits short =
-    elim (compare version laws (before ++ r ∷ []) ls ms rs qs rest more are.1 also.1 others again same.1 fits short) [
-      | inl all ↦ inl (omega (arith, all.0), all.1, all.2)
-      | inr on ↦ inr on
-    ]
-  where
-    same : (l ≡ m) × (script_of ls ++ rest ≡ script_of ms ++ more)
-    same = same_line version l m (script_of ls ++ rest) (script_of ms ++ more) are.0 also.0
-        (sym (append_assoc (ended l) (script_of ls) rest) ∙ e ∙ append_assoc (ended m) (script_of ms) more)
+  one_end : (rs : List Record) (rest : List ℕ) (e f : End) → Ends version rs rest e → Ends version rs rest f → e ≡ f
+  one_end rs rest Done Done h k = refl
+  one_end rs rest Untold Untold h k = refl
+  one_end rs rest Large Large h k = refl
+  one_end rs rest Long Long h k = refl
+  one_end rs rest Done Untold h k = absurd (omega (arith, ap length h, k.0))
+  one_end rs rest Untold Done h k = absurd (omega (arith, ap length k, h.0))
+  one_end rs rest Done Large h k = absurd (nothing_left Spelled rest k.0 h k.2)
+  one_end rs rest Large Done h k = absurd (nothing_left Spelled rest h.0 k h.2)
+  one_end rs rest Done Long h k = absurd (nothing_left k.0 rest k.2 h k.3)
+  one_end rs rest Long Done h k = absurd (nothing_left h.0 rest h.2 k h.3)
+  one_end rs rest Untold Large h k = absurd (told_after_all Spelled rest k.0 h.1 tt k.2)
+  one_end rs rest Large Untold h k = absurd (told_after_all Spelled rest h.0 k.1 tt h.2)
+  one_end rs rest Untold Long h k = absurd (told_after_all k.0 rest k.2 h.1 k.4 k.3)
+  one_end rs rest Long Untold h k = absurd (told_after_all h.0 rest h.2 k.1 h.4 h.3)
+  one_end rs rest Large Long h k = absurd (too_large rs rest k.0 k.1 k.2 h k.3 k.4 k.5)
+  one_end rs rest Long Large h k = absurd (too_large rs rest h.0 h.1 h.2 k h.3 h.4 h.5)
 
-    one : q ≡ r
-    one = one_added version laws.front before l q r
-        (subst (λ (z : Line). Adds version before z q) (sym same.0) adds') adds
+  -- where one more line follows for which the log has room, no script ends
+  no_end : (rs : List Record) (rest : List ℕ) (e : End) (l : Line) (r : Record) (after : List ℕ)
+      → Ends version rs rest e → IsLine version l → Adds version rs l r → rest ≡ ended l ++ after
+      → length (log_of version (rs ++ r ∷ [])) ≤ log_limit → ⊥
+  no_end rs rest Done l r after h is adds whole fits = nothing_left l rest after h whole
+  no_end rs rest Untold l r after h is adds whole fits = told_after_all l rest after h.1 is whole
+  no_end rs rest Large l r after h is adds whole fits = too_large rs rest l r after h whole is adds
+  no_end rs rest Long l r after (m, q, behind, e, also, more, long) is adds whole fits =
+      let same = same_line m l behind after also is (sym e ∙ whole) in
+      let one = one_added rs l q r (subst (λ (k : Line). Adds version rs k q) same.0 more) adds in
+      omega (arith, long, fits, ap (λ (k : Record). length (log_of version (rs ++ k ∷ []))) one)
 
-    again : AreAdded version (before ++ r ∷ []) ms qs
-    again = subst (λ (z : Record). AreAdded version (before ++ z ∷ []) ms qs) one others'
+  -- nor does one where other lines go on
+  goes_on : (before rs qs : List Record) (script rest more : List ℕ) (m : Line) (ms : List Line) (e f : End)
+      → Follows version before script [] rs rest e → Follows version before script (m ∷ ms) qs more f → ⊥
+  goes_on before rs qs script rest more m ms e f (none, same, all, fits, ends)
+      (are, (r, adds, others), whole, short, there) =
+      no_end before script e m r (script_of ms ++ more)
+      (subst (λ (z : List Record × List ℕ). Ends version z.0 z.1 e) (λ i. (same i, (sym all) i)) ends) are.0 adds
+      (whole ∙ append_assoc (ended m) (script_of ms) more)
+      (omega (arith, short, longer (before ++ r ∷ []) ms qs others))
+
+  -- so the lines that follow are the same, and the end is too
+  compare : (before : List Record) (script : List ℕ) (ls ms : List Line) (rs qs : List Record) (rest more : List ℕ)
+      (e f : End) → Follows version before script ls rs rest e → Follows version before script ms qs more f
+      → (length ls ≡ length ms) × (rs ≡ qs) × (e ≡ f)
+  compare before script [] [] rs qs rest more e f (are, h, whole, fits, ends) (also, k, other, short, there) = (
+    refl,
+    h ∙ sym k,
+    one_end rs rest e f ends (subst (λ (z : List Record × List ℕ). Ends version z.0 z.1 f)
+        (λ i. ((k ∙ sym h) i, (sym other ∙ whole) i)) there),
+  )
+  compare before script [] (m ∷ ms) rs qs rest more e f h k =
+      absurd (goes_on before rs qs script rest more m ms e f h k)
+  compare before script (l ∷ ls) [] rs qs rest more e f h k =
+      absurd (goes_on before qs rs script more rest l ls f e k h)
+  compare before script (l ∷ ls) (m ∷ ms) rs qs rest more e f (are, (r, adds, others), whole, fits, ends)
+      (also, (q, adds', others'), other, short, there) =
+      let same = same_line l m (script_of ls ++ rest) (script_of ms ++ more) are.0 also.0
+      (sym (append_assoc (ended l) (script_of ls) rest) ∙ sym whole ∙ other
+      ∙ append_assoc (ended m) (script_of ms) more) in
+      let one = one_added before l q r (subst (λ (z : Line). Adds version before z q) (sym same.0) adds') adds in
+      let again = subst (λ (z : Record). AreAdded version (before ++ z ∷ []) ms qs) one others' in
+      let all = compare (before ++ r ∷ []) (script_of ls ++ rest) ls ms rs qs rest more e f
+      (are.1, others, refl, fits, ends) (also.1, again, same.1, short, there) in
+      (omega (arith, all.0), all.1, all.2)
 
 pub one_answer : AnswerLaws → OneAnswer
 one_answer laws version script x y h k =
-    elim (compare version laws [] a.lines b.lines a.records b.records a.rest b.rest a.begins.lines b.begins.lines
-    a.begins.added b.begins.added (sym a.begins.whole ∙ b.begins.whole) a.begins.fits b.begins.fits) [
-      | inl same ↦ a.is ∙ equal same ∙ sym b.is
-      | inr (inl on) ↦ absurd (no_end version laws.front a.records a.rest a.end a.ends on)
-      | inr (inr on) ↦ absurd (no_end version laws.front b.records b.rest b.end b.ends on)
-    ]
-  where
-    a : IsEnded version script x
-    a = is_ended version script x h
-
-    b : IsEnded version script y
-    b = is_ended version script y k
-
-    equal : (length a.lines ≡ length b.lines) × (a.records ≡ b.records) × (a.rest ≡ b.rest)
-        → answer_of version (length a.lines) a.records a.end ≡ answer_of version (length b.lines) b.records b.end
-    equal (count, records, rest) =
-        let there : Ends version a.records a.rest b.end =
-        subst (λ (z : List Record × List ℕ). Ends version z.0 z.1 b.end) (λ i. (sym records i, sym rest i)) b.ends in
-        let end = one_end version laws.front a.records a.rest a.end b.end a.ends there in
-        λ i. answer_of version (count i) (records i) (end i)
+    let (ls, rs, rest, e, a, ends, is) = is_ended version script x h in
+    let (ms, qs, more, f, b, there, also) = is_ended version script y k in
+    let all = compare version laws [] script ls ms rs qs rest more e f (a.lines, a.added, a.whole, a.fits, ends)
+    (b.lines, b.added, b.whole, b.fits, there) in
+    is ∙ (λ i. answer_of version (all.0 i) (all.1 i) (all.2 i)) ∙ sym also

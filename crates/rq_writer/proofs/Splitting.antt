@@ -6,11 +6,11 @@ use Rattle.std.specs.List.{AllByRecursion}
 use Rattle.std.proofs.lemmas.List.{append-nil, length-append, map-append}
 use Rattle.rq_model.specs.Records.{Record, Version}
 use Rattle.rq_model.specs.Spelling.{IsRecord, body_of}
-use Rattle.rq_model.specs.Frames.{frames, start, header, bodies_of, frames_of, last_of, log_of, AreBodies, IsBodyLength}
+use Rattle.rq_model.specs.Frames.{start, header, bodies_of, frames_of, log_of, IsBodyLength}
 use Rattle.rq_model.specs.Frames.{IsRun, Whole}
 use Rattle.rq_model.specs.LogLaws.{RunStops, RecordHasOneBody, RunGivesFront}
 use Rattle.rq_model.specs.States.{State, empty}
-use Rattle.rq_model.specs.Machine.{is_lawful, all_lawful, lawful_front, run}
+use Rattle.rq_model.specs.Machine.{all_lawful, lawful_front, run}
 use Rattle.rq_model.proofs.Lists.{each_map}
 use Rattle.rq_model.proofs.Restarts.{run_join, lawful_join, next_run, each_cut, frames_many}
 use Rattle.rq_catalog.proofs.Fronts.{IsParted, Stops, parted, is_more, more_is}
@@ -87,60 +87,36 @@ state_fits version rs s h =
 
 -- The front.
 
-are_bodies : (version : Version) → RecordHasOneBody → (rs : List Record) → AllByRecursion (IsRecord version) rs
-    → AreBodies (bodies_of rs)
-are_bodies version one rs h = each_map (IsRecord version) (λ body. IsBodyLength (length body)) body_of
-    (λ r is. (one version r (body_of r) (body_of r) (is, refl) (is, refl)).1) rs h
+-- what it rests on
+pub record FrontLaws : Type 0 where
+  pub stops : RunStops
+  pub body : RecordHasOneBody
+  pub gives : RunGivesFront
 
-whole_run : (version : Version) → RunStops → RecordHasOneBody → (rs : List Record)
-    → AllByRecursion (IsRecord version) rs → IsRun (start version) (frames_of (start version) rs) (bodies_of rs) []
-whole_run version stops one rs h =
-    stops (start version) (frames_of (start version) rs) [] (bodies_of rs) Whole (are_bodies version one rs h)
-    (sym (append-nil (frames_of (start version) rs))) refl
+module _ (version : Version) (laws : FrontLaws) where
+  whole_run : (rs : List Record) → AllByRecursion (IsRecord version) rs
+      → IsRun (start version) (frames_of (start version) rs) (bodies_of rs) []
+  whole_run rs h =
+      let are = each_map (IsRecord version) (λ body. IsBodyLength (length body)) body_of
+      (λ r is. (laws.body version r (body_of r) (body_of r) (is, refl) (is, refl)).1) rs h in
+      laws.stops (start version) (frames_of (start version) rs) [] (bodies_of rs) Whole are
+      (sym (append-nil (frames_of (start version) rs))) refl
 
-all_are_front : (version : Version) → RunStops → RecordHasOneBody → RunGivesFront → (rs : List Record) (s : State)
-    → AreLogged version rs → all_lawful version empty rs ≡ true → s ≡ run empty rs → IsStateOf version rs s
-all_are_front version stops one gives rs s logged lawful e = (
-  rs,
-  [],
-  record {
-    short = logged.fits;
-    bytes = frames_of (start version) rs;
-    whole = refl;
-    longest = gives.used version empty (start version) (frames_of (start version) rs) [] rs Whole
-        (whole_run version stops one rs logged.records) refl logged.records lawful;
-  },
-  e,
-)
-
-some_are_front : (version : Version) → RunStops → RecordHasOneBody → RunGivesFront
-    → (done : List Record) (first : Record) (more : List Record) (s : State) → AreLogged version (done ++ first ∷ more)
-    → all_lawful version empty done ≡ true → is_lawful version s first ≡ false → s ≡ run empty done
-    → IsStateOf version (done ++ first ∷ more) s
-some_are_front version stops one gives done first more s logged lawful unlawful e =
-    let rs = done ++ first ∷ more in
-    let bytes = frames_of (start version) rs in
-    let are = each_cut (IsRecord version) done (first ∷ more) logged.records in
-    let run_is : IsRun (start version) bytes (bodies_of done ++ body_of first ∷ bodies_of more) [] =
-    subst (λ bodies. IsRun (start version) bytes bodies []) (map-append body_of done (first ∷ more))
-    (whole_run version stops one rs logged.records) in
-    let ends = gives.law version empty (start version) bytes [] done (body_of first)
-    (bodies_of more) first run_is are.0 lawful
-    (are.1.0, refl) (subst (λ t. is_lawful version t first ≡ false) e unlawful) in (
-      done,
-      frames (last_of (start version) done) (body_of first ∷ bodies_of more) ++ [],
-      record { short = logged.fits; bytes = bytes; whole = refl; longest = ends.0 },
-      e,
-    )
-
--- if nothing follows the state, it is the state after the front
-pub split_is_state : (version : Version) → RunStops → RecordHasOneBody → RunGivesFront
-    → (s : State) (ended : Bool) (rs : List Record) → Splits version s [] ended rs → AreLogged version rs
-    → IsStateOf version rs s
-split_is_state version stops one gives s false rs h logged =
-    let same : rs ≡ h.0 = h.1 ∙ append-nil h.0 in
-    all_are_front version stops one gives rs s logged (subst (λ l. all_lawful version empty l ≡ true) (sym same) h.2)
-    (subst (λ l. s ≡ run empty l) (sym same) h.3)
-split_is_state version stops one gives s true rs h logged =
-    subst (λ l. IsStateOf version l s) (sym h.3)
-    (some_are_front version stops one gives h.0 h.1 h.2 s (subst (AreLogged version) h.3 logged) h.4 h.5 h.6)
+  -- if nothing follows the state, it is the state after the front
+  pub split_is_state : (s : State) (ended : Bool) (rs : List Record) → Splits version s [] ended rs
+      → AreLogged version rs → IsStateOf version rs s
+  split_is_state s false rs (done, whole, lawful, e) logged =
+      let same : rs ≡ done = whole ∙ append-nil done in
+      let bytes = frames_of (start version) rs in
+      let longest = laws.gives.used version empty (start version) bytes [] rs Whole (whole_run rs logged.records) refl
+      logged.records (rw same lawful) in
+      (rs, [], record { short = logged.fits; bytes = bytes; whole = refl; longest = longest }, rw same e)
+  split_is_state s true rs (done, first, more, same, lawful, unlawful, e) logged =
+      let bytes = frames_of (start version) rs in
+      let are = each_cut (IsRecord version) done (first ∷ more) (rw same at logged.records) in
+      let run_is : IsRun (start version) bytes (bodies_of done ++ body_of first ∷ bodies_of more) [] =
+      subst (λ bodies. IsRun (start version) bytes bodies [])
+      (ap bodies_of same ∙ map-append body_of done (first ∷ more)) (whole_run rs logged.records) in
+      let ends = laws.gives.law version empty (start version) bytes [] done (body_of first) (bodies_of more) first
+      run_is are.0 lawful (are.1.0, refl) (rw e at unlawful) in
+      (done, _, record { short = logged.fits; bytes = bytes; whole = refl; longest = ends.0 }, e)

@@ -5,7 +5,7 @@ use Rattle.rq_model.specs.Frames.{IsBodyLength}
 use Rattle.rq_model.specs.LogLaws.{RecordHasOneBody}
 use Rattle.rq_record.specs.Writing.{HasKind}
 use Rattle.rq_record.specs.Views.{record_of}
-use Rattle.rq_writer.proofs.Steps.{long_log, framed_from}
+use Rattle.rq_writer.proofs.Steps.{framed_length, framed_from}
 use Rattle.rq_writer.proofs.log.append.Goals as goal
 
 -- a body of either version fits into a frame
@@ -28,17 +28,7 @@ frame-requires c =
     (body_fits (record_of c.args.r.now) c.one_spelling.ensures.body c.in_ok-encode.ensures.spelled)
 
 pub returns-then-framed_len-gt-LOG_LIMIT : goal.returns-then-framed_len-gt-LOG_LIMIT
-returns-then-framed_len-gt-LOG_LIMIT c =
-    let body = c.deref-2.ensures.value ∙ c.in_ok-encode.ensures.bytes
-    ∙ ap (λ (l : List ℕ). l ++ body_of (record_of c.args.r.now)) c.new-body.ensures.items in
-    long_log c.args.out.now.items c.args.last.now (body_of (record_of c.args.r.now))
-    (omega (
-      arith,
-      c.if-framed_len-gt-LOG_LIMIT.true,
-      c.framed_len.ensures,
-      ap length c.deref.ensures.value,
-      ap length body,
-    ))
+returns-then-framed_len-gt-LOG_LIMIT c = grind (arith, framed_length)
 
 pub returns : goal.returns
 returns c =
@@ -46,11 +36,4 @@ returns c =
     (record_of c.args.r.now) c.frame.result c.frame.ensures
     (c.deref-3.ensures.value ∙ c.in_ok-encode.ensures.bytes
     ∙ ap (λ (l : List ℕ). l ++ body_of (record_of c.args.r.now)) c.new-body.ensures.items)
-    (omega (
-      arith,
-      c.if-framed_len-gt-LOG_LIMIT.false,
-      c.framed_len.ensures,
-      ap length c.deref.ensures.value,
-      ap length c.deref-2.ensures.value,
-      ap length c.deref-3.ensures.value,
-    ))
+    (grind arith)

@@ -6,15 +6,11 @@ use Rattle.rq_writer.proofs.Steps.{starts}
 use Rattle.rq_writer.proofs.log.Log.start.Goals as goal
 
 pub last_32-last-requires : goal.last_32-last-requires
-last_32-last-requires c =
-    let made = c.in_ok-header_of.ensures
-    ∙ ap (λ (l : List ℕ). l ++ header (version_of c.args.version)) c.new-out.ensures.items in
-    omega (arith, header_long (version_of c.args.version), ap length made, ap length c.deref.ensures.value)
+last_32-last-requires c = grind (arith, header_long)
 
 pub returns : goal.returns
 returns c =
-    let made = c.in_ok-header_of.ensures
-    ∙ ap (λ (l : List ℕ). l ++ header (version_of c.args.version)) c.new-out.ensures.items in
-    starts (version_of c.args.version) c.frames_join.ensures.end _ made
+    starts (version_of c.args.version) c.frames_join.ensures.end _
+    (c.in_ok-header_of.ensures ∙ ap (λ (l : List ℕ). l ++ header (version_of c.args.version)) c.new-out.ensures.items)
     (c.last_32-last.ensures ∙ ap (λ (l : List ℕ). drop (length l - 32) l) c.deref.ensures.value)
     (c.start-front.ensures (version_of c.args.version))
