@@ -2,10 +2,10 @@
 use Rattle.std.proofs.Common.{◌≡◌, ℕ, ◌+◌, ◌≤◌, List, [], ◌∷◌, ◌++◌, length, drop, refl, sym, ap, ◌∙◌, append_assoc}
 use Rattle.std.proofs.Common.{arith, Some, None}
 use Rattle.std.specs.Prelude.{slice_get}
-use Rattle.std.specs.Int.{w32, to_be_bytes}
-use Rattle.std.proofs.lemmas.List.{drop_at, drop-drop, length-append, length-drop, length-take}
-use Rattle.rq_model.specs.Frames.{IsBodyLength, frame, frames, digest, stated, body_in, digest_in, AreBodies}
+use Rattle.std.proofs.lemmas.List.{drop_at, drop-drop, length-append, length-drop}
+use Rattle.rq_model.specs.Frames.{IsBodyLength, frame, frames, digest, AreBodies}
 use Rattle.rq_model.specs.LogLaws.{FrameIsRight}
+use Rattle.rq_model.proofs.Runs.{frame_long as long_frame}
 use Rattle.rq_front.specs.Chains.{spans_from}
 
 -- the place behind the frames of these bodies
@@ -13,31 +13,10 @@ abbrev pub behind : ℕ → List (List ℕ) → ℕ
 behind at [] = at
 behind at (body ∷ bodies) = behind (at + 36 + length body) bodies
 
--- a frame is its body and 36 bytes, since it is a right one
+-- a frame is its body and 36 bytes
 pub frame_long : FrameIsRight → (p body : List ℕ) → IsBodyLength (length body)
     → length (frame p body) ≡ 36 + length body
-frame_long right p body fits =
-    let bytes : List ℕ = frame p body ++ [] in
-    let it = right p body [] fits in
-    let n = stated bytes in
-    let sum : length (digest_in bytes) ≡ length (digest p body) = ap length (it.0.right ∙ ap (digest p) it.1) in
-    let size : length (body_in bytes) ≡ length body = ap length it.1 in
-    let front : List ℕ = to_be_bytes w32 (length body) in
-    let four : length front ≡ 4 = refl in
-    omega (
-      arith,
-      it.0.whole.room,
-      sum,
-      size,
-      four,
-      length-take 32 (drop (4 + n) bytes),
-      length-drop (4 + n) bytes,
-      length-take n (drop 4 bytes),
-      length-drop 4 bytes,
-      length-append (frame p body) [],
-      length-append front (body ++ digest p body),
-      length-append body (digest p body),
-    )
+frame_long right p body fits = long_frame p body
 
 -- behind the first frame stand the others
 pub next : FrameIsRight → (b : List ℕ) (at : ℕ) (p body : List ℕ) (bodies : List (List ℕ)) (rest : List ℕ)

@@ -1,9 +1,9 @@
 -- The checkpoint that stands at an offset, by the first body of the chain from there.
-use Rattle.std.proofs.Common.{◌≡◌, ℕ, ◌+◌, ◌-◌, ◌≤◌, Bool, true, false, cond, List, [], ◌∷◌, ◌++◌, length, drop, Some}
-use Rattle.std.proofs.Common.{None, refl, sym, ap, subst, ◌∙◌, append_assoc, arith, inl, inr}
-use Rattle.std.specs.Prelude.{◌&&◌, nat_le, max, Err, All}
+use Rattle.std.proofs.Common.{◌≡◌, ℕ, ◌+◌, ◌≤◌, List, [], ◌∷◌, ◌++◌, length, drop, Some}
+use Rattle.std.proofs.Common.{None, sym, ap, subst, ◌∙◌, append_assoc, arith}
+use Rattle.std.specs.Prelude.{Err, All}
 use Rattle.std.proofs.lemmas.List.{length-drop}
-use Rattle.std.proofs.lemmas.Bool.{and_parts, and_from, le-leb, leb-true, cases_lt}
+use Rattle.std.proofs.lemmas.Bool.Decides.{nat_tests}
 use Rattle.rq_model.specs.Records.{Version}
 use Rattle.rq_model.specs.Frames.{frame, frames, digest, last, before, body_in, HasHeader, HasRightFrame, Rest}
 use Rattle.rq_model.specs.Frames.{IsRest, IsRun, IsFrameRun}
@@ -53,46 +53,15 @@ none_first right p bytes (body ∷ more) after kept rest run stop h frame_is is 
     let some : None ≡ Some kept = sym h ∙ ap kept_of nine in
     absurd cc
 
--- the place is the offset, or no frame of b stands at the offset
-record IsPlace (b : List ℕ) (offset place : ℕ) : Type 0 where
-  pub some : 40 ≤ offset → offset ≤ length b → place ≡ offset
-  pub none : (40 ≤ offset → offset ≤ length b → ⊥) → place ≡ max (length b) 40
+-- the place is the offset, or no frame of n bytes stands there
+within : (offset n : ℕ) → 40 ≤ n → (40 ≤ chain_start offset n) × (chain_start offset n ≤ n)
+within offset n long = (grind (arith, nat_tests), grind (arith, nat_tests))
 
-is_place : (b : List ℕ) (offset : ℕ) → IsPlace b offset (chain_start offset (length b))
-is_place b offset = at (nat_le 40 offset && nat_le offset (length b)) refl
-  where
-    at : (t : Bool) → (nat_le 40 offset && nat_le offset (length b)) ≡ t
-        → IsPlace b offset (cond t offset (max (length b) 40))
-    at true e = record {
-      some = λ low high. refl;
-      none =
-          λ h. absurd (h (leb-true 40 offset (and_parts (nat_le 40 offset) (nat_le offset (length b)) e).0)
-          (leb-true offset (length b) (and_parts (nat_le 40 offset) (nat_le offset (length b)) e).1));
-    }
-    at false e = record {
-      some = λ low high.
-          absurd (no (sym (and_from (nat_le 40 offset) (nat_le offset (length b)) (le-leb 40 offset low)
-          (le-leb offset (length b) high)) ∙ e));
-      none = λ h. refl;
-    }
-      where
-        no : true ≡ false → ⊥
-        no h = cc
+chosen : (offset n : ℕ) → 40 ≤ offset → offset ≤ n → chain_start offset n ≡ offset
+chosen offset n low high = grind (arith, nat_tests)
 
-within : (b : List ℕ) (offset : ℕ) → 40 ≤ length b
-    → (40 ≤ chain_start offset (length b)) × (chain_start offset (length b) ≤ length b)
-within b offset long =
-    let where_is = is_place b offset in
-    let past : (40 ≤ offset → offset ≤ length b → ⊥)
-    → (40 ≤ chain_start offset (length b)) × (chain_start offset (length b) ≤ length b) =
-    λ h. (let e = where_is.none h in (omega (arith, e, long), omega (arith, e, long))) in
-    elim (cases_lt offset 40) [
-      | inl low ↦ past (λ h _. omega (arith, h, low))
-      | inr low ↦ elim (cases_lt (length b) offset) [
-        | inl high ↦ past (λ _ h. omega (arith, h, high))
-        | inr high ↦ (let e = where_is.some low high in (omega (arith, e, low), omega (arith, e, high)))
-      ]
-    ]
+framed_there : (offset n : ℕ) → chain_start offset n + 36 ≤ n → chain_start offset n ≡ offset
+framed_there offset n room = grind (arith, nat_tests)
 
 -- where the first body is a checkpoint's, the place is the offset
 pub begun_at : FrameIsRight → (b : List ℕ) (offset : ℕ) (c : Chain) (kept : List ℕ)
@@ -100,24 +69,14 @@ pub begun_at : FrameIsRight → (b : List ℕ) (offset : ℕ) (c : Chain) (kept 
     → IsChain b offset c × IsCheckpointAt b offset kept
 begun_at right b offset c kept chain h =
     let place = chain_start offset (length b) in
-    let where_is = is_place b offset in
     let found = kept_first right (before place b) (drop place b) (bodies_at b c.spans.items)
     (drop c.end b) kept chain.run.run h in
-    let room : place + 36 ≤ length b = omega (arith, found.0.whole.room, length-drop place b) in
-    let there : place ≡ offset → IsChain b offset c × IsCheckpointAt b offset kept = λ here. (
+    let here : place ≡ offset =
+    framed_there offset (length b) (omega (arith, found.0.whole.room, length-drop place b)) in (
       subst (λ (n : ℕ). IsChain b n c) here chain,
       subst (λ (n : ℕ). IsCheckpointAt b n kept) here
           (record { past_header = chain.after; frame = found.0; body = found.1 }),
-    ) in
-    elim (cases_lt offset 40) [
-      | inl low ↦ (let past : place ≡ max (length b) 40 = where_is.none (λ h _. omega (arith, h, low)) in
-          absurd (omega (arith, past, room)))
-      | inr low ↦ elim (cases_lt (length b) offset) [
-        | inl high ↦ (let past : place ≡ max (length b) 40 = where_is.none (λ _ h. omega (arith, h, high)) in
-            absurd (omega (arith, past, room)))
-        | inr high ↦ there (where_is.some low high)
-      ]
-    ]
+    )
 
 pub none_at : FrameIsRight → (b : List ℕ) (offset : ℕ) (c : Chain) (kept : List ℕ)
     → IsChain b (chain_start offset (length b)) c → kept_in (bodies_at b c.spans.items) ≡ None
@@ -125,7 +84,7 @@ pub none_at : FrameIsRight → (b : List ℕ) (offset : ℕ) (c : Chain) (kept :
 none_at right b offset c kept chain h is =
     let size = length-drop offset b in
     let here : chain_start offset (length b) ≡ offset =
-    (is_place b offset).some is.past_header (omega (arith, is.frame.whole.room, size)) in
+    chosen offset (length b) is.past_header (omega (arith, is.frame.whole.room, size)) in
     let chain_here : IsChain b offset c = subst (λ (n : ℕ). IsChain b n c) here chain in
     none_first right (before offset b) (drop offset b) (bodies_at b c.spans.items) (drop c.end b) kept
     (rest_of c.rest) chain_here.run.run chain_here.run.follows h is.frame is.body
@@ -144,7 +103,7 @@ pub chain_at : (version : Version) → LogEnds → (b : List ℕ) (offset place 
     → c.spans.items ≡ spans_from place (bodies_at b c.spans.items) → All (λ s. s.start + s.len ≤ length b) c.spans.items
     → IsChain b (chain_start offset (length b)) c
 chain_at version ends b offset place c is short head run spans inside =
-    let bounds = within b offset (started version ends b head).long in
+    let bounds = within offset (length b) (started version ends b head).long in
     subst (λ (n : ℕ). IsChain b n c) is
     (record {
       short = short;

@@ -1,8 +1,7 @@
 -- The front of a log from a checkpoint on: its first record is the checkpoint.
-use Rattle.std.proofs.Common.{◌≡◌, ℕ, ◌+◌, ◌-◌, ◌≤◌, true, false, List, [], ◌∷◌, ◌++◌, length, take, drop, refl, sym}
-use Rattle.std.proofs.Common.{ap}
-use Rattle.std.proofs.Common.{subst, ◌∙◌, append_assoc, arith}
-use Rattle.std.proofs.lemmas.List.{length-append, length-take, length-drop, take-append-drop, drop-drop}
+use Rattle.std.proofs.Common.{◌≡◌, ℕ, ◌+◌, ◌≤◌, true, false, List, [], ◌∷◌, ◌++◌, length, drop, refl, sym}
+use Rattle.std.proofs.Common.{ap, subst, ◌∙◌, append_assoc, arith}
+use Rattle.std.proofs.lemmas.List.{length-append, length-take, length-drop}
 use Rattle.rq_model.specs.Records.{Record, Checkpoint, Version}
 use Rattle.rq_model.specs.Spelling.{body_of}
 use Rattle.rq_model.specs.Frames.{HasRightFrame, before, body_in, bodies_of, digest, frame, frames_of, last_of, stated}
@@ -13,7 +12,7 @@ use Rattle.rq_model.specs.Fronts.{Begins, IsWhy, Why, Ends, Form, Law}
 use Rattle.rq_model.specs.Checkpoints.{IsCheckpointAt}
 use Rattle.rq_model.specs.Carrying.{IsFrontAt}
 use Rattle.rq_model.proofs.Bodies.{body_fits, one_record}
-use Rattle.rq_model.proofs.Runs.{frame_reads, last_at_end, no_right}
+use Rattle.rq_model.proofs.Runs.{frame_reads, no_right}
 use Rattle.rq_record.specs.Views.{version_of}
 use Rattle.rq_front.specs.Chains.{bodies_at, rest_of}
 use Rattle.rq_catalog.specs.declared.judge.Judge.{Judge}
@@ -23,7 +22,7 @@ use Rattle.rq_judged.specs.declared.front_pass.Reach.{Reach}
 use Rattle.rq_judged.specs.Checkpoints.{IsBegun}
 use Rattle.rq_judged.specs.Ends.{IsFrontFrom, end_at}
 use Rattle.rq_judged.specs.Passes.{AreJudged}
-use Rattle.rq_judged.proofs.Starts.{before_is}
+use Rattle.rq_judged.proofs.Starts.{last_there}
 use Rattle.rq_judged.proofs.Passes.{front_in}
 
 -- the checkpoint is a record
@@ -57,45 +56,6 @@ first_is version s p bytes rest kept (r ∷ after) why right body few begins end
     ap body_in parts ∙ (frame_reads p f more (body_fits version r begins.records.0)).body_is in
     let same = one_record version r (Checkpoint kept) f (begins.records.0, refl) (few, sym here ∙ body) in
     (after, ap (λ (z : Record). z ∷ after) same)
-
--- the last 32 bytes of the frames from an offset up to an end
-last_there : (b : List ℕ) (offset end : ℕ) (rs : List Record) → 40 ≤ offset → offset ≤ length b
-    → drop offset b ≡ frames_of (before offset b) rs ++ drop end b
-    → end ≡ offset + length (frames_of (before offset b) rs) → before end b ≡ last_of (before offset b) rs
-last_there b offset end rs past high whole used =
-    let p : List ℕ = before offset b in
-    let left : List ℕ = take (offset - 32) b in
-    let behind : List ℕ = drop (offset - 32) b in
-    let rest : List ℕ = drop end b in
-    let fs : List ℕ = frames_of p rs in
-    let q : List ℕ = last_of p rs in
-    let p_long : length p ≡ 32 = omega (arith, length-take 32 behind, length-drop (offset - 32) b, past, high) in
-    let (kept, ended_by, q_long) = last_at_end left p (bodies_of rs) p_long in
-    let apart : b ≡ left ++ (p ++ drop offset b) =
-    sym (take-append-drop (offset - 32) b)
-    ∙ ap (λ (z : List ℕ). left ++ z)
-    (sym (take-append-drop 32 behind)
-    ∙ ap (λ (z : List ℕ). p ++ z)
-    (drop-drop 32 (offset - 32) b ∙ ap (λ (n : ℕ). drop n b) (omega (arith, past)))) in
-    let parts : b ≡ kept ++ (q ++ rest) =
-    apart ∙ ap (λ (z : List ℕ). left ++ (p ++ z)) whole
-    ∙ ap (λ (z : List ℕ). left ++ z) (sym (append_assoc p fs rest)) ∙ sym (append_assoc left (p ++ fs) rest)
-    ∙ ap (λ (z : List ℕ). z ++ rest) ended_by ∙ append_assoc kept q rest in
-    let there : end ≡ length kept + 32 =
-    omega (
-      arith,
-      used,
-      ap length ended_by,
-      length-append left (p ++ fs),
-      length-append p fs,
-      length-append kept q,
-      p_long,
-      q_long,
-      length-take (offset - 32) b,
-      high,
-      past,
-    ) in
-    ap (before end) parts ∙ before_is kept q rest end q_long there
 
 -- a front from a checkpoint on, and where it ends
 pub record IsFromCheckpoint (version : Version) (s : State) (b : List ℕ) (offset : ℕ) (kept : List ℕ)
@@ -149,7 +109,8 @@ from_checkpoint b offset x is rs end why h =
         };
         ends = k.ends;
         used = used;
-        last = last_there b offset end xs is.chain.after is.chain.within k.longest.begins.whole used;
+        last = last_there b offset end (bodies_of xs) (omega (arith, is.chain.after)) is.chain.within
+            k.longest.begins.whole used;
       };
     }
 

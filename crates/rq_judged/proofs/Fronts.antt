@@ -6,7 +6,7 @@ use Rattle.std.specs.List.{AllByRecursion}
 use Rattle.std.proofs.lemmas.List.{append-nil, map-append, length-map}
 use Rattle.rq_model.specs.Records.{Record, Version}
 use Rattle.rq_model.specs.Spelling.{IsRecord, body_of}
-use Rattle.rq_model.specs.Frames.{frames, last, last_of, bodies_of, before, AreBodies, IsRun}
+use Rattle.rq_model.specs.Frames.{frames, last, last_of, bodies_of, before, IsBodyLength, IsRun}
 use Rattle.rq_model.specs.Frames as frames
 use Rattle.rq_model.specs.States.{State}
 use Rattle.rq_model.specs.Machine.{run, all_lawful, lawful_front}
@@ -29,10 +29,6 @@ record IsStopped (b : List ℕ) (place : ℕ) (c : Chain) (bodies : List (List �
   pub run : IsRun (before place b) (drop place b) (bodies ++ body ∷ more) (drop c.end b)
   pub stands : AreBehind b place bodies (frames (last (before place b) bodies) (body ∷ more) ++ drop c.end b)
 
-each_body : (a b : List (List ℕ)) → AreBodies (a ++ b) → AreBodies a
-each_body [] b h = tt
-each_body (x ∷ a) b h = (h.0, each_body a b h.1)
-
 stopped : FrameIsRight → FramesJoin → (b : List ℕ) (place : ℕ) (c : Chain) (bodies : List (List ℕ)) (body : List ℕ)
     (more : List (List ℕ)) → IsChain b place c → bodies_at b c.spans.items ≡ bodies ++ body ∷ more
     → IsStopped b place c bodies body more
@@ -49,7 +45,7 @@ stopped right join b place c bodies body more h is =
           ∙ span_at place bodies body more;
       run = run;
       stands = are_behind right b place p bodies (frames (last p bodies) (body ∷ more) ++ after)
-          (each_body bodies (body ∷ more) run.fit) h.within whole;
+          (each_cut (λ x. IsBodyLength (length x)) bodies (body ∷ more) run.fit).0 h.within whole;
     }
 
 -- from the bytes behind so many frames to their place
@@ -130,31 +126,7 @@ ended version right join law s b place c kept (r ∷ more) left h are others law
     subst (λ (f : ℕ × Why). IsFrontFrom version s b place kept f.0 f.1) (sym end)
     (placed version s b place kept _ Law here.stands found)
 
--- the lawful ones of the records that were read of a chain are its front
-pub front_from : (version : Version) → FrameIsRight → FramesJoin → RunGivesFront
-    → (s : State) (b : List ℕ) (place : ℕ) (c : Chain) (rs : List Record) → IsChain b place c
-    → AreRead version (bodies_at b c.spans.items) rs
-    → (e : ℕ × Why) → e ≡ end_at c.spans.items c.end (rest_of c.rest) (length rs) (length (lawful_front version s rs))
-    → IsFrontFrom version s b place (lawful_front version s rs) e.0 e.1
-front_from version right join law s b place c rs h read e e_is =
-    let kept = lawful_front version s rs in
-    let p = parted version s rs in
-    let are = each_cut (IsRecord version) kept p.more
-    (subst (λ (qs : List Record). AllByRecursion (IsRecord version) qs) p.whole read.records) in
-    let bodies : bodies_at b c.spans.items ≡ bodies_of kept ++ (bodies_of p.more ++ read.left) =
-    read.spelled ∙ ap (λ (qs : List Record). bodies_of qs ++ read.left) p.whole
-    ∙ ap (λ (z : List (List ℕ)). z ++ read.left) (map-append body_of kept p.more)
-    ∙ append_assoc (bodies_of kept) (bodies_of p.more) read.left in
-    let below : nat_lt (length kept) (length rs) ≡ is_more p.more =
-    ap (λ (qs : List Record). nat_lt (length kept) (length qs)) p.whole ∙ more_is kept p.more in
-    let end : e ≡ end_from (slice_get c.spans.items (length (bodies_of kept))) c.end (rest_of c.rest) (is_more p.more) =
-    e_is ∙ ap (end_from (slice_get c.spans.items (length kept)) c.end (rest_of c.rest)) below
-    ∙ ap (λ (n : ℕ). end_from (slice_get c.spans.items n) c.end (rest_of c.rest) (is_more p.more))
-    (sym (length-map kept body_of)) in
-    ended version right join law s b place c kept p.more read.left h are.0 are.1 p.lawful p.stop
-    (λ _. read.stops) bodies e end
-
--- and the first bodies of the chain are theirs
+-- the first bodies of a chain are those of the lawful records
 pub bodies_kept : (version : Version) (s : State) (bodies : List (List ℕ)) (rs : List Record)
     → AreRead version bodies rs → (left : List (List ℕ)) × (bodies ≡ bodies_of (lawful_front version s rs) ++ left)
 bodies_kept version s bodies rs read =
@@ -165,3 +137,24 @@ bodies_kept version s bodies rs read =
           ∙ ap (λ (z : List (List ℕ)). z ++ read.left) (map-append body_of kept p.more)
           ∙ append_assoc (bodies_of kept) (bodies_of p.more) read.left,
     )
+
+-- and these records are its front
+pub front_from : (version : Version) → FrameIsRight → FramesJoin → RunGivesFront
+    → (s : State) (b : List ℕ) (place : ℕ) (c : Chain) (rs : List Record) → IsChain b place c
+    → AreRead version (bodies_at b c.spans.items) rs
+    → (e : ℕ × Why) → e ≡ end_at c.spans.items c.end (rest_of c.rest) (length rs) (length (lawful_front version s rs))
+    → IsFrontFrom version s b place (lawful_front version s rs) e.0 e.1
+unfolding bodies_kept
+front_from version right join law s b place c rs h read e e_is =
+    let kept = lawful_front version s rs in
+    let p = parted version s rs in
+    let are = each_cut (IsRecord version) kept p.more
+    (subst (λ (qs : List Record). AllByRecursion (IsRecord version) qs) p.whole read.records) in
+    let below : nat_lt (length kept) (length rs) ≡ is_more p.more =
+    ap (λ (qs : List Record). nat_lt (length kept) (length qs)) p.whole ∙ more_is kept p.more in
+    let end : e ≡ end_from (slice_get c.spans.items (length (bodies_of kept))) c.end (rest_of c.rest) (is_more p.more) =
+    e_is ∙ ap (end_from (slice_get c.spans.items (length kept)) c.end (rest_of c.rest)) below
+    ∙ ap (λ (n : ℕ). end_from (slice_get c.spans.items n) c.end (rest_of c.rest) (is_more p.more))
+    (sym (length-map kept body_of)) in
+    ended version right join law s b place c kept p.more read.left h are.0 are.1 p.lawful p.stop
+    (λ _. read.stops) (bodies_kept version s _ rs read).1 e end

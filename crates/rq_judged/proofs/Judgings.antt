@@ -1,5 +1,5 @@
 -- What a judge makes of bodies, one after the other.
-use Rattle.std.proofs.Common.{◌≡◌, ℕ, suc, ◌+◌, ◌<◌, ◌≤◌, true, false, List, [], ◌∷◌, ◌++◌, length, take, drop, get_or}
+use Rattle.std.proofs.Common.{◌≡◌, ℕ, suc, ◌+◌, ◌<◌, ◌≤◌, Bool, true, false, List, [], ◌∷◌, ◌++◌, length, take, drop, get_or}
 use Rattle.std.proofs.Common.{sym, ap, subst, ◌∙◌, arith}
 use Rattle.std.specs.Prelude.{nat_lt}
 use Rattle.std.specs.List.{AllByRecursion}
@@ -58,37 +58,29 @@ module _ (version : Version) (s : State) (b : List ℕ) (spans : List Span) (i :
     },
   )
 
-  pub stops_unlawful : IsVerdict version (run s kept) (body_at b (get_or spans i d)) k Unlawful
-      → AreJudged version s (bodies_at b spans) k (record { read = i + 1; lawful = i })
-  stops_unlawful v =
-      let more : nat_lt i (i + 1) ≡ true = lt-ltb i (i + 1) (omega arith) in
+  stops_here : (read : ℕ) (t : Bool) → nat_lt i read ≡ t → StandsIn version k (run s kept)
+      → StopsAt version (run s kept) (body_at b (get_or spans i d) ∷ bodies_at b (drop (suc i) spans)) t
+      → AreJudged version s (bodies_at b spans) k (record { read = read; lawful = i })
+  stops_here read t is judge stops =
+      let left : List (List ℕ) = body_at b (get_or spans i d) ∷ bodies_at b (drop (suc i) spans) in
       record {
         kept = kept;
-        left = body_at b (get_or spans i d) ∷ bodies_at b (drop (suc i) spans);
+        left = left;
         records = are.records;
         lawful = are.lawful;
         spelled = next;
         count = count;
-        stops = subst (StopsAt version (run s kept) (body_at b (get_or spans i d) ∷ bodies_at b (drop (suc i) spans)))
-            (sym more) (v.1, v.2, v.3);
-        judge = v.0;
+        stops = subst (StopsAt version (run s kept) left) (sym is) stops;
+        judge = judge;
       }
+
+  pub stops_unlawful : IsVerdict version (run s kept) (body_at b (get_or spans i d)) k Unlawful
+      → AreJudged version s (bodies_at b spans) k (record { read = i + 1; lawful = i })
+  stops_unlawful v = stops_here (i + 1) true (lt-ltb i (i + 1) (omega arith)) v.0 (v.1, v.2, v.3)
 
   pub stops_unread : IsVerdict version (run s kept) (body_at b (get_or spans i d)) k NoRecord
       → AreJudged version s (bodies_at b spans) k (record { read = i; lawful = i })
-  stops_unread v =
-      let no_more : nat_lt i i ≡ false = le-ltb i i (omega arith) in
-      record {
-        kept = kept;
-        left = body_at b (get_or spans i d) ∷ bodies_at b (drop (suc i) spans);
-        records = are.records;
-        lawful = are.lawful;
-        spelled = next;
-        count = count;
-        stops = subst (StopsAt version (run s kept) (body_at b (get_or spans i d) ∷ bodies_at b (drop (suc i) spans)))
-            (sym no_more) v.1;
-        judge = v.0;
-      }
+  stops_unread v = stops_here i false (le-ltb i i (omega arith)) v.0 v.1
 
 -- all bodies are those of lawful records
 pub all_judged : (version : Version) (s : State) (b : List ℕ) (spans : List Span) (i : ℕ) (j : Judge)

@@ -1,5 +1,5 @@
 -- A pass in windows: a frame that is right in a beginning of the log is right in the log.
-use Rattle.std.proofs.Common.{◌≡◌, ℕ, ◌+◌, ◌-◌, ◌≤◌, Bool, true, false, List, [], ◌∷◌, ◌++◌, length, take, drop, refl}
+use Rattle.std.proofs.Common.{◌≡◌, ℕ, ◌+◌, ◌≤◌, Bool, true, false, List, [], ◌∷◌, ◌++◌, length, take, drop, refl}
 use Rattle.std.proofs.Common.{sym, ap, subst, ◌∙◌, append_assoc, arith}
 use Rattle.std.specs.Prelude.{All, slice_get, nat_lt}
 use Rattle.std.specs.List.{AllByRecursion}
@@ -13,13 +13,13 @@ use Rattle.rq_model.specs.Spelling.{IsRecord, Spells, body_of}
 use Rattle.rq_model.specs.Frames as frames
 use Rattle.rq_model.specs.Frames.{HasFrame, HasHeader, HasRightFrame, IsBodyLength, IsFrameRun, before, body_in}
 use Rattle.rq_model.specs.Frames.{bodies_of, digest, digest_in, frames_of, header, last, last_of, log_limit, log_of}
-use Rattle.rq_model.specs.Frames.{magic, start, stated}
+use Rattle.rq_model.specs.Frames.{start, stated}
 use Rattle.rq_model.specs.LogLaws.{FrameIsRight, FramesJoin, FrontStops, LogEnds, LogJoins, RunGivesFront}
 use Rattle.rq_model.specs.States.{State, empty}
 use Rattle.rq_model.specs.Machine.{all_lawful, run}
 use Rattle.rq_model.specs.Fronts.{Begins, IsLongest, IsFront, IsWhy, Why, Ends, Form, Law}
 use Rattle.rq_model.proofs.Lists.{each_append}
-use Rattle.rq_model.proofs.Restarts.{lawful_join, run_join}
+use Rattle.rq_model.proofs.Restarts.{header_long, lawful_join, run_join}
 use Rattle.rq_front.specs.declared.spans.Chain.{Chain}
 use Rattle.rq_record.specs.declared.fault.Fault.{Fault}
 use Rattle.rq_record.specs.declared.fault.Fault.TheVariants as faults
@@ -31,7 +31,7 @@ use Rattle.rq_judged.specs.declared.front_pass.PassSoFar.{PassSoFar}
 use Rattle.rq_judged.specs.declared.front_pass.Reach.{Reach}
 use Rattle.rq_judged.specs.Passes.{AreJudged, HasPassed, IsPassed, HasPassedSome, StopsAt, StopsIn, stays}
 use Rattle.rq_judged.proofs.Fronts.{ended}
-use Rattle.rq_judged.proofs.Starts.{started, whole_front}
+use Rattle.rq_judged.proofs.Starts.{before_is, started, whole_front}
 
 -- Bytes of which more follow.
 
@@ -131,9 +131,8 @@ module _ (version : Version) (b : List ℕ) (rs : List Record) (place : ℕ) (h 
       let rest = drop place b in
       let whole : b ≡ kept ++ (sum ++ rest) = h.whole ∙ ap (λ (x : List ℕ). x ++ rest) e.1
       ∙ append_assoc kept sum rest in
-      let before_it : place - 32 ≡ length kept = omega (arith, long, ap length e.1, length-append kept sum, e.2) in
-      ap (λ (n : ℕ). take 32 (drop n b)) before_it ∙ ap (λ (x : List ℕ). take 32 (drop (length kept) x)) whole
-      ∙ ap (take 32) (drop_at kept (sum ++ rest) (length kept) refl) ∙ take_at sum rest 32 e.2
+      let place_is : place ≡ length kept + 32 = omega (arith, long, ap length e.1, length-append kept sum, e.2) in
+      ap (before place) whole ∙ before_is kept sum rest place e.2 place_is
 
 -- a front from there in a beginning of the log is passed in the log, and ends there for the same reason
 pub record IsFurther (version : Version) (b : List ℕ) (rs xs : List Record) (limit end : ℕ) (why : Why) : Type 0 where
@@ -218,10 +217,8 @@ head_is : LogEnds → (version : Version) (b : List ℕ) (rs : List Record) (pla
     → HasHeader version b
 head_is ends version b rs place h =
     let rest : List ℕ = frames_of (start version) rs ++ drop place b in
-    let size : length (header version) ≡ 40 =
-    omega (arith, length-append (magic version) (start version), (ends version []).2) in
     ap (take 40) (h.whole ∙ append_assoc (header version) (frames_of (start version) rs) (drop place b))
-    ∙ take_at (header version) rest 40 size
+    ∙ take_at (header version) rest 40 (header_long version)
 
 -- bytes that are a log are refused for want of memory alone
 pub log_resources : (b : List ℕ) (e : Fault) → length b ≤ log_limit → IsHeaded b → Refused b e → e ≡ faults.Resources
@@ -326,12 +323,11 @@ front_is version ends stops b p why head stop =
     let has = stop.1.passed in
     let is = started version ends b head in
     let chained : start version ≡ before 40 b = sym is.chained in
-    let size : length (header version) ≡ 40 =
-    omega (arith, length-append (magic version) (start version), (ends version []).2) in
     let parts : b ≡ header version ++ (frames_of (start version) rs ++ drop p.offset b) =
     has.whole ∙ append_assoc (header version) (frames_of (start version) rs) (drop p.offset b) in
     let behind : drop 40 b ≡ frames_of (start version) rs ++ drop p.offset b =
-    ap (drop 40) parts ∙ drop_at (header version) (frames_of (start version) rs ++ drop p.offset b) 40 size in
+    ap (drop 40) parts
+    ∙ drop_at (header version) (frames_of (start version) rs ++ drop p.offset b) 40 (header_long version) in
     let all : drop p.offset (take (length b) b) ≡ drop p.offset b =
     ap (drop p.offset) (take_all (length b) b (omega arith)) in
     let why_is : IsWhy version (run empty rs) (last_of (start version) rs) (drop p.offset b) why =

@@ -4,7 +4,7 @@ use Rattle.std.proofs.Common.{◌∙◌, append_assoc, arith, Option, Some, None
 use Rattle.std.proofs.lemmas.List.{drop-append-le, drop_all, drop_at, drop-drop, length-append, length-drop}
 use Rattle.std.proofs.lemmas.List.{length-take}
 use Rattle.std.proofs.lemmas.List.{take-append-le, take_all, take_at}
-use Rattle.std.specs.Prelude.{Result, Ok, Err, IfErr, IfOk, OnOk}
+use Rattle.std.specs.Prelude.{Result, Ok, Err, IfErr}
 use Rattle.rq_model.specs.Records.{Record, Version}
 use Rattle.rq_model.specs.Frames as frames
 use Rattle.rq_model.specs.Frames.{HasHeader, IsFrameRun, IsRest, before, frames_of, header, last_of, log_limit, log_of}
@@ -28,7 +28,7 @@ use Rattle.rq_judged.specs.Windows.{AreFramed, IsFed, IsStopped, IsStoppedFront,
 use Rattle.rq_judged.specs.Windows.{Waits, log_origin}
 use Rattle.rq_judged.proofs.Passes.{part_more, why_more}
 use Rattle.rq_judged.proofs.Starts.{started}
-use Rattle.rq_judged.proofs.Windows.{none_left, waiting}
+use Rattle.rq_judged.proofs.Windows.{alike, none_left, same_place, waiting}
 
 -- the frames that a chain finds
 pub framed : (w : List ℕ) (place : ℕ) (spans : List Span) (end : ℕ) (rest : frames.Rest)
@@ -69,24 +69,10 @@ module _ (o : Origin) (x : List ℕ) (f : WindowPass) (why : Why) (y : Option de
   settled (rs, rest, at, ends) =
       let is : drop f.place f.window.items ≡ rest = waiting o rs rest f going at.waits in
       let counted : u + length rest ≡ f.total =
-      omega (arith, used, ap length is, length-drop f.place f.window.items, at.within, at.small) in
-      let by : (z : Option declared.Why) → IsLasting why z → Waits o rs rest settled_pass z =
-      kept rs rest is ends counted in (
+      omega (arith, used, ap length is, length-drop f.place f.window.items, at.within, at.small) in (
         rs,
         rest,
-        record {
-          begins = at.begins;
-          judge = at.judge;
-          count = at.count;
-          total = at.total;
-          short = at.short;
-          small = at.small;
-          header = at.header;
-          after = at.after;
-          within = at.within;
-          link = at.link;
-          waits = by y lasts;
-        },
+        alike o x rs rest f f.judge u e y at at.judge (kept rs rest is ends counted y lasts),
         ends,
         counted,
       )
@@ -157,12 +143,28 @@ module _ (o : Origin) (x : List ℕ) (f g : WindowPass) (far : 72 < f.place)
 -- A window that is added to.
 module _ (o : Origin) (x more : List ℕ) (f : WindowPass) (n : ℕ) (is : n ≡ f.total + length more)
     (short : n ≤ log_limit) where
-  begun : (rs : List Record) (rest : List ℕ) → x ≡ frames_of o.link rs ++ rest
-      → x ++ more ≡ frames_of o.link rs ++ (rest ++ more)
-  begun rs rest whole = ap (λ (z : List ℕ). z ++ more) whole ∙ append_assoc (frames_of o.link rs) rest more
-
-  total_is : (rs : List Record) (rest : List ℕ) → StandsAt o x rs rest f → n ≡ o.ahead + length (x ++ more)
-  total_is rs rest at = omega (arith, is, at.total, length-append x more)
+  grown : (g : WindowPass) (rs : List Record) (rest : List ℕ) → StandsAt o x rs rest f
+      → take 40 g.window.items ≡ take 40 f.window.items
+      → before f.place g.window.items ≡ before f.place f.window.items → f.place ≤ length g.window.items
+      → length g.window.items ≤ n → Waits o rs (rest ++ more) (record f { window = g.window; total = n }) f.ended
+      → StandsAt o (x ++ more) rs (rest ++ more) (record f { window = g.window; total = n })
+  grown g rs rest at head linked within small waits = record {
+    begins = record {
+      records = at.begins.records;
+      lawful = at.begins.lawful;
+      whole = ap (λ (z : List ℕ). z ++ more) at.begins.whole ∙ append_assoc (frames_of o.link rs) rest more;
+    };
+    judge = at.judge;
+    count = at.count;
+    total = omega (arith, is, at.total, length-append x more);
+    short = short;
+    small = small;
+    header = head ∙ at.header;
+    after = at.after;
+    within = within;
+    link = linked ∙ at.link;
+    waits = waits;
+  }
 
   -- where the reason stays, it is counted alone
   pub counted : (why : declared.Why) → f.ended ≡ Some why → IsFed o x f
@@ -177,23 +179,8 @@ module _ (o : Origin) (x more : List ℕ) (f : WindowPass) (n : ℕ) (is : n ≡
       ) in (
         rs,
         rest ++ more,
-        record {
-          begins = record {
-            records = at.begins.records;
-            lawful = at.begins.lawful;
-            whole = begun rs rest at.begins.whole;
-          };
-          judge = at.judge;
-          count = at.count;
-          total = total_is rs rest at;
-          short = short;
-          small = omega (arith, at.small, is);
-          header = at.header;
-          after = at.after;
-          within = at.within;
-          link = at.link;
-          waits = subst (Waits o rs (rest ++ more) g) (sym ended) waits;
-        },
+        grown f rs rest at refl refl at.within (omega (arith, at.small, is))
+            (subst (Waits o rs (rest ++ more) g) (sym ended) waits),
       )
 
   -- else it waits
@@ -202,55 +189,26 @@ module _ (o : Origin) (x more : List ℕ) (f : WindowPass) (n : ℕ) (is : n ≡
   added g same window none (rs, rest, at) =
       let w = f.window.items in
       let k : WindowPass = record f { window = g.window; total = n } in
-      let head : take 40 g.window.items ≡ take 40 w =
-      ap (take 40) window ∙ take-append-le 40 w more (omega (arith, at.after, at.within)) in
-      let linked : before f.place g.window.items ≡ before f.place w =
-      ap (before f.place) window ∙ part_more w more (f.place - 32) 32 (omega (arith, at.after, at.within)) in
+      let long : length g.window.items ≡ length w + length more =
+      omega (arith, ap length window, length-append w more) in
       let left : drop f.place g.window.items ≡ rest ++ more =
       ap (drop f.place) window ∙ drop-append-le f.place w more at.within
-      ∙ ap (λ (z : List ℕ). z ++ more) (waiting o rs rest f none at.waits) in
-      let waits : Waits o rs (rest ++ more) k None = left in (
+      ∙ ap (λ (z : List ℕ). z ++ more) (waiting o rs rest f none at.waits) in (
         rs,
         rest ++ more,
-        subst (StandsAt o (x ++ more) rs (rest ++ more)) (sym same) (record {
-          begins = record {
-            records = at.begins.records;
-            lawful = at.begins.lawful;
-            whole = begun rs rest at.begins.whole;
-          };
-          judge = at.judge;
-          count = at.count;
-          total = total_is rs rest at;
-          short = short;
-          small = omega (arith, at.small, is, ap length window, length-append w more);
-          header = head ∙ at.header;
-          after = at.after;
-          within = omega (arith, at.within, ap length window, length-append w more);
-          link = linked ∙ at.link;
-          waits = subst (Waits o rs (rest ++ more) k) (sym none) waits;
-        }),
+        subst (StandsAt o (x ++ more) rs (rest ++ more)) (sym same) (grown g rs rest at
+            (ap (take 40) window ∙ take-append-le 40 w more (omega (arith, at.after, at.within)))
+            (ap (before f.place) window
+            ∙ part_more w more (f.place - 32) 32 (omega (arith, at.after, at.within)))
+            (omega (arith, at.within, long)) (omega (arith, at.small, is, long))
+            (subst (Waits o rs (rest ++ more) k) (sym none) left)),
       )
 
 -- the judge stands where it stood
 pub same_judge : (o : Origin) (x : List ℕ) (f : WindowPass) (j : Judge) → KeepsStanding f.judge j → f.ended ≡ None
     → IsFed o x f → IsFed o x (record f { judge = j })
-same_judge o x f j keeps going (rs, rest, at) = (
-  rs,
-  rest,
-  record {
-    begins = at.begins;
-    judge = keeps o.version (run o.base rs) at.judge;
-    count = at.count;
-    total = at.total;
-    short = at.short;
-    small = at.small;
-    header = at.header;
-    after = at.after;
-    within = at.within;
-    link = at.link;
-    waits = subst (Waits o rs rest (record f { judge = j })) (sym going) (waiting o rs rest f going at.waits);
-  },
-)
+same_judge o x f j keeps going (rs, rest, at) =
+    (rs, rest, same_place o x rs rest f j going at (keeps o.version (run o.base rs) at.judge))
 
 -- it has no more records than bytes
 pub few_records : (o : Origin) (x : List ℕ) (f : WindowPass) → IsFed o x f → f.records ≤ log_limit
@@ -355,15 +313,3 @@ judged_log version stops b x front is h =
 pub anyway : {A E : Type 0} (P : Type 0) → P → (r : Result A E) → IfErr r (λ _. P)
 anyway P p (Ok x) = tt
 anyway P p (Err e) = p
-
-pub then_ok : {A E : Type 0} (P Q : Type 0) → (P → Q) → (r : Result A E) → OnOk r P → OnOk r Q
-then_ok P Q f (Ok x) p = f p
-then_ok P Q f (Err e) p = tt
-
-pub if_ok : {A E : Type 0} (P Q : A → Type 0) → ((x : A) → P x → Q x) → (r : Result A E) → IfOk r P → IfOk r Q
-if_ok P Q f (Ok x) p = f x p
-if_ok P Q f (Err e) p = tt
-
-pub if_err : {A E : Type 0} (P Q : E → Type 0) → ((e : E) → P e → Q e) → (r : Result A E) → IfErr r P → IfErr r Q
-if_err P Q f (Ok x) p = tt
-if_err P Q f (Err e) p = f e p

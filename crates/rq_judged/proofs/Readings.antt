@@ -8,14 +8,14 @@ use Rattle.std.specs.List.{AllByRecursion}
 use Rattle.rq_model.specs.Records.{Record, Version}
 use Rattle.rq_model.specs.Spelling.{IsRecord, Spells, body_of}
 use Rattle.rq_model.specs.Frames.{bodies_of}
+use Rattle.rq_model.proofs.Lists.{each_append}
 use Rattle.rq_front.specs.declared.spans.Span.{Span}
 use Rattle.rq_front.specs.Chains.{body_at, bodies_at}
 use Rattle.rq_judged.specs.Readings.{AreRead, SpellsNone}
 
 pub each_push : (version : Version) (rs : List Record) (r : Record) → AllByRecursion (IsRecord version) rs
     → IsRecord version r → AllByRecursion (IsRecord version) (rs ++ r ∷ [])
-each_push version [] r h is = (is, tt)
-each_push version (q ∷ qs) r h is = (h.0, each_push version qs r h.1 is)
+each_push version rs r h is = each_append (IsRecord version) rs (r ∷ []) h (is, tt)
 
 -- one more body, and the record that it spells
 pub read_more : (version : Version) (b : List ℕ) (spans : List Span) (i : ℕ) (d : Span) (rs : List Record) (r : Record)
@@ -58,14 +58,9 @@ left_of : (version : Version) (bodies : List (List ℕ)) (rs : List Record) (are
 left_of version bodies rs are = ap length are.spelled ∙ length-append (bodies_of rs) are.left
     ∙ ap (λ (n : ℕ). n + length are.left) (length-map rs _)
 
-each_both : (version : Version) (rs qs : List Record) → AllByRecursion (IsRecord version) rs
-    → AllByRecursion (IsRecord version) qs → AllByRecursion (IsRecord version) (rs ++ qs)
-each_both version [] qs are more = more
-each_both version (r ∷ rs) qs are more = (are.0, each_both version rs qs are.1 more)
-
 stops_there : (version : Version) (left more : List (List ℕ)) → 0 < length left → SpellsNone version left
     → SpellsNone version (left ++ more)
-stops_there version [] more lt none = let no : ⊥ = omega (arith, lt) in absurd no
+stops_there version [] more lt none = absurd (omega arith)
 stops_there version (body ∷ left) more lt none = none
 
 -- all of the first bodies are read, and so are those behind them
@@ -77,7 +72,7 @@ read_both version xs ys rs qs are all more =
     ∙ append-nil (bodies_of rs) in
     record {
       left = more.left;
-      records = each_both version rs qs are.records more.records;
+      records = each_append (IsRecord version) rs qs are.records more.records;
       spelled = ap (λ (bodies : List (List ℕ)). bodies ++ ys) spelled
           ∙ ap (λ (bodies : List (List ℕ)). bodies_of rs ++ bodies) more.spelled
           ∙ sym (append_assoc (bodies_of rs) (bodies_of qs) more.left)

@@ -2,16 +2,16 @@
 use Rattle.std.proofs.Common.{◌≡◌, ℕ, ◌+◌, ◌-◌, ◌≤◌, List, [], ◌++◌, length, take, drop, refl, sym, ap, subst, ◌∙◌}
 use Rattle.std.proofs.Common.{append_assoc, arith}
 use Rattle.std.specs.Int.{w32, to_be_bytes}
-use Rattle.std.proofs.lemmas.List.{append-nil, take_at, drop_at, take-append-drop, length-append, length-take}
-use Rattle.std.proofs.lemmas.List.{length-drop}
+use Rattle.std.proofs.lemmas.List.{append-nil, take_at, drop_at, drop-drop, take-append-drop, length-append}
+use Rattle.std.proofs.lemmas.List.{length-drop, length-take}
 use Rattle.rq_model.specs.Records.{Record, Version}
-use Rattle.rq_model.specs.Frames.{log_limit, magic, start, header, HasHeader, before, digest, frame, last_of}
-use Rattle.rq_model.specs.Frames.{IsFrameRun}
+use Rattle.rq_model.specs.Frames.{log_limit, magic, start, header, HasHeader, before, digest, frame, frames}
+use Rattle.rq_model.specs.Frames.{IsFrameRun, last, last_of}
 use Rattle.rq_model.specs.LogLaws.{LogEnds}
 use Rattle.rq_model.specs.States.{empty}
 use Rattle.rq_model.specs.Machine.{run}
 use Rattle.rq_model.specs.Fronts.{IsLongest, IsFront, IsWhy, IsRestart, Restarted, Why, restarted}
-use Rattle.rq_model.proofs.Runs.{length-sha256}
+use Rattle.rq_model.proofs.Runs.{last_at_end, length-sha256}
 use Rattle.std.specs.Prelude.{All}
 use Rattle.rq_front.specs.declared.spans.Chain.{Chain}
 use Rattle.rq_front.specs.Chains.{bodies_at, rest_of, spans_from}
@@ -86,6 +86,42 @@ pub before_is : (kept last rest : List ℕ) (place : ℕ) → length last ≡ 32
     → before place (kept ++ (last ++ rest)) ≡ last
 before_is kept last rest place long is = ap (take 32) (drop_at kept (last ++ rest) (place - 32) (omega (arith, is)))
     ∙ take_at last rest 32 long
+
+-- the last 32 bytes of the frames from an offset up to an end
+pub last_there : (b : List ℕ) (offset end : ℕ) (bodies : List (List ℕ)) → 32 ≤ offset → offset ≤ length b
+    → drop offset b ≡ frames (before offset b) bodies ++ drop end b
+    → end ≡ offset + length (frames (before offset b) bodies) → before end b ≡ last (before offset b) bodies
+last_there b offset end bodies past high whole used =
+    let p : List ℕ = before offset b in
+    let left : List ℕ = take (offset - 32) b in
+    let behind : List ℕ = drop (offset - 32) b in
+    let rest : List ℕ = drop end b in
+    let fs : List ℕ = frames p bodies in
+    let p_long : length p ≡ 32 = omega (arith, length-take 32 behind, length-drop (offset - 32) b, past, high) in
+    let (kept, ended_by, q_long) = last_at_end left p bodies p_long in
+    let apart : behind ≡ p ++ drop offset b =
+    sym (take-append-drop 32 behind)
+    ∙ ap (λ (z : List ℕ). p ++ z) (drop-drop 32 (offset - 32) b ∙ ap (λ (n : ℕ). drop n b) (omega (arith, past))) in
+    let parts : b ≡ kept ++ (last p bodies ++ rest) =
+    sym (take-append-drop (offset - 32) b)
+    ∙ ap (λ (z : List ℕ). left ++ z) (apart ∙ ap (λ (z : List ℕ). p ++ z) whole ∙ sym (append_assoc p fs rest))
+    ∙ sym (append_assoc left (p ++ fs) rest) ∙ ap (λ (z : List ℕ). z ++ rest) ended_by
+    ∙ append_assoc kept (last p bodies) rest in
+    let there : end ≡ length kept + 32 =
+    omega (
+      arith,
+      used,
+      ap length ended_by,
+      length-append left (p ++ fs),
+      length-append p fs,
+      length-append kept (last p bodies),
+      p_long,
+      q_long,
+      length-take (offset - 32) b,
+      high,
+      past,
+    ) in
+    ap (before end) parts ∙ before_is kept (last p bodies) rest end q_long there
 
 -- the last 32 bytes of one frame more
 pub record IsFramed (old new p body : List ℕ) : Type 0 where

@@ -1,8 +1,7 @@
 -- A pass over a window goes from frame to frame.
-use Rattle.std.proofs.Common.{◌≡◌, ℕ, ◌+◌, ◌-◌, ◌≤◌, List, [], ◌∷◌, ◌++◌, length, take, drop, refl}
+use Rattle.std.proofs.Common.{◌≡◌, ℕ, ◌+◌, ◌<◌, ◌≤◌, List, [], ◌∷◌, ◌++◌, length, drop, refl}
 use Rattle.std.proofs.Common.{sym, ap, subst, ◌∙◌, append_assoc, arith, get_or, Option, None}
-use Rattle.std.specs.Int.{w32, to_be_bytes}
-use Rattle.std.proofs.lemmas.List.{append-nil, drop_at, drop-drop, length-append, length-drop, take_at}
+use Rattle.std.proofs.lemmas.List.{append-nil, drop_more, length-append, length-drop}
 use Rattle.rq_model.specs.Records.{Record}
 use Rattle.rq_model.specs.Spelling.{Spells, body_of}
 use Rattle.rq_model.specs.Frames as frames
@@ -17,14 +16,21 @@ use Rattle.rq_front.specs.Chains.{body_at, bodies_at, spans_from}
 use Rattle.rq_catalog.specs.declared.judge.Judge.{Judge}
 use Rattle.rq_catalog.specs.Judges.{StandsIn}
 use Rattle.rq_catalog.proofs.Runs.{lawful_push, run_push}
+use Rattle.rq_judged.specs.declared.front_pass.Verdict.{Verdict}
 use Rattle.rq_judged.specs.declared.front_pass.Verdict.TheVariants.{Lawful, Unlawful, NoRecord}
+use Rattle.rq_judged.specs.declared.why.Why.{Why}
 use Rattle.rq_judged.specs.declared.window.WindowPass.{WindowPass}
 use Rattle.rq_judged.specs.Passes.{IsVerdict}
 use Rattle.rq_judged.specs.Windows.{AreFramed, Origin, StandsAt, HasEnd, Waits}
 use Rattle.rq_judged.proofs.Chains.{frame_long, next}
 use Rattle.rq_judged.proofs.Readings.{each_push}
+use Rattle.rq_judged.proofs.Starts.{last_there}
 
 -- Where the first frame of a window stands, and that the others follow it.
+
+-- the place behind the frame of a span
+abbrev pub past : Span → ℕ
+past span = span.start + span.len + 32
 
 pub record IsNext (w : List ℕ) (place : ℕ) (span : Span) (n : ℕ) : Type 0 where
   pub fit : IsBodyLength (length (body_at w span))
@@ -74,53 +80,41 @@ module _ (right : FrameIsRight) (w : List ℕ) (place : ℕ) (span : Span) (span
   )
 
   linked : before there w ≡ digest p body
-  linked =
-      let front : List ℕ = to_be_bytes w32 (length body) in
-      let four : length front ≡ 4 = refl in
-      let sum : List ℕ = digest p body in
-      let low : there - 32 ≡ place + (4 + length body) = omega (arith, h.after) in
-      let size : length sum ≡ 32 = omega (
-        arith,
-        four,
-        frame_long right p body h.fit.0,
-        length-append front (body ++ sum),
-        length-append body sum,
-      ) in
-      let split : drop place w ≡ (front ++ body) ++ (sum ++ others) =
-      parts ∙ append_assoc front (body ++ sum) others
-      ∙ ap (λ (z : List ℕ). front ++ z) (append_assoc body sum others)
-      ∙ sym (append_assoc front body (sum ++ others)) in
-      ap (λ (n : ℕ). take 32 (drop n w)) low ∙ ap (take 32) (sym (drop-drop (4 + length body) place w))
-      ∙ ap (λ (x : List ℕ). take 32 (drop (4 + length body) x)) split
-      ∙ ap (take 32) (drop_at (front ++ body) (sum ++ others) (4 + length body)
-      (omega (arith, four, length-append front body))) ∙ take_at sum others 32 size
+  linked = last_there w place there (body ∷ []) h.after h.within
+      (parts ∙ ap (λ (z : List ℕ). frame p body ++ z) (sym after) ∙ sym (append_assoc (frame p body) [] (drop there w)))
+      (omega (arith, length-append (frame p body) [], frame_long right p body h.fit.0))
 
-  place_is : (n : ℕ) → n ≡ span.start + span.len + 32 → n ≡ there
-  place_is n is = omega (arith, is, ap (λ (s : Span). s.start) first, ap (λ (s : Span). s.len) first)
+  place_is : there ≡ past span
+  place_is = omega (arith, ap (λ (s : Span). s.start) first, ap (λ (s : Span). s.len) first)
 
-  pub is_next : (n : ℕ) → n ≡ span.start + span.len + 32 → IsNext w place span n
-  is_next n is =
-      let at : there ≡ n = sym (place_is n is) in
-      subst (IsNext w place span) at (record {
-        fit = h.fit.0;
-        framed = parts ∙ ap (λ (x : List ℕ). frame p body ++ x) (sym after);
-        link = linked;
-        within = inside;
-        start = ap (λ (s : Span). s.start) first;
-        long = omega (arith, ap (λ (s : Span). s.len) first);
-      })
+  is_next : IsNext w place span (past span)
+  is_next = subst (IsNext w place span) place_is (record {
+    fit = h.fit.0;
+    framed = parts ∙ ap (λ (x : List ℕ). frame p body ++ x) (sym after);
+    link = linked;
+    within = inside;
+    start = ap (λ (s : Span). s.start) first;
+    long = omega (arith, ap (λ (s : Span). s.len) first);
+  })
 
-  pub others_framed : (n : ℕ) → n ≡ span.start + span.len + 32 → AreFramed w n spans end rest
-  others_framed n is =
-      let at : there ≡ n = sym (place_is n is) in
-      subst (λ (m : ℕ). AreFramed w m spans end rest) at (record {
-        fit = h.fit.1;
-        are = spans_are;
-        whole = after ∙ ap (λ (q : List ℕ). frames.frames q bodies ++ drop end w) (sym linked);
-        follows = subst (λ (q : List ℕ). IsRest (last q bodies) (drop end w) rest) (sym linked) h.follows;
-        after = omega arith;
-        within = inside;
-      })
+  others_framed : AreFramed w (past span) spans end rest
+  others_framed = subst (λ (m : ℕ). AreFramed w m spans end rest) place_is (record {
+    fit = h.fit.1;
+    are = spans_are;
+    whole = after ∙ ap (λ (q : List ℕ). frames.frames q bodies ++ drop end w) (sym linked);
+    follows = subst (λ (q : List ℕ). IsRest (last q bodies) (drop end w) rest) (sym linked) h.follows;
+    after = omega arith;
+    within = inside;
+  })
+
+-- the frame behind so many, and the others
+pub next_span : FrameIsRight → (w : List ℕ) (place : ℕ) (spans : List Span) (i : ℕ) (d : Span) (end : ℕ)
+    (rest : frames.Rest) → i < length spans → AreFramed w place (drop i spans) end rest
+    → IsNext w place (get_or spans i d) (past (get_or spans i d))
+    × AreFramed w (past (get_or spans i d)) (drop (i + 1) spans) end rest
+next_span right w place spans i d end rest lt h =
+    let here = subst (λ (ss : List Span). AreFramed w place ss end rest) (drop_more spans i d lt) h in
+    (is_next right w place _ _ end rest here, others_framed right w place _ _ end rest here)
 
 -- behind all of them
 pub none_left : (w : List ℕ) (place end : ℕ) (rest : frames.Rest) → AreFramed w place [] end rest
@@ -138,13 +132,54 @@ pub still_waits : (o : Origin) (rs : List Record) (f : WindowPass) → f.ended �
     → Waits o rs (drop f.place f.window.items) f f.ended
 still_waits o rs f none = subst (Waits o rs (drop f.place f.window.items) f) (sym none) refl
 
+-- It stands where it stood.
+
+module _ (o : Origin) (x : List ℕ) (rs : List Record) (rest : List ℕ) (f : WindowPass) (j : Judge) (u e : ℕ)
+    (y : Option Why) where
+  abbrev told : WindowPass
+  told = record f { judge = j; used = u; enough = e; ended = y }
+
+  pub alike : StandsAt o x rs rest f → StandsIn o.version j (run o.base rs) → Waits o rs rest told y
+      → StandsAt o x rs rest told
+  alike at judge waits = record {
+    begins = at.begins;
+    judge = judge;
+    count = at.count;
+    total = at.total;
+    short = at.short;
+    small = at.small;
+    header = at.header;
+    after = at.after;
+    within = at.within;
+    link = at.link;
+    waits = waits;
+  }
+
+-- so does the judge
+pub same_place : (o : Origin) (x : List ℕ) (rs : List Record) (rest : List ℕ) (f : WindowPass) (j : Judge)
+    → f.ended ≡ None → StandsAt o x rs rest f → StandsIn o.version j (run o.base rs)
+    → StandsAt o x rs rest (record f { judge = j })
+same_place o x rs rest f j going at judge = alike o x rs rest f j f.used f.enough f.ended at judge
+    (subst (Waits o rs rest (record f { judge = j })) (sym going) (waiting o rs rest f going at.waits))
+
 -- One frame more.
 
+-- a frame that a pass comes to, and what the judge makes of its body
+pub record Meets (o : Origin) (x : List ℕ) (f : WindowPass) (span : Span) (j : Judge) (v : Verdict) : Type 0 where
+  pub rs : List Record
+  pub rest : List ℕ
+  pub at : StandsAt o x rs rest f
+  pub next : IsNext f.window.items f.place span (past span)
+  pub verdict : IsVerdict o.version (run o.base rs) (body_at f.window.items span) j v
+
 module _ (right : FrameIsRight) (o : Origin) (x : List ℕ) (rs : List Record) (rest : List ℕ) (f : WindowPass)
-    (h : StandsAt o x rs rest f) (going : f.ended ≡ None) (span : Span) (n : ℕ)
-    (at : IsNext f.window.items f.place span n) (j : Judge) where
+    (h : StandsAt o x rs rest f) (going : f.ended ≡ None) (span : Span)
+    (at : IsNext f.window.items f.place span (past span)) (j : Judge) where
   abbrev w : List ℕ
   w = f.window.items
+
+  abbrev n : ℕ
+  n = past span
 
   abbrev q : List ℕ
   q = last_of o.link rs
@@ -185,23 +220,6 @@ module _ (right : FrameIsRight) (o : Origin) (x : List ℕ) (rs : List Record) (
         waits = still_waits o (rs ++ r ∷ []) g going;
       }
 
-  -- the judge is the one that stood there
-  same_place : StandsIn o.version j (run o.base rs) → StandsAt o x rs rest (record f { judge = j })
-  same_place judge = record {
-    begins = h.begins;
-    judge = judge;
-    count = h.count;
-    total = h.total;
-    short = h.short;
-    small = h.small;
-    header = h.header;
-    after = h.after;
-    within = h.within;
-    link = h.link;
-    waits = subst (λ (y : Option _). Waits o rs rest (record f { judge = j }) y) (sym going)
-        (waiting o rs rest f going h.waits);
-  }
-
   right_there : HasRightFrame q rest × (body_in rest ≡ body_at w span)
   right_there =
       let it = right q (body_at w span) (drop n w) at.fit in (
@@ -214,7 +232,7 @@ module _ (right : FrameIsRight) (o : Origin) (x : List ℕ) (rs : List Record) (
   stops_at_law v = (
     rs,
     rest,
-    same_place v.0,
+    same_place o x rs rest f j going h v.0,
     (right_there.0, v.1, subst (Spells o.version v.1) (sym right_there.1) v.2, v.3),
   )
 
@@ -223,6 +241,6 @@ module _ (right : FrameIsRight) (o : Origin) (x : List ℕ) (rs : List Record) (
   stops_at_form v = (
     rs,
     rest,
-    same_place v.0,
+    same_place o x rs rest f j going h v.0,
     (right_there.0, λ r spells. v.1 r (subst (Spells o.version r) right_there.1 spells)),
   )

@@ -6,44 +6,38 @@ use Rattle.rq_judged.specs.Passes.{IsVerdict}
 use Rattle.rq_judged.proofs.Judgings.{one_more, stops_unlawful, stops_unread, all_judged}
 use Rattle.rq_judged.proofs.front_pass.judge_each.Goals as goal
 
+abbrev none : Span
+none = record { start = 0; len = 0 }
+
 pub loop-lawful-init : goal.loop-lawful-init
 loop-lawful-init c = λ version s stands. ([], record { records = tt; lawful = refl; spelled = refl; judge = stands })
 
 pub loop-lawful-preserved : goal.loop-lawful-preserved
 loop-lawful-preserved c = λ version s stands.
-    let b = c.args.bytes.now in
-    let none : Span = record { start = 0; len = 0 } in
-    let i = c.loop-lawful.lawful in
-    let spans = c.args.spans.now in
-    let is = c.loop-lawful.invariant version s stands in
-    let v = subst (IsVerdict version (run s is.0) (body_at b (get_or spans i none)) c.judge_one.new.judge)
-    c.in-Lawful.is (c.in_ok-judge_one.ensures.verdict version (run s is.0) is.1.judge) in
-    one_more version s b spans i none (omega (arith, c.loop-lawful-test.true)) c.loop-lawful.judge c.judge_one.new.judge
-    is.0 is.1 v
+    let (kept, are) = c.loop-lawful.invariant version s stands in
+    let body = body_at c.args.bytes.now (get_or c.args.spans.now c.loop-lawful.lawful none) in
+    one_more version s c.args.bytes.now c.args.spans.now c.loop-lawful.lawful none (omega (arith, c.loop-lawful-test.true))
+    c.loop-lawful.judge c.judge_one.new.judge kept are
+    (subst (IsVerdict version (run s kept) body c.judge_one.new.judge) c.in-Lawful.is
+    (c.in_ok-judge_one.ensures.verdict version (run s kept) are.judge))
 
 pub returns-in-Unlawful-clause-judged : goal.returns-in-Unlawful-clause-judged
 returns-in-Unlawful-clause-judged c = λ version s stands.
-    let b = c.args.bytes.now in
-    let none : Span = record { start = 0; len = 0 } in
-    let i = c.loop-lawful.lawful in
-    let spans = c.args.spans.now in
-    let is = c.loop-lawful.invariant version s stands in
-    let v = subst (IsVerdict version (run s is.0) (body_at b (get_or spans i none)) c.judge_one.new.judge)
-    c.in-Unlawful.is (c.in_ok-judge_one.ensures.verdict version (run s is.0) is.1.judge) in
-    stops_unlawful version s b spans i none (omega (arith, c.loop-lawful-test.true)) c.loop-lawful.judge
-    c.judge_one.new.judge is.0 is.1 v
+    let (kept, are) = c.loop-lawful.invariant version s stands in
+    let body = body_at c.args.bytes.now (get_or c.args.spans.now c.loop-lawful.lawful none) in
+    stops_unlawful version s c.args.bytes.now c.args.spans.now c.loop-lawful.lawful none (omega (arith, c.loop-lawful-test.true))
+    c.loop-lawful.judge c.judge_one.new.judge kept are
+    (subst (IsVerdict version (run s kept) body c.judge_one.new.judge) c.in-Unlawful.is
+    (c.in_ok-judge_one.ensures.verdict version (run s kept) are.judge))
 
 pub returns-in-NoRecord-clause-judged : goal.returns-in-NoRecord-clause-judged
 returns-in-NoRecord-clause-judged c = λ version s stands.
-    let b = c.args.bytes.now in
-    let none : Span = record { start = 0; len = 0 } in
-    let i = c.loop-lawful.lawful in
-    let spans = c.args.spans.now in
-    let is = c.loop-lawful.invariant version s stands in
-    let v = subst (IsVerdict version (run s is.0) (body_at b (get_or spans i none)) c.judge_one.new.judge)
-    c.in-NoRecord.is (c.in_ok-judge_one.ensures.verdict version (run s is.0) is.1.judge) in
-    stops_unread version s b spans i none (omega (arith, c.loop-lawful-test.true)) c.loop-lawful.judge
-    c.judge_one.new.judge is.0 is.1 v
+    let (kept, are) = c.loop-lawful.invariant version s stands in
+    let body = body_at c.args.bytes.now (get_or c.args.spans.now c.loop-lawful.lawful none) in
+    stops_unread version s c.args.bytes.now c.args.spans.now c.loop-lawful.lawful none (omega (arith, c.loop-lawful-test.true))
+    c.loop-lawful.judge c.judge_one.new.judge kept are
+    (subst (IsVerdict version (run s kept) body c.judge_one.new.judge) c.in-NoRecord.is
+    (c.in_ok-judge_one.ensures.verdict version (run s kept) are.judge))
 
 pub returns-clause-judged : goal.returns-clause-judged
 returns-clause-judged c = λ version s stands.

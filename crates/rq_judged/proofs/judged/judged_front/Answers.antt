@@ -1,47 +1,44 @@
-use Rattle.std.proofs.Common.{◌∙◌, arith}
+use Rattle.std.proofs.Common.{◌∙◌, arith, length}
 use Rattle.rq_record.specs.Views.{version_of}
 use Rattle.rq_judged.specs.Views.{why_of}
-use Rattle.rq_judged.proofs.Passes.{has_stopped}
+use Rattle.rq_judged.specs.Passes.{StopsIn}
+use Rattle.rq_judged.proofs.Passes.{HasStopped, has_stopped}
 use Rattle.rq_judged.proofs.judged.judged_front.Goals as goal
+use Rattle.rq_judged.proofs.judged.judged_front.Goals.{In_ok-why}
 
 pub finish-requires-clause-passes : goal.finish-requires-clause-passes
 finish-requires-clause-passes g c κs within =
     (version_of c.in_ok-version.version, c.new-pass.ensures c.args.bytes.now c.in_ok-version.ensures.header)
 
+-- how the pass stopped
+stop : (g : _) (c : In_ok-why g) → StopsIn (version_of c.in_ok-version.version) c.args.bytes.now
+    (length c.args.bytes.now) c.finish.new.self (why_of c.in_ok-why.why)
+stop g c = c.in_ok-why.ensures.stops (version_of c.in_ok-version.version)
+    (c.new-pass.ensures c.args.bytes.now c.in_ok-version.ensures.header)
+
+has : (g : _) (c : In_ok-why g) → HasStopped (version_of c.in_ok-version.version) c.args.bytes.now
+    c.finish.new.self (why_of c.in_ok-why.why) (stop g c).0
+has g c = has_stopped (version_of c.in_ok-version.version) c.frames_join.ensures.end c.one_front.ensures.stops
+    c.args.bytes.now c.finish.new.self (why_of c.in_ok-why.why) c.in_ok-version.ensures.short
+    c.in_ok-version.ensures.header (stop g c)
+
 pub before-requires-clause-after : goal.before-requires-clause-after
-before-requires-clause-after g c =
-    let version = version_of c.in_ok-version.version in
-    let b = c.args.bytes.now in
-    let head = c.in_ok-version.ensures.header in
-    let stop = c.in_ok-why.ensures.stops version (c.new-pass.ensures b head) in
-    let is = has_stopped version c.frames_join.ensures.end c.one_front.ensures.stops b c.finish.new.self
-    (why_of c.in_ok-why.why) c.in_ok-version.ensures.short head stop in
-    omega (arith, is.after)
+before-requires-clause-after g c = omega (arith, (has g c).after)
 
 pub before-requires-clause-within : goal.before-requires-clause-within
-before-requires-clause-within g c =
-    let version = version_of c.in_ok-version.version in
-    let b = c.args.bytes.now in
-    let head = c.in_ok-version.ensures.header in
-    let stop = c.in_ok-why.ensures.stops version (c.new-pass.ensures b head) in
-    (has_stopped version c.frames_join.ensures.end c.one_front.ensures.stops b c.finish.new.self
-    (why_of c.in_ok-why.why) c.in_ok-version.ensures.short head stop).within
+before-requires-clause-within g c = (has g c).within
 
 pub returns : goal.returns
 returns g c =
-    let version = version_of c.in_ok-version.version in
-    let b = c.args.bytes.now in
-    let head = c.in_ok-version.ensures.header in
-    let stop = c.in_ok-why.ensures.stops version (c.new-pass.ensures b head) in
-    let is = has_stopped version c.frames_join.ensures.end c.one_front.ensures.stops b c.finish.new.self
-    (why_of c.in_ok-why.why) c.in_ok-version.ensures.short head stop in
+    let at = (goal.at.returns g c).In_ok-why in
+    let is = has g at in
     record {
-      version = version;
-      records = stop.0;
+      version = version_of c.in_ok-version.version;
+      records = (stop g at).0;
       front = is.front;
       ends = is.ends;
       used = is.used;
-      count = stop.1.count;
+      count = (stop g at).1.count;
       last = c.before-2.ensures ∙ is.last;
-      judge = stop.1.judge;
+      judge = (stop g at).1.judge;
     }

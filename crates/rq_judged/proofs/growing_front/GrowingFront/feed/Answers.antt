@@ -7,30 +7,30 @@ use Rattle.rq_record.specs.declared.fault.Fault.{Fault}
 use Rattle.rq_judged.specs.GrowingFronts.{GoesAlong, IsStageOf, RefusesMore}
 use Rattle.rq_judged.specs.Windows.{log_origin}
 use Rattle.rq_judged.proofs.Headers.{refuses}
-use Rattle.rq_judged.proofs.Pieces.{if_err, then_ok}
+use Rattle.std.proofs.lemmas.Result.{IfErr-weaker, on_ok_weaker}
 use Rattle.rq_judged.proofs.growing_front.GrowingFront.feed.Goals as goal
 
 pub returns-in-Frames-clause-taken : goal.returns-in-Frames-clause-taken
 returns-in-Frames-clause-taken g c =
     let more = c.args.more.now in
-    then_ok _ _ (λ taken. λ b along.
+    on_ok_weaker c.feed.result (λ taken. λ b along.
     let (version, x, whole, follows) = subst (IsStageOf b) c.in-Frames.is along in (
       version,
       x ++ more,
       ap (λ (z : List ℕ). z ++ more) whole ∙ append_assoc (header version) x more,
       taken (log_origin version) x follows,
-    )) c.feed.result c.feed.ensures.taken
+    )) c.feed.ensures.taken
 
 pub returns-in-Frames-clause-kept : goal.returns-in-Frames-clause-kept
 returns-in-Frames-clause-kept g c =
-    if_err _ _ (λ e kept. λ b along.
+    IfErr-weaker c.feed.result _ _ (λ e kept. λ b along.
     let (version, x, whole, follows) = subst (IsStageOf b) c.in-Frames.is along in
-    (version, x, whole, kept (log_origin version) x follows)) c.feed.result c.feed.ensures.kept
+    (version, x, whole, kept (log_origin version) x follows)) c.feed.ensures.kept
 
 pub returns-in-Frames-clause-refused : goal.returns-in-Frames-clause-refused
 returns-in-Frames-clause-refused g c =
     let more = c.args.more.now in
-    if_err _ _ (λ e refused. λ b along.
+    IfErr-weaker c.feed.result _ _ (λ e refused. λ b along.
     let (version, x, whole, follows) = subst (IsStageOf b) c.in-Frames.is along in
     let (rs, rest, at) = follows in
     let size : c.in-Frames.pass.total + length more ≡ length (b ++ more) =
@@ -42,7 +42,7 @@ returns-in-Frames-clause-refused g c =
       header_long version,
       length-append b more,
     ) in
-    refuses (c.in-Frames.pass.total + length more) (b ++ more) e size refused) c.feed.result c.feed.ensures.refused
+    refuses (c.in-Frames.pass.total + length more) (b ++ more) e size refused) c.feed.ensures.refused
 
 pub returns-in_err-pass-in-Header-2-clause-refused : goal.returns-in_err-pass-in-Header-2-clause-refused
 returns-in_err-pass-in-Header-2-clause-refused g c =

@@ -3,7 +3,7 @@ use Rattle.std.specs.Prelude.{IfOk}
 use Rattle.rq_judged.specs.GrowingFronts.{IsStageOf}
 use Rattle.rq_judged.specs.Windows.{IsFed, IsStoppedFront, Origin, log_origin}
 use Rattle.rq_judged.proofs.Headers.{judges, too_few}
-use Rattle.rq_judged.proofs.Pieces.{if_ok}
+use Rattle.std.proofs.lemmas.Result.{IfOk-weaker}
 use Rattle.rq_judged.proofs.growing_front.GrowingFront.judged.Goals as goal
 
 pub returns-in-Header : goal.returns-in-Header
@@ -15,8 +15,8 @@ pub returns : goal.returns
 returns g c = λ b along.
     let stopped : IfOk c.stopped.result
     (λ front. (o : Origin) (x : List ℕ) → IsFed o x c.in-Frames.pass → IsStoppedFront o x front) =
-    if_ok _ _ (λ front is. λ o x h. is o x (rw c.in-Frames.is h)) c.stopped.result c.stopped.ensures.stopped in
+    IfOk-weaker c.stopped.result _ _ (λ front is. λ o x h. is o x (rw c.in-Frames.is h)) c.stopped.ensures.stopped in
     let (version, x, whole, follows) = subst (IsStageOf b) c.in-Frames.is along in
     judges version c.one_front.ensures.stops b x whole c.stopped.result
-    (if_ok _ _ (λ front is. is (log_origin version) x follows) c.stopped.result stopped)
+    (IfOk-weaker c.stopped.result _ _ (λ front is. is (log_origin version) x follows) stopped)
     c.stopped.ensures.refused

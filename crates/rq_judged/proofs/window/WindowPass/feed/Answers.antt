@@ -1,5 +1,6 @@
 use Rattle.std.proofs.Common.{arith}
-use Rattle.rq_judged.proofs.Pieces.{has_place, if_err, same_total, then_ok}
+use Rattle.std.proofs.lemmas.Result.{IfErr-weaker, on_ok_weaker}
+use Rattle.rq_judged.proofs.Pieces.{has_place, same_total}
 use Rattle.rq_judged.proofs.window.WindowPass.feed.Goals as goal
 
 pub take-requires-clause-short : goal.take-requires-clause-short
@@ -12,8 +13,8 @@ take-requires-clause-short g c =
 
 pub returns-clause-taken : goal.returns-clause-taken
 returns-clause-taken g c =
-    then_ok _ _ (λ taken. λ o x h. taken o x (c.make_room.ensures.kept o x h)) c.take.result c.take.ensures.taken
+    on_ok_weaker c.take.result (λ taken. λ o x h. taken o x (c.make_room.ensures.kept o x h)) c.take.ensures.taken
 
 pub returns-clause-kept : goal.returns-clause-kept
 returns-clause-kept g c =
-    if_err _ _ (λ e kept. λ o x h. kept o x (c.make_room.ensures.kept o x h)) c.take.result c.take.ensures.kept
+    IfErr-weaker c.take.result _ _ (λ e kept. λ o x h. kept o x (c.make_room.ensures.kept o x h)) c.take.ensures.kept
