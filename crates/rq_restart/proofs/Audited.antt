@@ -7,23 +7,22 @@ use Rattle.std.specs.List.{AllByRecursion}
 use Rattle.std.proofs.lemmas.Bool.{and_parts, and_from, le-leb}
 use Rattle.std.proofs.lemmas.List.{length-append}
 use Rattle.std.proofs.lemmas.Slice.Eq.{bytes_eq-Decides}
-use Rattle.rq_model.specs.Records.{Record, Define, Register, Deregister, Begin, Enqueue, Dequeue, Commit, Abort}
-use Rattle.rq_model.specs.Records.{Checkpoint, Kill, Version}
-use Rattle.rq_model.specs.Spelling.{body_of, IsRecord}
-use Rattle.rq_model.specs.Frames.{IsBodyLength, frame, digest, frames_of, log_of, magic, start, header, log_limit, HasHeader}
+use Rattle.rq_model.specs.Records.{Record, Checkpoint, Version}
+use Rattle.rq_model.specs.Spelling.{body_of}
+use Rattle.rq_model.specs.Frames.{frame, digest, frames_of, log_of, start, header, log_limit, HasHeader}
 use Rattle.rq_model.specs.States.{State, empty}
 use Rattle.rq_model.specs.Machine.{step, run}
 use Rattle.rq_model.specs.WellFormed.{IsIn, Ordered}
 use Rattle.rq_model.specs.StateSpelling.{state_bytes}
 use Rattle.rq_model.specs.Fronts.{IsFront}
 use Rattle.rq_model.specs.Checkpoints.{Audited, HasCheckpoint, TrueAt, IsAudit}
-use Rattle.rq_model.specs.LogLaws.{OneFront, LogEnds, FrameIsRight, RecordHasOneBody}
-use Rattle.rq_model.proofs.Restarts.{each_cut, frames_many, next_run}
+use Rattle.rq_model.specs.LogLaws.{OneFront, LogEnds}
+use Rattle.rq_model.proofs.Restarts.{frames_many, header_long, next_run}
+use Rattle.rq_model.proofs.Runs.{frame_long}
 use Rattle.rq_record.specs.declared.fault.Fault.{Fault}
 use Rattle.rq_record.specs.declared.fault.Fault.TheVariants.{Resources}
 use Rattle.rq_front.specs.Chains.{Refused}
 use Rattle.rq_restart.specs.Audits.{Audits, IsAuditedFrom, audit_of, audits, is_spelled, past}
-use Rattle.rq_judged.proofs.Chains.{frame_long}
 use Rattle.rq_judged.proofs.Starts.{started, whole_front}
 
 abbrev audit_at : State → ℕ → List Record → List ℕ → Audited
@@ -59,16 +58,7 @@ found s at (Checkpoint kept ∷ rs) x h = elim h [
   | inr more ↦ later s at (Checkpoint kept) rs x
       (found (step s (Checkpoint kept)) (at + 36 + length (body_of (Checkpoint kept))) rs x more)
 ]
-found s at (Define limit error name ∷ rs) x h = later s at (Define limit error name) rs x (found _ _ rs x h)
-found s at (Register queue name ∷ rs) x h = later s at (Register queue name) rs x (found _ _ rs x h)
-found s at (Deregister queue name ∷ rs) x h = later s at (Deregister queue name) rs x (found _ _ rs x h)
-found s at (Begin unit ∷ rs) x h = later s at (Begin unit) rs x (found _ _ rs x h)
-found s at (Enqueue unit queue priority by payload ∷ rs) x h =
-    later s at (Enqueue unit queue priority by payload) rs x (found _ _ rs x h)
-found s at (Dequeue unit queue by ∷ rs) x h = later s at (Dequeue unit queue by) rs x (found _ _ rs x h)
-found s at (Commit unit ∷ rs) x h = later s at (Commit unit) rs x (found _ _ rs x h)
-found s at (Abort unit ∷ rs) x h = later s at (Abort unit) rs x (found _ _ rs x h)
-found s at (Kill queue element ∷ rs) x h = later s at (Kill queue element) rs x (found _ _ rs x h)
+found s at (r ∷ rs) x h = later s at r rs x (found _ _ rs x h)
 
 in_behind : (x : Audited) (xs ys : List Audited) → IsIn x ys → IsIn x (xs ++ ys)
 in_behind x [] ys h = h
@@ -87,15 +77,7 @@ from_place : (s : State) (at low : ℕ) (rs : List Record) → low < at
 from_place s at low [] h = tt
 from_place s at low (Checkpoint kept ∷ rs) h =
     (h, from_place (step s (Checkpoint kept)) (at + 36 + length (body_of (Checkpoint kept))) low rs (omega (arith, h)))
-from_place s at low (Define limit error name ∷ rs) h = from_place _ _ low rs (omega (arith, h))
-from_place s at low (Register queue name ∷ rs) h = from_place _ _ low rs (omega (arith, h))
-from_place s at low (Deregister queue name ∷ rs) h = from_place _ _ low rs (omega (arith, h))
-from_place s at low (Begin unit ∷ rs) h = from_place _ _ low rs (omega (arith, h))
-from_place s at low (Enqueue unit queue priority by payload ∷ rs) h = from_place _ _ low rs (omega (arith, h))
-from_place s at low (Dequeue unit queue by ∷ rs) h = from_place _ _ low rs (omega (arith, h))
-from_place s at low (Commit unit ∷ rs) h = from_place _ _ low rs (omega (arith, h))
-from_place s at low (Abort unit ∷ rs) h = from_place _ _ low rs (omega (arith, h))
-from_place s at low (Kill queue element ∷ rs) h = from_place _ _ low rs (omega (arith, h))
+from_place s at low (r ∷ rs) h = from_place _ _ low rs (omega (arith, h))
 
 rises : (s : State) (at : ℕ) (rs : List Record) → Ordered (λ x y. x.offset < y.offset) (audits s at rs)
 rises s at [] = tt
@@ -103,79 +85,46 @@ rises s at (Checkpoint kept ∷ rs) = (
   from_place (step s (Checkpoint kept)) (at + 36 + length (body_of (Checkpoint kept))) at rs (omega arith),
   rises (step s (Checkpoint kept)) (at + 36 + length (body_of (Checkpoint kept))) rs,
 )
-rises s at (Define limit error name ∷ rs) = rises _ _ rs
-rises s at (Register queue name ∷ rs) = rises _ _ rs
-rises s at (Deregister queue name ∷ rs) = rises _ _ rs
-rises s at (Begin unit ∷ rs) = rises _ _ rs
-rises s at (Enqueue unit queue priority by payload ∷ rs) = rises _ _ rs
-rises s at (Dequeue unit queue by ∷ rs) = rises _ _ rs
-rises s at (Commit unit ∷ rs) = rises _ _ rs
-rises s at (Abort unit ∷ rs) = rises _ _ rs
-rises s at (Kill queue element ∷ rs) = rises _ _ rs
+rises s at (r ∷ rs) = rises _ _ rs
 
 -- a record at a place of the records is the only one
 same_split : (at : ℕ) (xs ys as' bs : List Record) (r q : Record) → xs ++ r ∷ as' ≡ ys ++ q ∷ bs
     → past at xs ≡ past at ys → (xs ≡ ys) × (r ≡ q)
-same_split at [] [] as' bs r q e p = (refl, ap (head_or r) e)
-  where
-    head_or : Record → List Record → Record
-    head_or d [] = d
-    head_or d (x ∷ xs) = x
+same_split at [] [] as' bs r q e p = (refl, cc)
 same_split at [] (y ∷ ys) as' bs r q e p =
     absurd (let more = past_grows (at + 36 + length (body_of y)) ys in omega (arith, p, more))
 same_split at (x ∷ xs) [] as' bs r q e p =
     absurd (let more = past_grows (at + 36 + length (body_of x)) xs in omega (arith, p, more))
 same_split at (x ∷ xs) (y ∷ ys) as' bs r q e p =
-    let first : x ≡ y = ap (head_or x) e in
-    let rest : xs ++ r ∷ as' ≡ ys ++ q ∷ bs = ap tail_of e in
+    let first : x ≡ y = cc in
+    let rest : xs ++ r ∷ as' ≡ ys ++ q ∷ bs = cc in
     let place : past (at + 36 + length (body_of x)) xs ≡ past (at + 36 + length (body_of x)) ys =
     p ∙ ap (λ (z : Record). past (at + 36 + length (body_of z)) ys) (sym first) in
     let more = same_split (at + 36 + length (body_of x)) xs ys as' bs r q rest place in
     (λ i. first i ∷ more.0 i, more.1)
-  where
-    head_or : Record → List Record → Record
-    head_or d [] = d
-    head_or d (x ∷ xs) = x
-
-    tail_of : List Record → List Record
-    tail_of [] = []
-    tail_of (x ∷ xs) = xs
 
 -- The place of a record is the length of the log before it.
 
-frames_size : (version : Version) → FrameIsRight → RecordHasOneBody → (p : List ℕ) (at : ℕ) (rs : List Record)
-    → AllByRecursion (IsRecord version) rs → length (frames_of p rs) + at ≡ past at rs
-frames_size version right one p at [] h = omega arith
-frames_size version right one p at (r ∷ rs) h =
+frames_size : (p : List ℕ) (at : ℕ) (rs : List Record) → length (frames_of p rs) + at ≡ past at rs
+frames_size p at [] = omega arith
+frames_size p at (r ∷ rs) =
     let body = body_of r in
-    let fits : IsBodyLength (length body) = (one version r body body (h.0, refl) (h.0, refl)).1 in
-    let more = frames_size version right one (digest p body) (at + 36 + length body) rs h.1 in
-    omega (arith, more, frame_long right p body fits, length-append (frame p body) (frames_of (digest p body) rs))
+    let more = frames_size (digest p body) (at + 36 + length body) rs in
+    omega (arith, more, frame_long p body, length-append (frame p body) (frames_of (digest p body) rs))
 
-log_size : (version : Version) → FrameIsRight → RecordHasOneBody → LogEnds → (rs : List Record)
-    → AllByRecursion (IsRecord version) rs → length (log_of version rs) ≡ past 40 rs
-log_size version right one ends rs h =
-    let size : length (start version) ≡ 32 = (ends version []).2 in
+log_size : (version : Version) (rs : List Record) → length (log_of version rs) ≡ past 40 rs
+log_size version rs =
     omega (
       arith,
-      size,
-      length-append (magic version) (start version),
+      header_long version,
       length-append (header version) (frames_of (start version) rs),
-      frames_size version right one (start version) 40 rs h,
+      frames_size (start version) 40 rs,
     )
 
--- what the audit rests on
-pub record AuditLaws : Type 0 where
-  pub right : FrameIsRight
-  pub body : RecordHasOneBody
-  pub ends : LogEnds
-  pub front : OneFront
-
 -- a checkpoint of the front stands where it is found
-stands : (version : Version) → AuditLaws
-    → (b : List ℕ) (rs : List Record) (rest : List ℕ) (before : List Record) (kept : List ℕ) (after : List Record)
+stands : (version : Version) (b : List ℕ) (rs : List Record) (rest : List ℕ) (before : List Record) (kept : List ℕ) (after : List Record)
     → IsFront b version rs rest → rs ≡ before ++ Checkpoint kept ∷ after → HasCheckpoint b (past 40 before) before kept
-stands version laws b rs rest before kept after front is =
+stands version b rs rest before kept after front is =
     let here : IsFront b version (before ++ Checkpoint kept ∷ after) rest =
     subst (λ (qs : List Record). IsFront b version qs rest) is front in
     record {
@@ -183,31 +132,20 @@ stands version laws b rs rest before kept after front is =
       after = after;
       rest = rest;
       front = here;
-      there = sym (log_size version laws.right laws.body laws.ends before
-          (each_cut (IsRecord version) before (Checkpoint kept ∷ after) here.longest.begins.records).0);
+      there = sym (log_size version before);
     }
 
 -- and is the only one that stands there
-only : (version : Version) → AuditLaws
-    → (b : List ℕ) (rs : List Record) (rest : List ℕ) (before : List Record) (kept : List ℕ) (after : List Record)
+only : (version : Version) → OneFront → (b : List ℕ) (rs : List Record) (rest : List ℕ) (before : List Record) (kept : List ℕ) (after : List Record)
     (offset : ℕ) (records : List Record) (other : List ℕ) → IsFront b version rs rest
     → rs ≡ before ++ Checkpoint kept ∷ after → offset ≡ past 40 before → HasCheckpoint b offset records other
     → (records ≡ before) × (other ≡ kept)
-only version laws b rs rest before kept after offset records other front is place h =
-    let one = laws.front b h.version version (records ++ Checkpoint other ∷ h.after) rs h.rest rest h.front front in
-    let again : IsFront b version (records ++ Checkpoint other ∷ h.after) h.rest =
-    subst (λ (v : Version). IsFront b v (records ++ Checkpoint other ∷ h.after) h.rest) one.0 h.front in
-    let size : length (log_of version records) ≡ past 40 records =
-    log_size version laws.right laws.body laws.ends records
-    (each_cut (IsRecord version) records (Checkpoint other ∷ h.after) again.longest.begins.records).0 in
-    let same : past 40 records ≡ past 40 before =
-    sym size ∙ ap (λ (v : Version). length (log_of v records)) (sym one.0) ∙ sym h.there ∙ place in
+only version law b rs rest before kept after offset records other front is place h =
+    let one = law b h.version version (records ++ Checkpoint other ∷ h.after) rs h.rest rest h.front front in
+    let same : past 40 records ≡ past 40 before = sym (log_size h.version records) ∙ sym h.there ∙ place in
     let both = same_split 40 records before h.after after (Checkpoint other) (Checkpoint kept) (one.1 ∙ is) same in
-    (both.0, ap kept_or both.1)
-  where
-    kept_or : Record → List ℕ
-    kept_or (Checkpoint bytes) = bytes
-    kept_or r = []
+    let checkpoints : Checkpoint other ≡ Checkpoint kept = both.1 in
+    (both.0, cc)
 
 -- a front has no more records than a checkpoint can number
 few : (version : Version) (b : List ℕ) (rs : List Record) (rest : List ℕ) (before : List Record) (kept : List ℕ)
@@ -228,19 +166,18 @@ few version b rs rest before kept after front is =
     )
 
 -- the test of a checkpoint tells whether it is true
-tells : (version : Version) → AuditLaws
-    → (b : List ℕ) (rs : List Record) (rest : List ℕ) (before : List Record) (kept : List ℕ) (after : List Record)
+tells : (version : Version) → OneFront → (b : List ℕ) (rs : List Record) (rest : List ℕ) (before : List Record) (kept : List ℕ) (after : List Record)
     (offset : ℕ) → IsFront b version rs rest → rs ≡ before ++ Checkpoint kept ∷ after → offset ≡ past 40 before
     → (is_spelled (run empty before) kept ≡ true) ↔ TrueAt b offset
-tells version laws b rs rest before kept after offset front is place = (
+tells version law b rs rest before kept after offset front is place = (
   λ t. (
     before,
     kept,
     subst (λ (n : ℕ). HasCheckpoint b n before kept) (sym place)
-        (stands version laws b rs rest before kept after front is),
+        (stands version b rs rest before kept after front is),
     (bytes_eq-Decides kept (state_bytes (run empty before))).0 (and_parts _ _ t).1,
   ),
-  λ t. (let same = only version laws b rs rest before kept after offset t.0 t.1 front is place t.2 in
+  λ t. (let same = only version law b rs rest before kept after offset t.0 t.1 front is place t.2 in
       let spelled : kept ≡ state_bytes (run empty before) =
       sym same.1 ∙ t.3 ∙ ap (λ (qs : List Record). state_bytes (run empty qs)) same.0 in
       and_from _ _
@@ -248,9 +185,9 @@ tells version laws b rs rest before kept after offset front is place = (
       ((bytes_eq-Decides kept (state_bytes (run empty before))).1 spelled)),
 )
 
-pub is_audit : (version : Version) → AuditLaws → (b : List ℕ) (rs : List Record) (rest : List ℕ)
+pub is_audit : (version : Version) → OneFront → (b : List ℕ) (rs : List Record) (rest : List ℕ)
     → IsFront b version rs rest → IsAudit b (audits empty 40 rs)
-is_audit version laws b rs rest front = record {
+is_audit version law b rs rest front = record {
   version = version;
   records = rs;
   rest = rest;
@@ -268,19 +205,14 @@ is_audit version laws b rs rest front = record {
           f.before,
           f.kept,
           subst (λ (m : ℕ). HasCheckpoint b m f.before f.kept) place
-              (stands version laws b rs rest f.before f.kept f.after front f.whole),
+              (stands version b rs rest f.before f.kept f.after front f.whole),
         )
 
     from : (n : ℕ) → (earlier : List Record) × (kept : List ℕ) × HasCheckpoint b n earlier kept
         → (x : Audited) × IsIn x (audits empty 40 rs) × (x.offset ≡ n)
     from n (earlier, kept, c) =
-        let one = laws.front b c.version version (earlier ++ Checkpoint kept ∷ c.after) rs c.rest rest c.front front in
-        let again : IsFront b version (earlier ++ Checkpoint kept ∷ c.after) c.rest =
-        subst (λ (v : Version). IsFront b v (earlier ++ Checkpoint kept ∷ c.after) c.rest) one.0 c.front in
-        let size : length (log_of version earlier) ≡ past 40 earlier =
-        log_size version laws.right laws.body laws.ends earlier
-        (each_cut (IsRecord version) earlier (Checkpoint kept ∷ c.after) again.longest.begins.records).0 in
-        let place : n ≡ past 40 earlier = c.there ∙ ap (λ (v : Version). length (log_of v earlier)) one.0 ∙ size in (
+        let one = law b c.version version (earlier ++ Checkpoint kept ∷ c.after) rs c.rest rest c.front front in
+        let place : n ≡ past 40 earlier = c.there ∙ log_size c.version earlier in (
           audit_at empty 40 earlier kept,
           subst (λ (qs : List Record). IsIn (audit_at empty 40 earlier kept) (audits empty 40 qs)) one.1
               (audits_have empty 40 earlier kept c.after),
@@ -293,16 +225,16 @@ is_audit version laws b rs rest front = record {
         let place : x.offset ≡ past 40 f.before = ap (λ (a : Audited). a.offset) f.is in
         let truth : x.truth ≡ is_spelled (run empty f.before) f.kept = ap (λ (a : Audited). a.truth) f.is in
         subst (λ (t : Bool). (t ≡ true) ↔ TrueAt b x.offset) (sym truth)
-        (tells version laws b rs rest f.before f.kept f.after x.offset front f.whole place)
+        (tells version law b rs rest f.before f.kept f.after x.offset front f.whole place)
 
 -- what is found in the front of a log, or no memory
-pub audits_are : (version : Version) → AuditLaws → (b : List ℕ) → length b ≤ log_limit → HasHeader version b
+pub audits_are : (version : Version) → OneFront → LogEnds → (b : List ℕ) → length b ≤ log_limit → HasHeader version b
     → (result : Result (Vec (ℕ × Bool)) Fault) → IfOk result (λ v. IsAuditedFrom version empty b 40 v.items)
     → IfErr result (λ e. e ≡ Resources) → Audits b result
-audits_are version laws b short head (Ok v) is refused =
-    let front = whole_front version b is.records is.end is.why (started version laws.ends b head) short is.front in (
+audits_are version law ends b short head (Ok v) is refused =
+    let front = whole_front version b is.records is.end is.why (started version ends b head) short is.front in (
       short,
       (version, head),
-      subst (IsAudit b) (sym is.told) (is_audit version laws b is.records (drop is.end b) front),
+      subst (IsAudit b) (sym is.told) (is_audit version law b is.records (drop is.end b) front),
     )
-audits_are version laws b short head (Err e) is refused = subst (λ (f : Fault). Refused b f) (sym refused) tt
+audits_are version law ends b short head (Err e) is refused = subst (λ (f : Fault). Refused b f) (sym refused) tt

@@ -1,5 +1,5 @@
 -- The front that an audit from a checkpoint on goes through.
-use Rattle.std.proofs.Common.{◌≡◌, ℕ, Bool, List, drop, sym, ap, subst, ◌∙◌}
+use Rattle.std.proofs.Common.{◌≡◌, ℕ, Bool, List, drop, ap, ◌∙◌}
 use Rattle.std.specs.Prelude.{Result, Ok, Err, IfOk, IfErr}
 use Rattle.std.specs.Global.{Vec}
 use Rattle.rq_record.specs.declared.fault.Fault.{Fault}
@@ -26,5 +26,4 @@ audits_at b offset x is (Ok v) audited refused =
       },
       audited.told ∙ ap (audits x.state offset) has.are,
     )
-audits_at b offset x is (Err e) audited refused =
-    subst (λ (z : Fault). AuditsAt b offset (Err z)) (sym refused) tt
+audits_at b offset x is (Err e) audited refused = rw refused tt

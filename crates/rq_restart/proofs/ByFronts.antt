@@ -8,7 +8,6 @@ use Rattle.rq_model.specs.Fronts.{Restarted, restarted}
 use Rattle.rq_record.specs.declared.fault.Fault.{Fault}
 use Rattle.rq_record.specs.declared.fault.Fault.TheVariants as faults
 use Rattle.rq_record.specs.Views.{record_of, version_of}
-use Rattle.rq_front.specs.Chains.{Refused}
 use Rattle.rq_judged.specs.Ends.{IsFrontFrom}
 use Rattle.rq_judged.specs.Views.{why_of}
 use Rattle.rq_judged.proofs.Starts.{is_restart}
@@ -42,7 +41,7 @@ restarts b f is total all (Ok r) answer refused =
       is_restart version is.ends b rs f.front.end why r is.found.short is.header (from_empty b f is)
           (answer ∙ (λ i. restarted (run (is.start i) rs) (all i - f.front.end) (all i) why)),
     )
-restarts b f is total all (Err e) answer refused = subst (λ (z : Fault). Refused b z) (sym refused) tt
+restarts b f is total all (Err e) answer refused = rw refused tt
 
 -- and of the front from the checkpoint it is the restart from there
 pub restarts_at : (b : List ℕ) (offset : ℕ) (f : FoundFront) → IsFoundAt b offset f → (total : ℕ) → total ≡ length b
@@ -71,5 +70,4 @@ restarts_at b offset f is total all (Ok r) answer refused =
             ∙ ap (λ (n : ℕ). restarted (run f.state rs) n (length b) why) (sym (length-drop f.front.end b));
       },
     )
-restarts_at b offset f is total all (Err e) answer refused =
-    subst (λ (z : Fault). RestartsAt b offset (Err z)) (sym refused) tt
+restarts_at b offset f is total all (Err e) answer refused = rw refused tt

@@ -54,14 +54,4 @@ answered version law s t rs all rest total used next committed aborted cut_off u
     let state : t ≡ final (run s rs) = t_is ∙ all_are.state in
     let records : next ≡ (run s rs).next = next_is ∙ sym after.next in
     let cut : cut_off ≡ length (run s rs).units = cut_is ∙ ap length units_are in
-    λ i. record {
-      state = state i;
-      records = records i;
-      used = used_is i;
-      total = total;
-      why = why;
-      committed =
-          committed_is i;
-      aborted = aborted_is i;
-      cut_off = cut i;
-    }
+    cc

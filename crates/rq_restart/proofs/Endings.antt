@@ -49,6 +49,16 @@ aborts_long p (u ∷ us) =
       aborts_long (digest p body) us,
     )
 
+-- up to where the front ends stands its log
+pub front_bytes : (b : List ℕ) (version : Version) (rs : List Record) (end : ℕ) → end ≤ length b
+    → IsFront b version rs (drop end b) → take end b ≡ log_of version rs
+front_bytes b version rs end within front =
+    let log = log_of version rs in
+    let rest : List ℕ = drop end b in
+    let whole : b ≡ log ++ rest = front_whole b version rs rest front in
+    let long : length log ≡ end = omega (arith, ap length whole, length-append log rest, length-drop end b, within) in
+    ap (take end) whole ∙ take_at log rest end long
+
 -- of a log and where its front ends: the bytes up to there, the last 32 of them, and what closes it
 pub record IsFrontOf (version : Version) (b : List ℕ) (rs : List Record) (end : ℕ) : Type 0 where
   pub front : IsFront b version rs (drop end b)
@@ -61,17 +71,22 @@ pub front_of : (version : Version) → LogEnds → (b : List ℕ) (rs : List Rec
 front_of version law b rs end why short head h =
     let front = whole_front version b rs end why (started version law b head) short h in
     let rest : List ℕ = drop end b in
-    let log = log_of version rs in
-    let whole : b ≡ log ++ rest = front_whole b version rs rest front in
-    let long : length log ≡ end = omega (arith, ap length whole, length-append log rest, length-drop end b, h.within) in
+    let bytes = front_bytes b version rs end h.within front in
     let ends = law version rs in
     let apart : b ≡ ends.0 ++ (last_of (start version) rs ++ rest) =
-    whole ∙ ap (λ (z : List ℕ). z ++ rest) ends.1 ∙ append_assoc ends.0 (last_of (start version) rs) rest in
+    front_whole b version rs rest front ∙ ap (λ (z : List ℕ). z ++ rest) ends.1 ∙ append_assoc ends.0 (last_of (start version) rs) rest in
     let here : end ≡ length ends.0 + 32 =
-    omega (arith, long, ap length ends.1, length-append ends.0 (last_of (start version) rs), ends.2) in
+    omega (
+      arith,
+      h.within,
+      length-take end b,
+      ap length (bytes ∙ ends.1),
+      length-append ends.0 (last_of (start version) rs),
+      ends.2,
+    ) in
     record {
       front = front;
-      bytes = ap (take end) whole ∙ take_at log rest end long;
+      bytes = bytes;
       last = ap (before end) apart ∙ before_is ends.0 (last_of (start version) rs) rest end ends.2 here;
     }
 

@@ -1,11 +1,10 @@
 -- The bodies of a log, framed anew, are the log in version 2.
 use Rattle.std.proofs.Common.{◌≡◌, ℕ, suc, ◌+◌, ◌-◌, ◌≤◌, List, [], ◌∷◌, ◌++◌, length, take, drop, refl, sym, ap, subst}
 use Rattle.std.proofs.Common.{◌∙◌, append_assoc, arith}
-use Rattle.std.proofs.lemmas.List.{append-nil, drop-drop, drop-append-le, take_all, take_at, drop_at, length-append}
+use Rattle.std.proofs.lemmas.List.{append-nil, drop-drop, drop-append-le, take_all, drop_at}
 use Rattle.std.proofs.lemmas.List.{length-take, length-drop, length-map}
 use Rattle.std.specs.Global.{Vec}
 use Rattle.std.specs.Int.{w32, to_be_bytes}
-use Rattle.std.specs.List.{AllByRecursion}
 use Rattle.std.specs.Prelude.{Result, Ok, Err, IfOk, IfErr}
 use Rattle.sha2.specs.Sha256.{sha256}
 use Rattle.rq_model.specs.Records.{Record, Version, Two}
@@ -18,7 +17,7 @@ use Rattle.rq_model.specs.Fronts.{IsFront, Why}
 use Rattle.rq_model.specs.Tails.{IsUpgraded}
 use Rattle.rq_model.proofs.Bodies.{body_fits}
 use Rattle.rq_model.proofs.Runs.{frame_reads, length-sha256, right_at}
-use Rattle.rq_model.proofs.Longest.{front_whole}
+use Rattle.rq_model.proofs.Lists.{each_map}
 use Rattle.rq_model.proofs.Restarts.{header_long}
 use Rattle.rq_record.specs.Views.{version_of}
 use Rattle.rq_record.specs.declared.fault.Fault.{Fault}
@@ -27,8 +26,8 @@ use Rattle.rq_front.specs.Chains.{Refused}
 use Rattle.rq_judged.specs.Ends.{IsFrontFrom}
 use Rattle.rq_restart.specs.Upgrades.{HaveFrames, IsExtent, Upgrades, bodies_in}
 use Rattle.rq_restart.specs.declared.upgrades.Extent.{Extent}
-use Rattle.rq_judged.proofs.Starts.{before_is}
-use Rattle.rq_judged.proofs.Starts.{started, whole_front}
+use Rattle.rq_judged.proofs.Starts.{before_is, started, whole_front}
+use Rattle.rq_restart.proofs.Endings.{front_bytes}
 
 -- the last 32 bytes of a header are what the first frame is chained to
 pub header_ends : (out : List ℕ) → out ≡ header Two → before (length out) out ≡ start Two
@@ -116,8 +115,6 @@ pub are_in : (p rest : List ℕ) (bodies : List (List ℕ)) → AreBodies bodies
 are_in p rest [] fit = record { stand = tt; bodies_are = refl }
 are_in p rest (body ∷ bodies) fit =
     let others : List ℕ = frames (digest p body) bodies ++ rest in
-    let whole : frames p (body ∷ bodies) ++ rest ≡ frame p body ++ others =
-    append_assoc (frame p body) (frames (digest p body) bodies) rest in
     let read = frame_reads p body others fit.0 in
     let more = are_in (digest p body) rest bodies fit.1 in
     let right = right_at p body others fit.0 in
@@ -126,11 +123,7 @@ are_in p rest (body ∷ bodies) fit =
       bodies_are = (λ i. read.body_is i ∷ bodies_in (length bodies) (read.after_is i))
           ∙ ap (λ (xs : List (List ℕ)). body ∷ xs) more.bodies_are;
     } in
-    subst (λ (z : List ℕ). AreIn z (body ∷ bodies)) (sym whole) here
-
-bodies_fit : (version : Version) (rs : List Record) → AllByRecursion (IsRecord version) rs → AreBodies (bodies_of rs)
-bodies_fit version [] h = tt
-bodies_fit version (r ∷ rs) h = (body_fits version r h.0, bodies_fit version rs h.1)
+    rw (append_assoc (frame p body) (frames (digest p body) bodies) rest) here
 
 -- behind the header of a log stand the frames of its front
 pub front_in : (b : List ℕ) (version : Version) (rs : List Record) (rest : List ℕ) → IsFront b version rs rest
@@ -139,8 +132,8 @@ front_in b version rs rest front =
     let begins = front.longest.begins in
     let behind : drop 40 b ≡ frames_of (start version) rs ++ rest =
     ap (drop 40) front.whole ∙ drop_at (header version) front.bytes 40 (header_long version) ∙ begins.whole in
-    subst (λ (z : List ℕ). AreIn z (bodies_of rs)) (sym behind)
-    (are_in (start version) rest (bodies_of rs) (bodies_fit version rs begins.records))
+    rw behind
+    (are_in (start version) rest (bodies_of rs) (each_map (IsRecord version) _ body_of (body_fits version) rs begins.records))
 
 -- as many as the front has records
 pub extent_in : (b : List ℕ) (e : Extent) (h : IsExtent b e)
@@ -151,16 +144,6 @@ extent_in b e h =
       subst (λ (n : ℕ). HaveFrames n (drop 40 b)) count are.stand,
       ap (λ (n : ℕ). bodies_in n (drop 40 b)) (sym count) ∙ are.bodies_are,
     )
-
--- up to where the front ends stands its log
-pub front_bytes : (b : List ℕ) (version : Version) (rs : List Record) (end : ℕ) → end ≤ length b
-    → IsFront b version rs (drop end b) → take end b ≡ log_of version rs
-front_bytes b version rs end within front =
-    let log = log_of version rs in
-    let rest : List ℕ = drop end b in
-    let whole : b ≡ log ++ rest = front_whole b version rs rest front in
-    let long : length log ≡ end = omega (arith, ap length whole, length-append log rest, length-drop end b, within) in
-    ap (take end) whole ∙ take_at log rest end long
 
 -- the front that was found
 pub is_extent : (version : Version) → LogEnds → (b : List ℕ) (rs : List Record) (e : Extent) (why : Why)

@@ -3,7 +3,7 @@ use Rattle.std.proofs.Common.{◌≡◌, ℕ, zero, suc, ◌+◌, ◌-◌, ◌<�
 use Rattle.std.proofs.Common.{map, take, drop, get_or, refl, sym, ap, subst, ◌∙◌, append_assoc, arith}
 use Rattle.std.specs.Prelude.{slice_index_or}
 use Rattle.std.proofs.lemmas.List.{append-nil, drop-take, length-map, map-append, take-append-drop, take-map}
-use Rattle.std.proofs.lemmas.List.{get_or-map, take_more}
+use Rattle.std.proofs.lemmas.List.{get_or-map, take_more, take-take}
 use Rattle.rq_model.specs.Records.{Record, Version}
 use Rattle.rq_model.specs.Spelling.{body_of}
 use Rattle.rq_model.specs.Frames.{bodies_of}
@@ -101,22 +101,12 @@ nothing_further s at all i r found lt is none so_far =
     ∙ append-nil before)
 
 -- the records from one to another, behind those before the first
-
-take_within : {X : Type 0} (m n : ℕ) (xs : List X) → m ≤ n → take m (take n xs) ≡ take m xs
-take_within zero n xs h = refl
-take_within (suc m) zero xs h = absurd (omega (arith, h))
-take_within (suc m) (suc n) [] h = refl
-take_within {X} (suc m) (suc n) (x ∷ xs) h = ap (λ (ys : List X). x ∷ ys) (take_within m n xs (omega (arith, h)))
-
 own_between : (all : List Own) (done i : ℕ) → done ≤ i → take done all ++ take (i - done) (drop done all) ≡ take i all
 own_between all done i h =
-    ap (λ (xs : List Own). xs ++ take (i - done) (drop done all)) (sym (take_within done i all h))
-    ∙ ap (λ (ys : List Own). take done (take i all) ++ ys) (sym (ap (λ (n : ℕ). drop done (take n all)) (there done i h)
-    ∙ drop-take done (i - done) all))
+    ap (λ (xs : List Own). xs ++ take (i - done) (drop done all)) (sym (take-take done i all h))
+    ∙ ap (λ (ys : List Own). take done (take i all) ++ ys)
+    (sym (ap (λ (n : ℕ). drop done (take n all)) (omega arith) ∙ drop-take done (i - done) all))
     ∙ take-append-drop done (take i all)
-  where
-    there : (m n : ℕ) → m ≤ n → n ≡ m + (n - m)
-    there m n l = omega (arith, l)
 
 pub between_are : (all : List Own) (done i : ℕ) → done ≤ i
     → take done (map record_of all) ++ map record_of (take (i - done) (drop done all)) ≡ take i (map record_of all)

@@ -130,8 +130,6 @@ pub fn audit_of<R: Threads + Sync>(
 ) -> Result<Vec<(u64, bool)>, Fault>
     ensures { Audits bytes.now result }
 {
-    rq_model::frames_are_right();
-    rq_model::one_spelling();
     rq_model::frames_join();
     rq_model::one_front();
     let version = log_version(bytes.as_slice())?;
@@ -189,9 +187,6 @@ pub fn audit_at<R: Threads + Sync>(
 pub fn every_log_has_audit()
     ensures { EveryLogHasAudit }
 {
-    rq_model::frames_are_right();
-    rq_model::one_spelling();
-    rq_model::frames_join();
     rq_model::one_front();
     rq_model::every_log_has_report();
 }

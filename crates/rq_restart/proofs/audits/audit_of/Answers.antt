@@ -6,7 +6,7 @@ use Rattle.rq_model.specs.States.{State}
 use Rattle.rq_record.specs.Views.{version_of}
 use Rattle.rq_restart.specs.Audits.{IsAuditedFrom}
 use Rattle.rq_judged.specs.Ends.{IsChain}
-use Rattle.rq_restart.proofs.Audited.{AuditLaws, audits_are}
+use Rattle.rq_restart.proofs.Audited.{audits_are}
 use Rattle.rq_judged.proofs.Starts.{log_chain}
 use Rattle.rq_restart.proofs.audits.audit_of.Goals as goal
 use Rattle.rq_restart.proofs.audits.audit_of.Goals.{In_ok-found}
@@ -28,18 +28,12 @@ returns g c =
     let version = version_of c.in_ok-version.version in
     let head = subst (HasHeader version) c.as_slice.ensures c.in_ok-version.ensures.header in
     let chain = is_chain g ((goal.at.returns g c).In_ok-found) in
-    let laws : AuditLaws = record {
-      right = c.frames_are_right.ensures.right;
-      body = c.one_spelling.ensures.body;
-      ends = c.frames_join.ensures.end;
-      front = c.one_front.ensures.front;
-    } in
     let found = IfOk-weaker c.checkpoints_of.result
     (λ v. (at : ℕ) → IsChain b at c.in_ok-found.found
     → IsAuditedFrom version c.empty-state.result b at v.items)
     (λ v. IsAuditedFrom version c.empty-state.result b 40 v.items) (λ v told. told 40 chain)
     c.checkpoints_of.ensures.found in
-    audits_are version laws b chain.short head c.checkpoints_of.result
+    audits_are version c.one_front.ensures.front c.frames_join.ensures.end b chain.short head c.checkpoints_of.result
     (subst (λ (s : State). IfOk c.checkpoints_of.result (λ v. IsAuditedFrom version s b 40 v.items))
     c.empty-state.ensures found)
     c.checkpoints_of.ensures.refused

@@ -2,9 +2,9 @@ use Rattle.std.proofs.Common.{◌≡◌, ◌≤◌, ◌+◌, true, List, ◌++�
 use Rattle.std.proofs.lemmas.List.{length-map}
 use Rattle.rq_model.specs.Records as model
 use Rattle.rq_model.specs.Machine.{run, all_lawful}
-use Rattle.rq_record.specs.Views.{Record, record_of, version_of}
+use Rattle.rq_record.specs.Views.{record_of, version_of}
 use Rattle.rq_state.specs.Views.{unit_of}
-use Rattle.rq_catalog.specs.Analyses.{IsAnalysis, open_in}
+use Rattle.rq_catalog.specs.Analyses.{open_in}
 use Rattle.rq_catalog.proofs.Runs.{front_whole}
 use Rattle.rq_catalog.proofs.Fronts.{analysis_is_wider, lawful_in_two}
 use Rattle.rq_judged.specs.Views.{why_of}
@@ -60,14 +60,11 @@ closing_agenda-requires-clause-fits g c =
 
 pub closing_agenda-requires-clause-lawful : goal.closing_agenda-requires-clause-lawful
 closing_agenda-requires-clause-lawful g c =
-    subst (λ (rs : List Record). all_lawful model.Two c.args.from.state
-    (map record_of rs ++ map model.Abort (open_in c.args.from.front.analysis)) ≡ true) (sym c.deref.ensures.value)
-    (closed_in_two g c)
+    rw c.deref.ensures.value (closed_in_two g c)
 
 pub closing_agenda-requires-clause-analysed : goal.closing_agenda-requires-clause-analysed
 closing_agenda-requires-clause-analysed g c =
-    subst (λ (rs : List Record). IsAnalysis model.Two c.args.from.state (map record_of rs)
-    c.args.from.front.analysis) (sym c.deref.ensures.value)
+    rw c.deref.ensures.value
     (analysis_is_wider c.versions.ensures.two (version_of c.args.from.version) c.args.from.state (before g c)
     c.args.from.front.analysis (lawful g c) c.requires.front.2.analysis)
 
