@@ -9,16 +9,17 @@ use Rattle.std.specs.List.Sorted.{IsPermutation}
 use Rattle.std.specs.Map.{keys_of, lookup, remove_entry, values_of}
 use Rattle.std.specs.Ordering.{eq_by_cmp}
 use Rattle.std.specs.declared.cmp.Reverse.{Reverse}
+use Rattle.std.proofs.lemmas.Bool.{false_from_ne_true}
 use Rattle.std.proofs.lemmas.Cmp.{eq_by_cmp_equiv, then_total}
 use Rattle.std.proofs.lemmas.List.Elements.{All-from_recursion, recursion_from_All}
-use Rattle.std.proofs.lemmas.List.Sorted.{All-permutation, IsPermutation-append_left}
-use Rattle.std.proofs.lemmas.List.Sorted.{IsPermutation-cons, IsPermutation-map}
-use Rattle.std.proofs.lemmas.List.Sorted.{IsPermutation-sym}
-use Rattle.std.proofs.lemmas.List.Sorted.{IsPermutation-refl, IsPermutation-swap, IsPermutation-trans}
+use Rattle.std.proofs.lemmas.List.Sorted.{All-permutation, IsPermutation-append_left, IsPermutation-cons}
+use Rattle.std.proofs.lemmas.List.Sorted.{IsPermutation-map, IsPermutation-middle, IsPermutation-refl}
+use Rattle.std.proofs.lemmas.List.Sorted.{IsPermutation-sym, IsPermutation-trans}
 use Rattle.std.proofs.lemmas.Map.{lookup-remove_entry}
-use Rattle.std.proofs.lemmas.Map.Keys.{IsDistinct-from_sorted, IsDistinct-tail}
 use Rattle.std.proofs.lemmas.Map.Entries.{lookup_head}
+use Rattle.std.proofs.lemmas.Map.Keys.{IsDistinct-from_sorted, IsDistinct-tail}
 use Rattle.std.proofs.lemmas.Map.Made.{update_all_none}
+use Rattle.std.proofs.lemmas.Map.Views.{All-map-remove_entry}
 use Rattle.rq_model.specs.States.{Element, is_free}
 use Rattle.rq_model.specs.WellFormed.{Ordered}
 use Rattle.rq_model.proofs.Apart.{Apart}
@@ -29,16 +30,15 @@ use Rattle.rq_queue.proofs.Doing.{free_cmp}
 use Rattle.rq_queue.proofs.ByNumber.{rising_apart, rising_is}
 use Rattle.rq_queue.proofs.Known.{equal_rank}
 use Rattle.rq_queue.proofs.Sorting.{apart_moved}
-use Rattle.rq_queue.proofs.Units.{Lists, stowed_moved}
+use Rattle.rq_queue.proofs.Units.{Lists, stowed_moved, value_is}
 
 -- an element that goes from a list to that of its unit
 pub marked_more : (items free rest : List Element) (old new : Lists) (e : Element) → Stowed e old new
     → IsPermutation free (e ∷ rest) → IsPermutation items (free ++ items_of old)
     → IsPermutation items (rest ++ items_of new)
 marked_more items free rest old new e s taken h =
-    IsPermutation-trans items (free ++ items_of old) (rest ++ items_of new) h
-    (IsPermutation-trans (free ++ items_of old) (e ∷ (rest ++ items_of old)) (rest ++ items_of new)
-    (IsPermutation-append_left (items_of old) free (e ∷ rest) taken) (stowed_moved e rest old new s))
+    IsPermutation-trans _ _ _ h
+    (IsPermutation-trans _ _ _ (IsPermutation-append_left (items_of old) _ _ taken) (stowed_moved e rest old new s))
 
 -- keys differ if ids do
 free_total : IsTotalOrder free_cmp
@@ -46,9 +46,8 @@ free_total = then_total (on_total (λ (k : Reverse ℕ × ℕ). k.0.0) (back_tot
     (on_total (λ (k : Reverse ℕ × ℕ). k.1) nat_cmp_total)
 
 unlike : (x y : Entry) → IsKeyed x → IsKeyed y → x.1.id ≢ y.1.id → eq_by_cmp free_cmp x.0 y.0 ≡ false
-unlike x y j k n = by_cases (eq_by_cmp free_cmp x.0 y.0) (λ b. eq_by_cmp free_cmp x.0 y.0 ≡ b → b ≡ false)
-    (λ _ t. absurd (n (sym (ap (λ (q : Reverse ℕ × ℕ). q.1) j.0)
-    ∙ (equal_rank x.0.0.0 x.0.1 y.0.0.0 y.0.1 t).1 ∙ ap (λ (q : Reverse ℕ × ℕ). q.1) k.0))) (λ _ _. refl) refl
+unlike x y j k n = false_from_ne_true _ (λ t. n (sym (ap (λ (q : Reverse ℕ × ℕ). q.1) j.0)
+    ∙ (equal_rank x.0.0.0 x.0.1 y.0.0.0 y.0.1 t).1 ∙ ap (λ (q : Reverse ℕ × ℕ). q.1) k.0))
 
 distinct_keys : (es : List Entry) → AllByRecursion IsKeyed es → Apart (values_of es)
     → IsDistinct (eq_by_cmp free_cmp) (keys_of es)
@@ -61,7 +60,6 @@ distinct_keys (x ∷ es) keyed apart = (others es keyed.1 apart.0, distinct_keys
     others [] k n = tt
     others (y ∷ ys) k n = (unlike x y keyed.0 k.0 n.0, others ys k.1 n.1)
 
--- entries whose keys differ are those under the same keys, in some order
 abbrev is_same : Reverse ℕ × ℕ → Reverse ℕ × ℕ → Bool
 is_same = eq_by_cmp free_cmp
 
@@ -71,20 +69,18 @@ same_laws = eq_by_cmp_equiv free_total
 one_key : (x y : Reverse ℕ × ℕ) → is_same x y ≡ true → x ≡ y
 one_key x y t = let parts = equal_rank x.0.0 x.1 y.0.0 y.1 t in λ i. (record { 0 = parts.0 i }, parts.1 i)
 
-keys_without : (P : Reverse ℕ × ℕ → Type 0) (t : Reverse ℕ × ℕ → Bool) (es : List Entry)
-    → AllByRecursion P (keys_of es) → AllByRecursion P (keys_of (remove_entry t es))
-keys_without P t [] h = tt
-keys_without P t (e ∷ es) h = by_cases (t e.0)
-    (λ b. AllByRecursion P (keys_of (cond b es (e ∷ remove_entry t es)))) (λ _. h.1)
-    (λ _. (h.0, keys_without P t es h.1))
-
+-- entries whose keys differ are those under the same keys, in some order
 distinct_without : (t : Reverse ℕ × ℕ → Bool) (es : List Entry) → IsDistinct is_same (keys_of es)
     → IsDistinct is_same (keys_of (remove_entry t es))
 unfolding IsDistinct
 distinct_without t [] h = tt
 distinct_without t (e ∷ es) h = by_cases (t e.0)
     (λ b. IsDistinct is_same (keys_of (cond b es (e ∷ remove_entry t es)))) (λ _. h.1)
-    (λ _. (keys_without (λ k. is_same e.0 k ≡ false) t es h.0, distinct_without t es h.1))
+    (λ _. (
+      recursion_from_All _ _ (All-map-remove_entry t (λ (x : Entry). x.0) (λ k. is_same e.0 k ≡ false) es
+          (All-from_recursion _ _ h.0)),
+      distinct_without t es h.1,
+    ))
 
 pulled : (k : Reverse ℕ × ℕ) (v : Element) (es : List Entry) → lookup (is_same k) es ≡ Some v
     → IsPermutation es ((k, v) ∷ remove_entry (is_same k) es)
@@ -92,18 +88,12 @@ pulled k v [] h = absurd (cc)
 pulled k v (e ∷ es) h =
     let more = remove_entry (is_same k) es in
     by_cases (is_same k e.0)
-    (λ b. is_same k e.0 ≡ b → cond b (Some e.1) (lookup (is_same k) es) ≡ Some v
+    (λ b. cond b (Some e.1) (lookup (is_same k) es) ≡ Some v
     → IsPermutation (e ∷ es) ((k, v) ∷ cond b es (e ∷ more)))
-    (λ _ t f. subst (λ (x : Entry). IsPermutation (e ∷ es) (x ∷ es)) (itself t f) (IsPermutation-refl (e ∷ es)))
-    (λ _ n f. IsPermutation-trans (e ∷ es) (e ∷ (k, v) ∷ more) ((k, v) ∷ e ∷ more)
-    (IsPermutation-cons e es ((k, v) ∷ more) (pulled k v es f))
-    (IsPermutation-swap (e ∷ (k, v) ∷ more) ((k, v) ∷ e ∷ more) 0 1 (omega arith) (omega arith) refl)) refl h
-  where
-    some_is : (a b : Element) → Some a ≡ Some b → a ≡ b
-    some_is a b h = cc
-
-    itself : is_same k e.0 ≡ true → Some e.1 ≡ Some v → e ≡ (k, v)
-    itself t f = λ i. (sym (one_key k e.0 t) i, some_is e.1 v f i)
+    (λ t f. subst (λ (x : Entry). IsPermutation (e ∷ es) (x ∷ es))
+    (λ i. (sym (one_key k e.0 t) i, value_is e.1 v f i)) (IsPermutation-refl (e ∷ es)))
+    (λ _ f. IsPermutation-trans _ _ _ (IsPermutation-cons e es ((k, v) ∷ more) (pulled k v es f))
+    (IsPermutation-middle (e ∷ []) (k, v) more)) h
 
 same_found : (es fs : List Entry) → IsDistinct is_same (keys_of es) → IsDistinct is_same (keys_of fs)
     → ((k : Reverse ℕ × ℕ) → lookup (is_same k) es ≡ lookup (is_same k) fs) → IsPermutation es fs
@@ -112,20 +102,18 @@ same_found [] (y ∷ ys) c d h =
     let f : None ≡ Some y.1 = h y.0 ∙ lookup_head (is_same y.0) y ys (same_laws.refl y.0) in absurd (cc)
 same_found (x ∷ xs) fs c d h =
     let k = x.0 in
-    let others = remove_entry (is_same k) fs in
     let gone : remove_entry (is_same k) (x ∷ xs) ≡ xs =
     ap (λ b. cond b xs (x ∷ remove_entry (is_same k) xs)) (same_laws.refl k) in
-    IsPermutation-trans (x ∷ xs) (x ∷ others) fs
-    (IsPermutation-cons x xs others
-    (same_found xs others (IsDistinct-tail is_same k (keys_of xs) c) (distinct_without (is_same k) fs d)
+    IsPermutation-trans _ _ _
+    (IsPermutation-cons x xs (remove_entry (is_same k) fs)
+    (same_found xs _ (IsDistinct-tail is_same k (keys_of xs) c) (distinct_without (is_same k) fs d)
     (λ q. ap (lookup (is_same q)) (sym gone)
     ∙ lookup-remove_entry same_laws (is_same k) (same_laws.congr k) q (x ∷ xs) c
     ∙ ap (cond (is_same k q) None) (h q)
     ∙ sym (lookup-remove_entry same_laws (is_same k) (same_laws.congr k) q fs d))))
-    (IsPermutation-sym fs (x ∷ others)
-    (pulled k x.1 fs (sym (h k) ∙ lookup_head (is_same k) x xs (same_laws.refl k))))
+    (IsPermutation-sym _ _ (pulled k x.1 fs (sym (h k) ∙ lookup_head (is_same k) x xs (same_laws.refl k))))
 
-pub made_of : (es : List Entry) (m : BTreeMap (Reverse ℕ × ℕ) Element) → AllByRecursion IsKeyed es
+made_of : (es : List Entry) (m : BTreeMap (Reverse ℕ × ℕ) Element) → AllByRecursion IsKeyed es
     → Apart (values_of es) → IsFromIterResult free_cmp es m → IsPermutation es m.entries
 made_of es m keyed apart made =
     let differ = distinct_keys es keyed apart in
@@ -143,7 +131,7 @@ module _ (items : List Element) (rising : Ordered (λ (e f : Element). e.id < f.
 pub mapped_too : (items held list all : List Element) → IsPermutation items (list ++ held)
     → IsPermutation list all → IsPermutation items (all ++ held)
 mapped_too items held list all same moved =
-    IsPermutation-trans items (list ++ held) (all ++ held) same (IsPermutation-append_left held list all moved)
+    IsPermutation-trans _ _ _ same (IsPermutation-append_left held list all moved)
 
 -- Free elements from a place on
 

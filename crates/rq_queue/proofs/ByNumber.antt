@@ -1,10 +1,10 @@
 -- Members of a list by number. That list is the same, whatever the order in which they are put in.
-use Rattle.std.proofs.Common.{◌≡◌, ◌≢◌, ℕ, ◌<◌, ◌==◌, Bool, true, false, cond, not, ◌⊎◌, ⊎_elim, List, [], ◌∷◌, ◌++◌}
-use Rattle.std.proofs.Common.{refl, sym, ap, ◌∙◌, subst, arith, append_assoc}
+use Rattle.std.proofs.Common.{◌≡◌, ◌≢◌, ℕ, ◌<◌, ◌==◌, Bool, true, false, cond, not, List, [], ◌∷◌, ◌++◌}
+use Rattle.std.proofs.Common.{refl, sym, ap, ◌∙◌, arith, append_assoc}
 use Rattle.std.specs.Prelude.{nat_lt}
 use Rattle.std.specs.List.{filter, AllByRecursion, IsDistinct}
 use Rattle.std.specs.List.Sorted.{IsPermutation}
-use Rattle.std.proofs.lemmas.Bool.{lt-ltb, le-ltb, ltb-true, ltb-false, cases_order, eqb-true, eqb-false}
+use Rattle.std.proofs.lemmas.Bool.{lt-ltb, le-ltb, ltb-true, ltb-false, ne_eqb, eqb-false, not-true}
 use Rattle.std.proofs.lemmas.List.Elements.{filter-append, All-from_recursion, recursion_from_All}
 use Rattle.std.proofs.lemmas.List.Sorted.{All-permutation, IsPermutation-append_comm, IsPermutation-append_left}
 use Rattle.std.proofs.lemmas.List.Sorted.{IsPermutation-cons, IsPermutation-filter_both, IsPermutation-middle}
@@ -15,6 +15,7 @@ use Rattle.rq_model.specs.WellFormed.{Ordered}
 use Rattle.rq_model.proofs.Lists.{by_cases, each_passes, each_weaker}
 use Rattle.rq_model.proofs.Lists.{filter_all, filter_comm, filter_none}
 use Rattle.rq_model.proofs.Merged.{ordered_append, ordered_filter, ordered_weaker}
+use Rattle.rq_model.proofs.Restarts.{each_cut}
 use Rattle.rq_state.specs.Orders.{put_in_order}
 use Rattle.rq_state.proofs.InOrder.{number_is_order}
 use Rattle.rq_state.proofs.Whole.{whole_permuted}
@@ -26,25 +27,39 @@ pub each_moved : {X : Type 0} (P : X → Type 0) (xs ys : List X) → IsPermutat
 each_moved P xs ys same h = recursion_from_All P ys (All-permutation P xs ys same (All-from_recursion P xs h))
 
 pub each_front : {X : Type 0} (P : X → Type 0) (xs ys : List X) → AllByRecursion P (xs ++ ys) → AllByRecursion P xs
-each_front P [] ys h = tt
-each_front P (x ∷ xs) ys h = (h.0, each_front P xs ys h.1)
+each_front P xs ys h = (each_cut P xs ys h).0
 
 pub each_back : {X : Type 0} (P : X → Type 0) (xs ys : List X) → AllByRecursion P (xs ++ ys) → AllByRecursion P ys
-each_back P [] ys h = h
-each_back P (x ∷ xs) ys h = each_back P xs ys h.1
+each_back P xs ys h = (each_cut P xs ys h).1
+
+-- of a list in order, all before a member stand in the relation to it
+pub all_before : {X : Type 0} (R : X → X → Type 0) (xs : List X) (x : X) (ys : List X) → Ordered R (xs ++ x ∷ ys)
+    → AllByRecursion (λ z. R z x) xs
+all_before R [] x ys h = tt
+all_before R (z ∷ xs) x ys h = ((each_back (R z) xs (x ∷ ys) h.0).0, all_before R xs x ys h.1)
 
 pub each_filtered : {X : Type 0} (P Q : X → Type 0) (p : X → Bool) → ((x : X) → P x → p x ≡ true → Q x) → (xs : List X)
     → AllByRecursion P xs → AllByRecursion Q (filter p xs)
 each_filtered P Q p f [] h = tt
 each_filtered P Q p f (x ∷ xs) h =
-    by_cases (p x) (λ b. p x ≡ b → AllByRecursion Q (cond b (x ∷ filter p xs) (filter p xs)))
-    (λ _ t. (f x h.0 t, each_filtered P Q p f xs h.1)) (λ _ t. each_filtered P Q p f xs h.1) refl
+    by_cases (p x) (λ b. AllByRecursion Q (cond b (x ∷ filter p xs) (filter p xs)))
+    (λ t. (f x h.0 t, each_filtered P Q p f xs h.1)) (λ _. each_filtered P Q p f xs h.1)
 
 -- two lists in either order
 pub between : {X : Type 0} (a b c : List X) → IsPermutation (a ++ (b ++ c)) (b ++ (a ++ c))
-between {X} a b c = subst (λ (xs : List X). IsPermutation xs (b ++ (a ++ c))) (append_assoc a b c)
-    (subst (λ (xs : List X). IsPermutation ((a ++ b) ++ c) xs) (append_assoc b a c)
-    (IsPermutation-append_left c (a ++ b) (b ++ a) (IsPermutation-append_comm a b)))
+between a b c = rw (← append_assoc a b c, ← append_assoc b a c)
+    (IsPermutation-append_left c (a ++ b) (b ++ a) (IsPermutation-append_comm a b))
+
+-- put in one after another, the members are the same
+pub put_each_permutes : {X : Type 0} (before : X → X → Bool) (xs : List X) → IsPermutation xs (put_in_order before xs)
+put_each_permutes before [] = IsPermutation-refl []
+put_each_permutes before (x ∷ xs) =
+    let rest = put_in_order before xs in
+    IsPermutation-trans _ _ _
+    (IsPermutation-cons x _ _
+    (IsPermutation-trans xs rest _ (put_each_permutes before xs)
+    (IsPermutation-filter_both (λ y. before y x) (λ y. not (before y x)) (λ y. refl) rest)))
+    (IsPermutation-sym _ _ (IsPermutation-middle (filter (λ y. before y x) rest) x _))
 
 module _ {X : Type 0} (n : X → ℕ) where
   abbrev pub before : X → X → Bool
@@ -67,8 +82,7 @@ module _ {X : Type 0} (n : X → ℕ) where
   differing [] h = tt
   differing (x ∷ xs) h = (
     each_weaker (λ y. n x ≢ n y) (λ y. (n x == n y) ≡ false)
-        (λ y o. by_cases (n x == n y) (λ b. (n x == n y) ≡ b → b ≡ false)
-        (λ _ t. absurd (o (eqb-true (n x) (n y) t))) (λ _ _. refl) refl) xs h.0,
+        (λ y o. ne_eqb (n x) (n y) o) xs h.0,
     differing xs h.1,
   )
 
@@ -91,23 +105,11 @@ module _ {X : Type 0} (n : X → ℕ) where
   apart_front [] ys h = tt
   apart_front (x ∷ xs) ys h = (each_front (λ z. n x ≢ n z) xs ys h.0, apart_front xs ys h.1)
 
-  -- by number, the members are the same
-  pub same_members : (xs : List X) → IsPermutation xs (by_number xs)
-  same_members [] = IsPermutation-refl []
-  same_members (x ∷ xs) =
-      let front = filter (λ y. before y x) (by_number xs) in
-      let back = filter (λ y. not (before y x)) (by_number xs) in
-      IsPermutation-trans (x ∷ xs) (x ∷ (front ++ back)) (front ++ x ∷ back)
-      (IsPermutation-cons x xs (front ++ back)
-      (IsPermutation-trans xs (by_number xs) (front ++ back) (same_members xs)
-      (IsPermutation-filter_both (λ y. before y x) (λ y. not (before y x)) (λ y. refl) (by_number xs))))
-      (IsPermutation-sym (front ++ x ∷ back) (x ∷ (front ++ back)) (IsPermutation-middle front x back))
-
   pub each_sorted : (P : X → Type 0) (xs : List X) → AllByRecursion P xs → AllByRecursion P (by_number xs)
-  each_sorted P xs h = each_moved P xs (by_number xs) (same_members xs) h
+  each_sorted P xs h = each_moved P xs (by_number xs) (put_each_permutes before xs) h
 
   pub each_unsorted : (P : X → Type 0) (xs : List X) → AllByRecursion P (by_number xs) → AllByRecursion P xs
-  each_unsorted P xs h = each_moved P (by_number xs) xs (IsPermutation-sym xs (by_number xs) (same_members xs)) h
+  each_unsorted P xs h = each_moved P _ xs (IsPermutation-sym _ _ (put_each_permutes before xs)) h
 
   -- and their numbers rise
   rising_put : (x : X) (xs : List X) → AllByRecursion (λ y. n x ≢ n y) xs → Rising xs → Rising (put before x xs)
@@ -122,10 +124,7 @@ module _ {X : Type 0} (n : X → ℕ) where
       )) xs)
     where
       other : (y : X) → n x ≢ n y → not (before y x) ≡ true → n x < n y
-      other y o t = ⊎_elim (λ (e : n x ≡ n y). absurd (o e))
-          (λ (s : (n x < n y) ⊎ (n y < n x)). ⊎_elim (λ (l : n x < n y). l)
-          (λ (l : n y < n x). absurd (let b : before y x ≡ true = lt-ltb (n y) (n x) l in cc)) s)
-          (cases_order (n x) (n y))
+      other y o t = let l = ltb-false (n y) (n x) (not-true (before y x) t) in omega arith
 
       above : AllByRecursion (λ y. n x < n y) (filter (λ y. not (before y x)) xs)
       above = each_filtered (λ y. n x ≢ n y) (λ y. n x < n y) (λ y. not (before y x)) other xs d
@@ -146,7 +145,7 @@ module _ {X : Type 0} (n : X → ℕ) where
 
   pub sorted_moved : (xs ys : List X) → IsPermutation xs ys → Apart xs → by_number xs ≡ by_number ys
   sorted_moved xs ys same h = sym (rising_is (by_number xs) ys (rising_sorted xs h)
-      (IsPermutation-trans (by_number xs) xs ys (IsPermutation-sym xs (by_number xs) (same_members xs)) same))
+      (IsPermutation-trans _ xs ys (IsPermutation-sym _ _ (put_each_permutes before xs)) same))
 
   -- A filter takes members out of the list by number.
 

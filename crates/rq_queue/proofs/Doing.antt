@@ -7,7 +7,7 @@ use Rattle.std.specs.declared.cmp.Reverse.{Reverse}
 use Rattle.std.specs.declared.cmp.Ordering.{Ordering}
 use Rattle.std.specs.declared.cmp.Ordering.TheVariants.{Less}
 use Rattle.std.proofs.lemmas.Bool.Decides.{nat_tests}
-use Rattle.std.proofs.lemmas.Bool.{eq-eqb, lt-ltb}
+use Rattle.std.proofs.lemmas.Bool.{and_left, eq-eqb, lt-ltb}
 use Rattle.std.proofs.lemmas.List.{append-nil, reverse-append}
 use Rattle.rq_model.specs.States.{Mark, Element, Free, Fresh, Held, put, id_before, is_free}
 use Rattle.rq_model.specs.Queues.{is_marked}
@@ -249,25 +249,13 @@ staying_less home unit e rest h =
     (cond b (e ∷ filter (λ x. not (is_fresh unit x.mark) && not (leaves home unit x)) rest)
     (filter (λ x. not (is_fresh unit x.mark) && not (leaves home unit x)) rest))) h
 
-pub leaves_no_more : (b c : Bool) → c ≡ true → (not b && not c) ≡ false
-leaves_no_more true c h = refl
-leaves_no_more false c h = ap not h
-
-fresh_no_more : (b c : Bool) → b ≡ true → (not b && not c) ≡ false
-fresh_no_more b c h = ap (λ b. not b && not c) h
-
 -- one that the unit put in goes with its ABORT
 pub fresh_dropped : (home : Definition) (unit : ℕ) (e : Element) (rest others all : List Element)
     (free now : List Entry) → is_fresh unit e.mark ≡ true → Frees others free all now (staying home unit (e ∷ rest))
     → Frees others free all now (staying home unit rest)
 fresh_dropped home unit e rest others all free now h =
     subst (λ (xs : List Element). Frees others free all now xs)
-    (staying_less home unit e rest (fresh_no_more (is_fresh unit e.mark) (leaves home unit e) h))
-
--- a list that a loop has yielded
-pub as_they_are : (xs : List Element) → map (λ y. y) xs ≡ xs
-as_they_are [] = refl
-as_they_are (x ∷ xs) = ap (λ (ys : List Element). x ∷ ys) (as_they_are xs)
+    (staying_less home unit e rest (and_left (not (is_fresh unit e.mark)) (not (leaves home unit e)) (ap not h)))
 
 -- no other has the id
 pub others_of : (e : Element) (es : List Element) → AllByRecursion (λ x. x.id ≢ e.id) (sorted es)

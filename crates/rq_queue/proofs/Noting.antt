@@ -9,7 +9,7 @@ use Rattle.std.specs.BTreeMap.{insert_entry, is_at}
 use Rattle.std.specs.Ordering.{nat_cmp, is_eq}
 use Rattle.std.specs.declared.cmp.Ordering.{Ordering}
 use Rattle.std.specs.declared.cmp.Ordering.TheVariants.{Less, Equal, Greater}
-use Rattle.std.proofs.lemmas.Bool.{lt-ltb, eq-eqb, false≢true, not-true}
+use Rattle.std.proofs.lemmas.Bool.{and_right, cases_Bool, eq-eqb, false≢true, lt-ltb, not-true, or_right}
 use Rattle.std.proofs.lemmas.Bool.Decides.{nat_tests}
 use Rattle.std.proofs.lemmas.Cmp.{nat_cmp_total, tied_itself}
 use Rattle.std.proofs.lemmas.List.{append-nil}
@@ -27,8 +27,9 @@ use Rattle.rq_state.proofs.InOrder.{equal_numbers, ordered_map}
 use Rattle.rq_queue.specs.Noted.{by_place, Apart, Rises, NoteEntry, AreByPlace, has_place, list_of, filed, is_own}
 use Rattle.rq_queue.specs.Noted.{has_own, left, Among, Drawn}
 use Rattle.rq_queue.specs.declared.whose.Whose.{Whose}
-use Rattle.rq_queue.proofs.ByNumber.{each_back, each_filtered, filter_sorted, rising_is, apart_moved, sorted_moved}
+use Rattle.rq_queue.proofs.ByNumber.{each_filtered, filter_sorted, rising_is, apart_moved, sorted_moved}
 use Rattle.rq_queue.proofs.Roll.{removed, appended}
+use Rattle.rq_queue.proofs.Units.{value_is}
 
 -- A list that rises is by place.
 
@@ -99,16 +100,12 @@ last_by_place n es h l = record {
 
 -- Places under keys.
 
-or_true : (a : Bool) → (a || true) ≡ true
-or_true true = refl
-or_true false = refl
-
 has_more : (p : ℕ) (xs ys : List ℕ) → has_place p xs ≡ true → has_place p (xs ++ ys) ≡ true
 has_more p xs ys h = list_any-append (λ q. q == p) xs ys ∙ ap (λ b. b || list_any (λ q. q == p) ys) h
 
 has_last : (p : ℕ) (xs : List ℕ) → has_place p (xs ++ p ∷ []) ≡ true
 has_last p xs = list_any-append (λ q. q == p) xs (p ∷ [])
-    ∙ (ap (λ b. list_any (λ q. q == p) xs || (b || false)) (eq-eqb p p refl) ∙ or_true (list_any (λ q. q == p) xs))
+    ∙ (ap (λ b. list_any (λ q. q == p) xs || (b || false)) (eq-eqb p p refl) ∙ or_right (list_any (λ q. q == p) xs) true refl)
 
 is_equal : (o : Ordering) → is_eq o ≡ true → o ≡ Equal
 is_equal Less h = absurd (false≢true h)
@@ -212,9 +209,6 @@ one_drawn whose k es h o = removed nat_cmp nat_cmp_total k es
     ∙ by_cases (k == e.0) (λ b. not b ≡ not ((b || false) && is_own whose e.1)) (λ t. ap not (sym (f t))) (λ _. refl))
     es (own_there whose k true es h.rising o))
 
-value_is : (a b : Note) → Some a ≡ Some b → a ≡ b
-value_is a b h = cc
-
 taken_out : (t : ℕ → Bool) (es : List NoteEntry) (n : Note) → lookup t es ≡ Some n
     → Among n (values_of es) (values_of (remove_entry t es))
 taken_out t [] n h = absurd (cc)
@@ -240,9 +234,7 @@ taken_out t (x ∷ es) n h = by_cases (t x.0)
 
 not_there : (t : ℕ → Bool) (es : List NoteEntry) → lookup t es ≡ None → remove_entry t es ≡ es
 not_there t [] h = refl
-not_there t (x ∷ es) h = by_cases (t x.0)
-    (λ b. cond b (Some x.1) (lookup t es) ≡ None → cond b es (x ∷ remove_entry t es) ≡ x ∷ es)
-    (λ _ k. absurd (cc)) (λ _ k. ap (λ (r : List NoteEntry). x ∷ r) (not_there t es k)) h
+not_there t (x ∷ es) h = grind (arith, not_there t es, cases_Bool (t x.0))
 
 pub drawn_one : (whose : Whose) (t : ℕ → Bool) (es : List NoteEntry) (o : Option Note) → o ≡ lookup t es
     → has_own whose (lookup t es) ≡ true → Drawn whose o es (remove_entry t es)
@@ -254,21 +246,10 @@ drawn_one whose t es (Some n) h own = (ap (has_own whose) h ∙ own, taken_out t
 filter_then : {X : Type 0} (p q r : X → Bool) → ((x : X) → r x ≡ (q x && p x)) → (xs : List X)
     → filter p (filter q xs) ≡ filter r xs
 filter_then p q r h [] = refl
-filter_then p q r h (x ∷ xs) = by_cases (q x)
-    (λ b. r x ≡ (b && p x) → filter p (cond b (x ∷ filter q xs) (filter q xs))
-    ≡ cond (r x) (x ∷ filter r xs) (filter r xs))
-    (λ _ e. λ i. cond (sym e i) (x ∷ filter_then p q r h xs i) (filter_then p q r h xs i))
-    (λ _ e. filter_then p q r h xs ∙ ap (λ b. cond b (x ∷ filter r xs) (filter r xs)) (sym e)) (h x)
+filter_then p q r h (x ∷ xs) = grind (arith, filter_then p q r h xs, h x, cases_Bool (q x), cases_Bool (p x))
 
 tests : (a b o : Bool) → not ((a || b) && o) ≡ (not ((a || false) && o) && not (b && o))
-tests true true true = refl
-tests true true false = refl
-tests true false true = refl
-tests true false false = refl
-tests false true true = refl
-tests false true false = refl
-tests false false true = refl
-tests false false false = refl
+tests a b o = grind (arith, cases_Bool a, cases_Bool b, cases_Bool o)
 
 pub left_more : (whose : Whose) (k : ℕ) (ps : List ℕ) (es : List NoteEntry)
     → left whose ps (left whose (k ∷ []) es) ≡ left whose (k ∷ ps) es
@@ -307,10 +288,6 @@ module _ (n : Note) (drawn whole others : List Note) (among : Among n whole othe
 
 -- All places of their notes.
 
-and_false : (a : Bool) → (a && false) ≡ false
-and_false true = refl
-and_false false = refl
-
 module _ (whose : Whose) (ps : List ℕ) (es : List NoteEntry)
     (all : AllByRecursion (λ (e : NoteEntry). is_own whose e.1 ≡ true → has_place e.0 ps ≡ true) es) where
   pub left_all : left whose ps es ≡ filter (λ (e : NoteEntry). not (is_own whose e.1)) es
@@ -319,7 +296,7 @@ module _ (whose : Whose) (ps : List ℕ) (es : List NoteEntry)
       (each_weaker (λ (e : NoteEntry). is_own whose e.1 ≡ true → has_place e.0 ps ≡ true)
       (λ (e : NoteEntry). not (has_place e.0 ps && is_own whose e.1) ≡ not (is_own whose e.1))
       (λ e f. by_cases (is_own whose e.1) (λ b. not (has_place e.0 ps && b) ≡ not b)
-      (λ t. ap (λ a. not (a && true)) (f t)) (λ _. ap not (and_false (has_place e.0 ps)))) es all)
+      (λ t. ap (λ a. not (a && true)) (f t)) (λ _. ap not (and_right (has_place e.0 ps) false refl))) es all)
 
   pub values_left : values_of (left whose ps es) ≡ filter (λ (n : Note). not (is_own whose n)) (values_of es)
   values_left = ap values_of left_all
@@ -352,18 +329,4 @@ told_own unit ns (r ∷ rs) = λ i. record { queue = r.queue; name = r.name; las
     twice : (ns : List Note) → filter (λ n. (n.unit == unit) && is_note_of r.queue r.name n)
         (filter (λ n. n.unit == unit) ns) ≡ filter (λ n. (n.unit == unit) && is_note_of r.queue r.name n) ns
     twice [] = refl
-    twice (n ∷ ns) = by_cases (n.unit == unit)
-        (λ b. (n.unit == unit) ≡ b → filter (λ n. (n.unit == unit) && is_note_of r.queue r.name n)
-        (cond b (n ∷ filter (λ n. n.unit == unit) ns) (filter (λ n. n.unit == unit) ns))
-        ≡ cond (b && is_note_of r.queue r.name n) (n ∷ filter (λ n. (n.unit == unit) && is_note_of r.queue r.name n) ns)
-        (filter (λ n. (n.unit == unit) && is_note_of r.queue r.name n) ns))
-        (λ _ t. ap (λ b. cond (b && is_note_of r.queue r.name n)
-        (n ∷ filter (λ n. (n.unit == unit) && is_note_of r.queue r.name n) (filter (λ n. n.unit == unit) ns))
-        (filter (λ n. (n.unit == unit) && is_note_of r.queue r.name n) (filter (λ n. n.unit == unit) ns))) t
-        ∙ ap (λ (xs : List Note). cond (is_note_of r.queue r.name n) (n ∷ xs) xs) (twice ns))
-        (λ _ _. twice ns) refl
-
-pub above_all : (xs : List Note) (n : Note) (ys : List Note) → Rises (xs ++ n ∷ ys)
-    → AllByRecursion (λ m. m.last.place < n.last.place) xs
-above_all [] n ys h = tt
-above_all (x ∷ xs) n ys h = ((each_back (λ z. x.last.place < z.last.place) xs (n ∷ ys) h.0).0, above_all xs n ys h.1)
+    twice (n ∷ ns) = grind (arith, twice ns, cases_Bool (n.unit == unit))

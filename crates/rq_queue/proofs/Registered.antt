@@ -3,7 +3,7 @@ use Rattle.std.proofs.Common.{◌≡◌, ◌+◌, ◌<◌, ◌≤◌, ℕ, Bool,
 use Rattle.std.proofs.Common.{◌++◌, Option, Some, None, is_some, map, length, drop, refl, sym, ap, subst, ◌∙◌, arith}
 use Rattle.std.proofs.Common.{if◌then◌else◌, append_assoc}
 use Rattle.std.specs.Prelude.{nat_lt, slice_index_or}
-use Rattle.std.specs.List.{filter, list_any, AllByRecursion}
+use Rattle.std.specs.List.{list_any, AllByRecursion}
 use Rattle.std.specs.Map.{lookup, remove_entry, set_value}
 use Rattle.std.specs.BTreeMap.{insert_entry, is_at}
 use Rattle.std.specs.Ordering.{is_eq, nat_cmp, ordering_reverse}
@@ -13,7 +13,7 @@ use Rattle.std.specs.Str.{bytes_eq}
 use Rattle.std.specs.declared.cmp.Ordering.{Ordering}
 use Rattle.std.specs.declared.cmp.Ordering.TheVariants.{Less, Equal, Greater}
 use Rattle.std.proofs.Math.ListN.{drop_of_length-le}
-use Rattle.std.proofs.lemmas.Bool.{false≢true, eq-eqb}
+use Rattle.std.proofs.lemmas.Bool.{cases_Bool, false≢true, eq-eqb}
 use Rattle.std.proofs.lemmas.Bool.Decides.{nat_tests}
 use Rattle.std.proofs.lemmas.Cmp.{nat_list_cmp_total}
 use Rattle.std.proofs.lemmas.List.{append-nil, drop_more, map-append}
@@ -24,10 +24,11 @@ use Rattle.rq_model.specs.Machine.{later, registered, deregistered, told}
 use Rattle.rq_model.specs.Queues.{registrants_at}
 use Rattle.rq_model.specs.WellFormed.{Ordered}
 use Rattle.rq_model.proofs.Decided.{is_less}
-use Rattle.rq_model.proofs.Lists.{by_cases, each_weaker, each_passes}
+use Rattle.rq_model.proofs.Lists.{by_cases, each_weaker, each_passes, filter_map_as}
 use Rattle.rq_model.proofs.Merged.{ordered_filter}
 use Rattle.rq_state.specs.Orders.{key_cmp}
 use Rattle.rq_queue.specs.Roll.{RollEntry, registrant_of, IsRoll, heard}
+use Rattle.rq_queue.proofs.ByNumber.{all_before, each_back}
 use Rattle.rq_queue.proofs.Roll.{none_at, any_at, removed, updated, inserted, appended}
 
 -- The tests.
@@ -103,23 +104,10 @@ pub deregistered_then : (queue : ℕ) (name : List ℕ) (es : List RollEntry) �
     → map (registrant_of queue) (remove_entry (is_at (slice_cmp nat_cmp name)) es)
     ≡ deregistered queue name (map (registrant_of queue) es)
 deregistered_then queue name es up =
-    ap (map (registrant_of queue)) (removed (slice_cmp nat_cmp) nat_list_cmp_total name es up) ∙ through es
-  where
-    through : (es : List RollEntry)
-        → map (registrant_of queue) (filter (λ (e : RollEntry). not (is_eq (slice_cmp nat_cmp name e.0))) es)
-        ≡ filter (λ r. not (is_registrant queue name r)) (map (registrant_of queue) es)
-    through [] = refl
-    through (x ∷ es) = by_cases (is_eq (slice_cmp nat_cmp name x.0))
-        (λ b. map (registrant_of queue)
-        (cond (not b) (x ∷ filter (λ (e : RollEntry). not (is_eq (slice_cmp nat_cmp name e.0))) es)
-        (filter (λ (e : RollEntry). not (is_eq (slice_cmp nat_cmp name e.0))) es))
-        ≡ cond (not b)
-        (registrant_of queue x ∷ filter (λ r. not (is_registrant queue name r)) (map (registrant_of queue) es))
-        (filter (λ r. not (is_registrant queue name r)) (map (registrant_of queue) es)))
-        (λ _. through es) (λ _. ap (λ (rs : List Registrant). registrant_of queue x ∷ rs) (through es))
-        ∙ ap (λ b. cond (not b)
-        (registrant_of queue x ∷ filter (λ r. not (is_registrant queue name r)) (map (registrant_of queue) es))
-        (filter (λ r. not (is_registrant queue name r)) (map (registrant_of queue) es))) (registrant_is queue name x)
+    ap (map (registrant_of queue)) (removed (slice_cmp nat_cmp) nat_list_cmp_total name es up)
+    ∙ sym (filter_map_as (λ r. not (is_registrant queue name r))
+    (λ (e : RollEntry). not (is_eq (slice_cmp nat_cmp name e.0))) (registrant_of queue) (registrant_of queue)
+    (λ e. ap not (sym (registrant_is queue name e))) (λ _ _. refl) es)
 
 -- A note.
 
@@ -130,9 +118,7 @@ hears unit queue n name h = is_eq-slice_cmp n.name name
     ∙ at (n.unit == unit) (n.queue == queue) (bytes_eq n.name name) h
   where
     at : (a b c : Bool) → (a && b) ≡ true → c ≡ (a && (b && c))
-    at true true c h = refl
-    at true false c h = absurd (false≢true h)
-    at false b c h = absurd (false≢true h)
+    at a b c h = grind (arith, cases_Bool a, cases_Bool b)
 
 pub not_own : (unit queue : ℕ) (n : Note) (es : List RollEntry) → ((n.unit == unit) && (n.queue == queue)) ≡ false
     → map (registrant_of queue) es ≡ map (heard unit n) (map (registrant_of queue) es)
@@ -142,9 +128,7 @@ not_own unit queue n (x ∷ es) h =
     (sym (at (n.unit == unit) (n.queue == queue) (bytes_eq n.name x.0) h)) i ∷ not_own unit queue n es h i
   where
     at : (a b c : Bool) → (a && b) ≡ false → (a && (b && c)) ≡ false
-    at true true c h = absurd (false≢true (sym h))
-    at true false c h = refl
-    at false b c h = refl
+    at a b c h = grind (arith, cases_Bool a, cases_Bool b)
 
 pub nobody_hears : (unit queue : ℕ) (n : Note) (es : List RollEntry)
     → ((n.unit == unit) && (n.queue == queue)) ≡ true → lookup (is_at (slice_cmp nat_cmp n.name)) es ≡ None
@@ -204,16 +188,6 @@ added_last name last es h = appended (slice_cmp nat_cmp) nat_list_cmp_total name
 
 -- The registrants of a queue, index after index.
 
-at_middle : {X : Type 0} (P : X → Type 0) (xs : List X) (x : X) (ys : List X) → AllByRecursion P (xs ++ x ∷ ys) → P x
-at_middle P [] x ys h = h.0
-at_middle P (y ∷ xs) x ys h = at_middle P xs x ys h.1
-
-all_before : (xs : List Registrant) (r : Registrant) (ys : List Registrant)
-    → Ordered (λ a b. registrant_before a b ≡ true) (xs ++ r ∷ ys)
-    → AllByRecursion (λ x. registrant_before x r ≡ true) xs
-all_before [] r ys h = tt
-all_before (x ∷ xs) r ys h = (at_middle (λ z. registrant_before x z ≡ true) xs r ys h.0, all_before xs r ys h.1)
-
 same_of : (a b : ℕ) → (a == b) ≡ true → a ≡ b
 same_of a b h = grind (arith, nat_tests)
 
@@ -221,9 +195,9 @@ same_of a b h = grind (arith, nat_tests)
 own_queue : (queue : ℕ) (rs xs : List Registrant) (r : Registrant) (ys : List Registrant)
     → xs ++ r ∷ ys ≡ registrants_at queue rs → r.queue ≡ queue
 own_queue queue rs xs r ys h = same_of r.queue queue
-    (at_middle (λ (x : Registrant). (x.queue == queue) ≡ true) xs r ys
+    (each_back (λ (x : Registrant). (x.queue == queue) ≡ true) xs (r ∷ ys)
     (subst (AllByRecursion (λ (x : Registrant). (x.queue == queue) ≡ true)) (sym h)
-    (each_passes (λ (x : Registrant). (x.queue == queue) ≡ true) (λ x. x.queue == queue) (λ x e. e) rs)))
+    (each_passes (λ (x : Registrant). (x.queue == queue) ≡ true) (λ x. x.queue == queue) (λ x e. e) rs))).0
 
 names_before : (queue : ℕ) (es : List RollEntry) (r : Registrant) → r.queue ≡ queue
     → AllByRecursion (λ x. registrant_before x r ≡ true) (map (registrant_of queue) es)
@@ -258,7 +232,7 @@ module _ (queue : ℕ) (rs : List Registrant) (at : ℕ → Registrant) (indices
       → r ≡ at (slice_index_or indices i d) → Rolling es i → Ordered (λ a b. registrant_before a b ≡ true) rs
       → AllByRecursion (λ (e : RollEntry). name_before e.0 r.name ≡ true) es
   comes_last es i d r l e h up = names_before queue es r (is_own es i d r l e h)
-      (all_before (map (registrant_of queue) es) r (map at (drop (i + 1) indices))
+      (all_before (λ a b. registrant_before a b ≡ true) (map (registrant_of queue) es) r (map at (drop (i + 1) indices))
       (subst (Ordered (λ a b. registrant_before a b ≡ true)) (sym (next_one es i d r l e h ∙ are))
       (ordered_filter (λ a b. registrant_before a b ≡ true) (λ x. x.queue == queue) rs up)))
 

@@ -2,7 +2,8 @@
 use Rattle.std.proofs.Common.{◌≡◌, Bool, true, false, cond, not, ◌||◌, List, [], ◌∷◌, ◌++◌, Some, None, is_some, map}
 use Rattle.std.proofs.Common.{refl, sym, ap, ◌∙◌}
 use Rattle.std.specs.List.{filter, list_any, AllByRecursion}
-use Rattle.std.specs.Map.{lookup, remove_entry, set_value}
+use Rattle.std.specs.List.Sorted.{IsStrictlySortedBy}
+use Rattle.std.specs.Map.{keys_of, lookup, remove_entry, set_value}
 use Rattle.std.specs.BTreeMap.{insert_entry, is_at}
 use Rattle.std.specs.Ordering.{match_ordering, is_eq, is_lt, ordering_reverse}
 use Rattle.std.specs.Cmp.{IsTotalOrder}
@@ -11,14 +12,13 @@ use Rattle.std.specs.declared.cmp.Ordering.TheVariants.{Less, Equal, Greater}
 use Rattle.std.proofs.lemmas.Bool.{true≢false}
 use Rattle.rq_model.specs.States.{put}
 use Rattle.rq_model.specs.WellFormed.{Ordered}
+use Rattle.rq_state.proofs.Neighbours.{ordered_unmap}
+use Rattle.rq_queue.proofs.Units.{value_is}
 use Rattle.rq_model.proofs.Lists.{by_cases, each_weaker, each_map, filter_all, filter_none, map_all}
 
 turned : {K : Type 0} (R : K → K → Ordering) → IsTotalOrder R → (a b : K) (o : Ordering) → R a b ≡ o
     → R b a ≡ ordering_reverse o
 turned R total a b o h = total.antisymm b a ∙ ap ordering_reverse h
-
-some_is : {X : Type 0} (a b : X) → Some a ≡ Some b → a ≡ b
-some_is a b h = cc
 
 module _ {K V : Type 0} (R : K → K → Ordering) (total : IsTotalOrder R) where
   abbrev pub Up : List (K × V) → Type 0
@@ -49,9 +49,9 @@ module _ {K V : Type 0} (R : K → K → Ordering) (total : IsTotalOrder R) wher
       → AllByRecursion (λ (e : K × V). is_eq (R k e.0) ≡ false) es
   none_at k [] h = tt
   none_at k (x ∷ es) h = by_cases (is_eq (R k x.0))
-      (λ b. is_eq (R k x.0) ≡ b → cond b (Some x.1) (lookup (is_at (R k)) es) ≡ None
+      (λ b. cond b (Some x.1) (lookup (is_at (R k)) es) ≡ None
       → AllByRecursion (λ (e : K × V). is_eq (R k e.0) ≡ false) (x ∷ es))
-      (λ _ t n. absurd (cc)) (λ _ t n. (t, none_at k es n)) refl h
+      (λ _ n. absurd (cc)) (λ t n. (t, none_at k es n)) h
 
   pub any_at : (k : K) (es : List (K × V)) → list_any (λ (e : K × V). is_eq (R k e.0)) es
       ≡ is_some (lookup (is_at (R k)) es)
@@ -60,27 +60,14 @@ module _ {K V : Type 0} (R : K → K → Ordering) (total : IsTotalOrder R) wher
       (λ b. (b || list_any (λ (e : K × V). is_eq (R k e.0)) es) ≡ is_some (cond b (Some x.1) (lookup (is_at (R k)) es)))
       (λ _. refl) (λ _. any_at k es)
 
-  each_inserted : (P : K → Type 0) (k : K) (v : V) (es : List (K × V)) → P k → AllByRecursion (λ (e : K × V). P e.0) es
-      → AllByRecursion (λ (e : K × V). P e.0) (insert_entry R es k v)
-  each_inserted P k v [] p h = (p, tt)
-  each_inserted P k v (x ∷ es) p h = at (each_inserted P k v es p h.1) (R k x.0)
+  -- the keys of a map ascend
+  pub up_of : (es : List (K × V)) → IsStrictlySortedBy R (keys_of es) → Up es
+  unfolding IsStrictlySortedBy
+  up_of es h = ordered_unmap (λ a b. R a b ≡ Less) (λ (e : K × V). e.0) es (ascend (keys_of es) h)
     where
-      at : AllByRecursion (λ (e : K × V). P e.0) (insert_entry R es k v) → (o : Ordering)
-          → AllByRecursion (λ (e : K × V). P e.0)
-          (match_ordering o ((k, v) ∷ x ∷ es) ((x.0, v) ∷ es) (x ∷ insert_entry R es k v))
-      at later Less = (p, h)
-      at later Equal = h
-      at later Greater = (h.0, later)
-
-  pub up_inserted : (k : K) (v : V) (es : List (K × V)) → Up es → Up (insert_entry R es k v)
-  up_inserted k v [] h = (tt, tt)
-  up_inserted k v (x ∷ es) h = at (up_inserted k v es h.1) (R k x.0) refl
-    where
-      at : Up (insert_entry R es k v) → (o : Ordering) → R k x.0 ≡ o
-          → Up (match_ordering o ((k, v) ∷ x ∷ es) ((x.0, v) ∷ es) (x ∷ insert_entry R es k v))
-      at later Less e = ((e, behind_less k x es e h.0), h)
-      at later Equal e = h
-      at later Greater e = (each_inserted (λ j. R x.0 j ≡ Less) k v es (turned R total k x.0 Greater e) h.0, later)
+      ascend : (ks : List K) → IsStrictlySortedBy R ks → Ordered (λ a b. R a b ≡ Less) ks
+      ascend [] h = tt
+      ascend (k ∷ ks) h = (h.0, ascend ks h.1)
 
   pub removed : (k : K) (es : List (K × V)) → Up es
       → remove_entry (is_at (R k)) es ≡ filter (λ (e : K × V). not (is_eq (R k e.0))) es
@@ -98,18 +85,6 @@ module _ {K V : Type 0} (R : K → K → Ordering) (total : IsTotalOrder R) wher
           (λ e n. ap not n) es (none_less k es (behind_equal k x es e h.0))))
       at later Greater e = ap (λ (xs : List (K × V)). x ∷ xs) later
 
-  each_set : (P : K → Type 0) (t : K → Bool) (v : V) (es : List (K × V)) → AllByRecursion (λ (e : K × V). P e.0) es
-      → AllByRecursion (λ (e : K × V). P e.0) (set_value t es v)
-  each_set P t v [] h = tt
-  each_set P t v (x ∷ es) h = by_cases (t x.0)
-      (λ b. AllByRecursion (λ (e : K × V). P e.0) (cond b ((x.0, v) ∷ es) (x ∷ set_value t es v)))
-      (λ _. h) (λ _. (h.0, each_set P t v es h.1))
-
-  pub up_set : (t : K → Bool) (v : V) (es : List (K × V)) → Up es → Up (set_value t es v)
-  up_set t v [] h = tt
-  up_set t v (x ∷ es) h = by_cases (t x.0) (λ b. Up (cond b ((x.0, v) ∷ es) (x ∷ set_value t es v)))
-      (λ _. h) (λ _. (each_set (λ j. R x.0 j ≡ Less) t v es h.0, up_set t v es h.1))
-
   pub updated : (g : V → V) (k : K) (w : V) (es : List (K × V)) → Up es → lookup (is_at (R k)) es ≡ Some w
       → set_value (is_at (R k)) es (g w) ≡ map (λ (e : K × V). cond (is_eq (R k e.0)) (e.0, g e.1) e) es
   updated g k w [] h l = absurd (cc)
@@ -121,7 +96,7 @@ module _ {K V : Type 0} (R : K → K → Ordering) (total : IsTotalOrder R) wher
           → cond (is_eq o) ((x.0, g w) ∷ es) (x ∷ set_value (is_at (R k)) es (g w))
           ≡ cond (is_eq o) (x.0, g x.1) x ∷ map (λ (e : K × V). cond (is_eq (R k e.0)) (e.0, g e.1) e) es
       at later Less e f = ap (λ (xs : List (K × V)). x ∷ xs) (later f)
-      at later Equal e f = λ i. (x.0, g (sym (some_is x.1 w f) i))
+      at later Equal e f = λ i. (x.0, g (sym (value_is x.1 w f) i))
           ∷ sym (map_all (λ (e : K × V). cond (is_eq (R k e.0)) (e.0, g e.1) e) es
           (each_weaker (λ (e : K × V). is_eq (R k e.0) ≡ false)
           (λ (e : K × V). cond (is_eq (R k e.0)) (e.0, g e.1) e ≡ e) (λ e n. ap (λ b. cond b (e.0, g e.1) e) n) es

@@ -38,7 +38,7 @@ pub filter_sorted : (p : Element → Bool) (xs : List Element) → Apart xs → 
 filter_sorted p xs h = ByNumber.filter_sorted number p xs h
 
 pub same_elements : (xs : List Element) → IsPermutation xs (sorted xs)
-same_elements xs = ByNumber.same_members number xs
+same_elements xs = ByNumber.put_each_permutes id_before xs
 
 pub apart_moved : (xs ys : List Element) → IsPermutation xs ys → Apart xs → Apart ys
 apart_moved xs ys same h = ByNumber.apart_moved number xs ys same h

@@ -37,7 +37,7 @@ behind_more list whole others more a = record {
   others_are = ap (λ (x : List Element). more ++ x) a.others_are ∙ sym (append_assoc more a.front a.back);
 }
 
-value_is : {X : Type 0} (a b : X) → Some a ≡ Some b → a ≡ b
+pub value_is : {X : Type 0} (a b : X) → Some a ≡ Some b → a ≡ b
 value_is a b h = cc
 
 pub taken_out : (t : ℕ → Bool) (es : Lists) (v : Vec Element) → lookup t es ≡ Some v
@@ -95,11 +95,11 @@ pub found_of : (k : ℕ) (es : Lists) (v : Vec Element) → lookup (is_at (nat_c
     → AllByRecursion IsOfUnit es → AllByRecursion (λ x. is_marked k x.mark ≡ true) v.items
 found_of k [] v h a = absurd (cc)
 found_of k (x ∷ es) v h a = by_cases (is_eq (nat_cmp k x.0))
-    (λ b. is_eq (nat_cmp k x.0) ≡ b → cond b (Some x.1) (lookup (is_at (nat_cmp k)) es) ≡ Some v
+    (λ b. cond b (Some x.1) (lookup (is_at (nat_cmp k)) es) ≡ Some v
     → AllByRecursion (λ x. is_marked k x.mark ≡ true) v.items)
-    (λ _ t e. subst (λ (w : Vec Element). AllByRecursion (λ x. is_marked k x.mark ≡ true) w.items) (value_is x.1 v e)
+    (λ t e. subst (λ (w : Vec Element). AllByRecursion (λ x. is_marked k x.mark ≡ true) w.items) (value_is x.1 v e)
     (subst (λ (n : ℕ). AllByRecursion (λ x. is_marked n x.mark ≡ true) x.1.items) (sym (same_key k x.0 t)) a.0))
-    (λ _ t e. found_of k es v e a.1) refl h
+    (λ _ e. found_of k es v e a.1) h
 
 pub stowed_of : (k : ℕ) (old es : Lists) (list : List Element) (w : Vec Element) (e : Element)
     → Among list (items_of old) (items_of es) → lookup (is_at (nat_cmp k)) es ≡ None → w.items ≡ list ++ e ∷ []
@@ -179,12 +179,11 @@ pub each_at : (k : ℕ) (es : Lists) (w : Vec Element)
     → AllByRecursion IsOfUnit es → AllByRecursion IsOfUnit (set_value (is_at (nat_cmp k)) es w)
 each_at k [] w p a = tt
 each_at k (x ∷ es) w p a = by_cases (is_eq (nat_cmp k x.0))
-    (λ b. is_eq (nat_cmp k x.0) ≡ b
-    → AllByRecursion IsOfUnit (cond b ((x.0, w) ∷ es) (x ∷ set_value (is_at (nat_cmp k)) es w)))
-    (λ _ t. (
+    (λ b. AllByRecursion IsOfUnit (cond b ((x.0, w) ∷ es) (x ∷ set_value (is_at (nat_cmp k)) es w)))
+    (λ t. (
       subst (λ (n : ℕ). AllByRecursion (λ (x : Element). is_marked n x.mark ≡ true) w.items) (same_key k x.0 t) p,
       a.1,
-    )) (λ _ t. (a.0, each_at k es w p a.1)) refl
+    )) (λ _. (a.0, each_at k es w p a.1))
 
 -- what stowing does to the elements by number: `free` are the others
 module _ (e : Element) (free : List Element) (old new : Lists) (s : Stowed e old new) where

@@ -1,8 +1,9 @@
-use Rattle.std.proofs.Common.{List, sym, ◌∙◌, subst}
+use Rattle.std.proofs.Common.{List, not, ap, sym, ◌∙◌, subst}
+use Rattle.std.proofs.lemmas.Bool.{and_right}
 use Rattle.rq_model.specs.Machine.{leaves}
 use Rattle.rq_model.specs.States.{Element, is_fresh}
 use Rattle.rq_queue.specs.Kept.{Frees, staying}
-use Rattle.rq_queue.proofs.Doing.{freed_step, staying_more, staying_less, leaves_no_more, fresh_dropped}
+use Rattle.rq_queue.proofs.Doing.{freed_step, staying_more, staying_less, fresh_dropped}
 use Rattle.rq_queue.proofs.Doing.{one_passes, none_passes}
 use Rattle.rq_queue.proofs.shelves.give_back.Goals as goal
 
@@ -13,7 +14,7 @@ returns-then-leaves-clause-freed c = λ rest others all start h.
     let unit = c.args.unit.0 in
     subst (λ (xs : List Element). Frees others start all c.args.free.now.entries xs)
     (staying_less home unit e rest
-    (leaves_no_more (is_fresh unit e.mark) (leaves home unit e) (sym c.leaves.ensures ∙ c.if-leaves.true))) h
+    (and_right (not (is_fresh unit e.mark)) _ (ap not (sym c.leaves.ensures ∙ c.if-leaves.true)))) h
 
 pub returns-then-leaves-clause-leaving : goal.returns-then-leaves-clause-leaving
 returns-then-leaves-clause-leaving c = c.in_ok-push.ensures.items

@@ -9,7 +9,8 @@ use Rattle.rq_model.proofs.Apart.{Apart}
 use Rattle.std.specs.Map.{values_of}
 use Rattle.rq_queue.specs.Listed.{elements_inside}
 use Rattle.rq_queue.specs.Priorities.{AreKnown}
-use Rattle.rq_queue.proofs.Known.{known_held, known_rest, known_sorted, known_unsorted}
+use Rattle.rq_queue.proofs.Known.{known_by, known_held}
+use Rattle.rq_queue.proofs.Sorting.{each_sorted, each_unsorted}
 use Rattle.rq_queue.proofs.Doing.{held, none_there, none_best, best_first}
 use Rattle.rq_queue.proofs.elements.Elements.hold_best.Goals as goal
 
@@ -37,11 +38,10 @@ invariant_of-self-in_err-stow c =
       apart = subst (λ (xs : List Element). Apart (rest ++ xs)) (sym c.in_err-stow.ensures.same)
           (subst (λ (es : List Entry). Apart (values_of es ++ items)) taken c.self.invariant.apart).1;
       known = subst (λ (xs : List Element). AreKnown priorities (sorted (rest ++ xs))) (sym c.in_err-stow.ensures.same)
-          (known_sorted priorities (rest ++ items)
-          (known_rest priorities c.in-Some.e (rest ++ items)
-          (known_unsorted priorities (c.in-Some.e ∷ (rest ++ items))
+          (known_by priorities _ _
+          (λ P k. each_sorted P (rest ++ items) (each_unsorted P (c.in-Some.e ∷ (rest ++ items)) k).1)
           (subst (λ (es : List Entry). AreKnown priorities (sorted (values_of es ++ items))) taken
-          c.self.invariant.known))));
+          c.self.invariant.known));
     }
 
 pub invariant_of-self-2 : goal.invariant_of-self-2

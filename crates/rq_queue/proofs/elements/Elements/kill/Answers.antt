@@ -1,4 +1,4 @@
-use Rattle.std.proofs.Common.{◌≡◌, ◌++◌, ℕ, Option, ap, ◌∙◌, subst, sym}
+use Rattle.std.proofs.Common.{◌≡◌, ℕ, Option, ap, ◌∙◌, subst, sym}
 use Rattle.std.specs.BTreeMap.{BTreeMap}
 use Rattle.std.specs.List.{AllByRecursion}
 use Rattle.std.specs.Map.{values_of}
@@ -7,14 +7,14 @@ use Rattle.rq_model.specs.Machine.{killed}
 use Rattle.rq_queue.specs.Kept.{items_of}
 use Rattle.rq_queue.specs.Listed.{contents}
 use Rattle.rq_queue.specs.Priorities.{AreKnown}
-use Rattle.rq_queue.proofs.Known.{kill_done, known_killed, known_sorted, known_unsorted}
+use Rattle.rq_queue.proofs.Known.{kill_done, known_by, known_killed}
 use Rattle.rq_queue.proofs.ByNumber.{each_front}
-use Rattle.rq_queue.proofs.Sorting.{apart_front}
+use Rattle.rq_queue.proofs.Sorting.{apart_front, each_sorted, each_unsorted}
 use Rattle.rq_queue.proofs.elements.Elements.kill.Goals as goal
 
 pub learn-requires-clause-known : goal.learn-requires-clause-known
-learn-requires-clause-known c = known_unsorted c.self.inside.priorities
-    (values_of c.self.inside.free.entries ++ items_of c.self.inside.marked.entries) c.self.invariant.known
+learn-requires-clause-known c = known_by c.self.inside.priorities _ _
+    (λ P k. each_unsorted P (contents c.self.inside) k) c.self.invariant.known
 
 pub take_out-requires-clause-apart : goal.take_out-requires-clause-apart
 take_out-requires-clause-apart c =
@@ -29,7 +29,7 @@ invariant_of-self c = record {
   keyed = c.self.invariant.keyed;
   of_units = c.self.invariant.of_units;
   apart = c.self.invariant.apart;
-  known = known_sorted c.learn.new.priorities (contents c.self.inside) c.learn.ensures.known;
+  known = known_by c.learn.new.priorities _ _ (λ P k. each_sorted P (contents c.self.inside) k) c.learn.ensures.known;
 }
 
 pub invariant_of-self-2 : goal.invariant_of-self-2

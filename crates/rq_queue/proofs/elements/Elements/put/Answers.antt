@@ -1,12 +1,12 @@
-use Rattle.std.proofs.Common.{◌≢◌, ◌∙◌, List, sym, ap, subst}
+use Rattle.std.proofs.Common.{◌≢◌, ◌∷◌, ◌∙◌, List, sym, ap, subst}
 use Rattle.std.specs.List.{AllByRecursion}
 use Rattle.rq_model.specs.States.{Element, put, id_before}
 use Rattle.rq_queue.specs.Listed.{contents, elements_inside}
 use Rattle.rq_queue.specs.Priorities.{AreKnown}
 use Rattle.rq_queue.specs.Sorted.{sorted}
 use Rattle.rq_model.proofs.Apart.{Apart}
-use Rattle.rq_queue.proofs.Known.{known_put, known_rest}
-use Rattle.rq_queue.proofs.Sorting.{each_sorted}
+use Rattle.rq_queue.proofs.Known.{known_by}
+use Rattle.rq_queue.proofs.Sorting.{each_put, each_sorted}
 use Rattle.rq_queue.proofs.Doing.{others_of}
 use Rattle.rq_queue.proofs.elements.Elements.put.Goals as goal
 
@@ -36,7 +36,7 @@ invariant_of-self-in_err-shelve c =
       of_units = c.shelve.ensures.of_units;
       apart = subst Apart (sym c.in_err-shelve.ensures.same) c.self.invariant.apart;
       known = subst (λ (xs : List Element). AreKnown priorities (sorted xs)) (sym c.in_err-shelve.ensures.same)
-          (known_rest priorities e (elements_inside c.self.inside)
+          (known_by priorities (e ∷ elements_inside c.self.inside) _ (λ P k. k.1)
           (c.in_ok-kept_with.ensures.known (elements_inside c.self.inside)
           (each_sorted (λ (x : Element). e.id ≢ x.id) (contents c.self.inside) others) c.self.invariant.known));
     }
@@ -52,7 +52,7 @@ invariant_of-self-2 c =
       of_units = c.in_ok-shelve.ensures.of_units;
       apart = c.in_ok-shelve.ensures.apart;
       known = subst (AreKnown priorities) (sym c.in_ok-shelve.ensures.put)
-          (known_put priorities e (elements_inside c.self.inside)
+          (known_by priorities _ _ (λ P k. each_put P e (elements_inside c.self.inside) k.0 k.1)
           (c.in_ok-kept_with.ensures.known (elements_inside c.self.inside)
           (each_sorted (λ (x : Element). e.id ≢ x.id) (contents c.self.inside) others) c.self.invariant.known));
     }

@@ -1,20 +1,15 @@
-use Rattle.std.proofs.Common.{sym, ap, ◌∙◌, subst, map, ℕ, List}
+use Rattle.std.proofs.Common.{ap, ◌∙◌, map, ℕ, List}
 use Rattle.std.specs.Cmp.Lexicographic.{slice_cmp}
 use Rattle.std.specs.Ordering.{nat_cmp}
 use Rattle.std.proofs.lemmas.Cmp.{nat_list_cmp_total}
 use Rattle.rq_model.specs.Machine.{deregistered}
-use Rattle.rq_model.proofs.Merged.{ordered_filter}
-use Rattle.rq_queue.specs.Roll.{RollEntry, registrant_of, IsRoll}
-use Rattle.rq_queue.proofs.Roll.{removed}
+use Rattle.rq_queue.specs.Roll.{RollEntry, registrant_of}
+use Rattle.rq_queue.proofs.Roll.{up_of}
 use Rattle.rq_queue.proofs.Registered.{deregistered_then}
 use Rattle.rq_queue.proofs.registrants.Registrants.deregister.Goals as goal
 
 pub invariant_of-self : goal.invariant_of-self
-invariant_of-self c =
-    let k = c.in_ok-key.key in
-    subst IsRoll (sym (c.remove.ensures.entries
-    ∙ removed (slice_cmp nat_cmp) nat_list_cmp_total k c.self.inside.lasts.entries c.self.invariant))
-    (ordered_filter _ _ _ c.self.invariant)
+invariant_of-self c = up_of (slice_cmp nat_cmp) nat_list_cmp_total _ c.remove.ensures.ordered
 
 pub returns-clause-done : goal.returns-clause-done
 returns-clause-done c = λ queue.

@@ -7,7 +7,7 @@ use Rattle.std.proofs.lemmas.Cmp.{nat_list_cmp_total}
 use Rattle.rq_model.specs.Machine.{later}
 use Rattle.rq_queue.specs.Roll.{RollEntry, registrant_of, IsRoll, heard}
 use Rattle.rq_queue.specs.declared.registrants.Registrants.TheInside.{Inside}
-use Rattle.rq_queue.proofs.Roll.{up_set}
+use Rattle.rq_queue.proofs.Roll.{up_of}
 use Rattle.rq_queue.proofs.Registered.{not_own, nobody_hears, one_hears}
 use Rattle.rq_queue.proofs.registrants.Registrants.hear_one.Goals.{in-Some+in_ok-hear, in_default}
 use Rattle.rq_queue.proofs.registrants.Registrants.hear_one.Goals as goal
@@ -18,14 +18,13 @@ returns-then-not-is_by_at-clause-done c =
     (sym c.is_by_at.ensures ∙ c.if-not-is_by_at.true)
 
 pub invariant_of-self : goal.invariant_of-self
-invariant_of-self c = subst IsRoll (sym (c.get_mut.follows.holds c.hear.new.self).0)
-    (up_set (slice_cmp nat_cmp) nat_list_cmp_total _ _ c.self.inside.lasts.entries c.self.invariant)
+invariant_of-self c = up_of (slice_cmp nat_cmp) nat_list_cmp_total _
+    (c.get_mut.follows.holds c.hear.new.self).4
 
 pub invariant_of-self-2 : goal.invariant_of-self-2
 invariant_of-self-2 c = elim c.match-get_mut.branch [
   | in-Some+in_ok-hear w ↦ subst (λ (a : Inside). IsRoll a.lasts.entries) (sym w.self-inside-is)
-      (subst IsRoll (sym (c.get_mut.follows.holds w.hear.new.self).0)
-      (up_set (slice_cmp nat_cmp) nat_list_cmp_total _ _ c.self.inside.lasts.entries c.self.invariant))
+      (up_of (slice_cmp nat_cmp) nat_list_cmp_total _ (c.get_mut.follows.holds w.hear.new.self).4)
   | in_default w ↦ subst (λ (a : Inside). IsRoll a.lasts.entries) (sym w.self-inside-is)
       (subst (λ m. IsRoll m.entries) (sym c.get_mut.follows.holds-at-none) c.self.invariant)
 ]

@@ -5,14 +5,13 @@ use Rattle.std.specs.List.{AllByRecursion}
 use Rattle.std.specs.Ordering.{nat_cmp}
 use Rattle.std.proofs.lemmas.Cmp.{nat_list_cmp_total}
 use Rattle.rq_model.specs.States.{name_before}
-use Rattle.rq_queue.specs.Roll.{RollEntry, IsRoll}
-use Rattle.rq_queue.proofs.Roll.{up_inserted}
+use Rattle.rq_queue.specs.Roll.{RollEntry}
+use Rattle.rq_queue.proofs.Roll.{up_of}
 use Rattle.rq_queue.proofs.Registered.{added_last}
 use Rattle.rq_queue.proofs.registrants.Registrants.push.Goals as goal
 
 pub invariant_of-self-2 : goal.invariant_of-self-2
-invariant_of-self-2 c = subst IsRoll (sym c.in_ok-insert.ensures.entries)
-    (up_inserted (slice_cmp nat_cmp) nat_list_cmp_total _ _ c.self.inside.lasts.entries c.self.invariant)
+invariant_of-self-2 c = up_of (slice_cmp nat_cmp) nat_list_cmp_total _ c.in_ok-insert.ensures.ordered
 
 pub returns-clause-done : goal.returns-clause-done
 returns-clause-done c =

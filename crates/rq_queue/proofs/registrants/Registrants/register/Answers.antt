@@ -1,12 +1,12 @@
-use Rattle.std.proofs.Common.{sym, ap, ◌∙◌, subst, ℕ, List, Option, map}
+use Rattle.std.proofs.Common.{sym, ap, ◌∙◌, ℕ, List, Option, map}
 use Rattle.std.specs.BTreeMap.{insert_entry}
 use Rattle.std.specs.Cmp.Lexicographic.{slice_cmp}
 use Rattle.std.specs.Ordering.{nat_cmp}
 use Rattle.std.proofs.lemmas.Cmp.{nat_list_cmp_total}
 use Rattle.rq_model.specs.Machine.{registered}
 use Rattle.rq_model.specs.States.{Last}
-use Rattle.rq_queue.specs.Roll.{RollEntry, registrant_of, IsRoll}
-use Rattle.rq_queue.proofs.Roll.{up_inserted}
+use Rattle.rq_queue.specs.Roll.{RollEntry, registrant_of}
+use Rattle.rq_queue.proofs.Roll.{up_of}
 use Rattle.rq_queue.proofs.Registered.{still_registered, newly_registered}
 use Rattle.rq_queue.proofs.registrants.Registrants.register.Goals as goal
 
@@ -19,9 +19,7 @@ returns-then-contains_key-clause-done c = λ queue.
     ∙ ap (λ (es : List RollEntry). registered queue c.args.name.now (map (registrant_of queue) es)) c.self.view_is))
 
 pub invariant_of-self-2 : goal.invariant_of-self-2
-invariant_of-self-2 c = subst IsRoll (sym c.in_ok-insert.ensures.entries)
-    (up_inserted (slice_cmp nat_cmp) nat_list_cmp_total c.in_ok-key.key c.none.result c.self.inside.lasts.entries
-    c.self.invariant)
+invariant_of-self-2 c = up_of (slice_cmp nat_cmp) nat_list_cmp_total _ c.in_ok-insert.ensures.ordered
 
 pub returns-clause-done : goal.returns-clause-done
 returns-clause-done c = λ queue.
