@@ -35,8 +35,8 @@ HEADED = re.compile(r"^( *)(pub(?:\([a-z]+\))? )?(?:const )?fn (\w+)", re.M)
 BLOCK = re.compile(r"^(?:impl(?:<[^{]*?>)? (?:[^{\n]* for )?&?(\w+)|(?:pub(?:\([a-z]+\))? )?trait \w+|\})", re.M)
 # A type that has fields, variants or members.
 TYPE = re.compile(r"^(?:pub(?:\([a-z]+\))? )?(?:struct|enum|trait) (\w+)(?!\w)(?!;)", re.M)
-# A list of lemmas that the tactics of a function are given.
-RULES = re.compile(r"^pub ruleset .*$", re.M)
+# A list of lemmas that tactics are given, on one line or several.
+RULES = re.compile(r"^(?:pub )?ruleset \S+ = \([^()]*\)", re.M)
 # Methods whose names say nothing without their type: what makes a value (`none` and `blank`: an empty one), what std's traits
 # and containers call so, and what a type of its kind is for: to be opened and closed, or begun and ended, and to take in or
 # put out what its argument or its type names, a number of so many bits too.
