@@ -5,7 +5,7 @@ use Rattle.std.proofs.Common.{◌∙◌, arith}
 use Rattle.rq_pool.proofs.Words.{Global, length-map, length-replicate, with_items_is, take_more}
 use Rattle.rq_pool.proofs.Words.{replicate-append-replicate, map-append, reverse-append, nil_from_length, get_or-map}
 use Rattle.rq_pool.proofs.Words.{sum_by-cons, Share, Worker, DealRule, Deck, size, parts_of, DeckId, list_in, deck_id}
-use Rattle.rq_pool.proofs.Words.{deck_list, owner_id, IsStocked, IsOpen, filled, owner_count, dealt_length, Holds}
+use Rattle.rq_pool.proofs.Words.{deck_list, owner_id, IsStocked, IsOpen, filled, owner_count, Holds}
 use Rattle.rq_pool.proofs.Words.{reach_at, IsPlaceBeside, map-map}
 use Rattle.std.specs.Vec.{with_items}
 use Rattle.std.proofs.lemmas.List.Folds.{sum_by-replicate}
@@ -90,17 +90,6 @@ pub as_lent : (decks : Vec Deck Global) (new : List Deck) → map deck_id new �
 as_lent decks new same = with_items_is decks new
     (let s = ap length same in let l = decks.ok.0 in
     omega (arith, length-map new deck_id, length-map decks.items deck_id))
-
--- how many numbers all decks were dealt
-pub dealt_total : (decks : List Deck) → sum_by dealt_length decks ≡ size (map list_in (map deck_id decks))
-dealt_total [] = refl
-dealt_total (d ∷ ds) =
-    omega (
-      arith,
-      sum_by-cons dealt_length d ds,
-      dealt_total ds,
-      sum_by-cons length d.list.items (map list_in (map deck_id ds)),
-    )
 
 -- a seat of a room reaches the deques of the room
 pub reached_at : (ids : List DeckId) (place : Place) → IsPlaceBeside ids place → reach_at place ≡ ids

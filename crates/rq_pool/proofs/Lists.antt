@@ -1,16 +1,11 @@
 -- Facts of lists that std does not have.
-use Rattle.std.proofs.Common.{◌≡◌, ℕ, zero, suc, ◌-◌, List, [], ◌∷◌, ◌++◌, All, length, get_or, drop, map, reverse}
-use Rattle.std.proofs.Common.{replicate, sum, sum_by, Some, slice_get, sym, refl, ap, ◌∙◌, subst, arith, append_assoc}
-use Rattle.rq_pool.proofs.Words.{map-append, reverse-append, length-reverse, get_or-reverse, sum-map, map-map, map-set_same}
+use Rattle.std.proofs.Common.{◌≡◌, ℕ, zero, suc, ◌-◌, List, [], ◌∷◌, ◌++◌, get_or, drop, map, reverse, replicate}
+use Rattle.std.proofs.Common.{sum, sum_by, Some, slice_get, sym, refl, ap, ◌∙◌, append_assoc}
+use Rattle.rq_pool.proofs.Words.{map-append, reverse-append, sum-map, map-map, map-set_same}
 use Rattle.std.proofs.lemmas.List.Sorted.{sum_by-IsPermutation, IsPermutation-reverse}
 
 -- for the tactics: what a list shows after a write that shows the same
 pub ruleset same_after = (map-set_same)
-
-module _ {X : Type 0} (P : X → Type 0) (xs : List X) where
-  pub all_reverse : All P xs → All P (reverse xs)
-  all_reverse all k d lt = let l = length-reverse xs in
-      subst P (sym (get_or-reverse xs k d (omega arith))) (all (length xs - 1 - k) d (omega arith))
 
 pub map-reverse : {A B : Type 0} (f : A → B) (xs : List A) → map f (reverse xs) ≡ reverse (map f xs)
 map-reverse f [] = refl
