@@ -1,7 +1,11 @@
 -- Two lists, taken together.
-use Rattle.std.proofs.Common.{◌≡◌, ℕ, zero, suc, ◌<◌, List, [], ◌∷◌, ◌++◌, length, get_or, refl, sym, ap, ◌∙◌, subst}
-use Rattle.std.proofs.Common.{arith, append_assoc, append-nil, length-append}
-use Rattle.rq_exchange.proofs.Words.{nil_from_length, get_or-append_seam, EachWith, Halfway}
+use Rattle.std.proofs.Common.{◌≡◌, ℕ, zero, suc, ◌+◌, ◌<◌, List, [], ◌∷◌, ◌++◌, All, length, get_or, refl, sym, ap, ◌∙◌}
+use Rattle.std.proofs.Common.{arith, append_assoc, append-nil, length-append, Vec, Global, slice_index_or, sum_by}
+use Rattle.rq_exchange.proofs.Words.{get_or_at, nil_from_length, get_or-map, sum_by-cons, EachWith, Halfway, AreColumns}
+
+pub some_of : {A : Type 0} (xs : List A) (k : ℕ) → k < length xs → A
+some_of [] k lt = absurd (omega (arith, lt))
+some_of (x ∷ xs) k lt = x
 
 module _ {A B : Type 0} (R : A → B → Type 0) where
   pub pairs_long : (xs : List A) (ys : List B) → EachWith R xs ys → length xs ≡ length ys
@@ -17,6 +21,12 @@ module _ {A B : Type 0} (R : A → B → Type 0) where
   pairs_at (x ∷ xs) (y ∷ ys) h zero d e lt = h.0
   pairs_at (x ∷ xs) (y ∷ ys) h (suc k) d e lt = pairs_at xs ys h.1 k d e (omega (arith, lt))
 
+  -- what all of the second list have, if each pair gives it
+  pub all_second : (Q : B → Type 0) → ((x : A) (y : B) → R x y → Q y) → (xs : List A) (ys : List B) → EachWith R xs ys
+      → All Q ys
+  all_second Q f xs ys h k e lt = let near : k < length xs = omega (arith, lt, pairs_long xs ys h) in
+      f (get_or xs k (some_of xs k near)) (get_or ys k e) (pairs_at xs ys h k (some_of xs k near) e near)
+
   pub pairs_of : (xs : List A) (ys : List B) → length xs ≡ length ys
       → ((k : ℕ) (d : A) (e : B) → k < length xs → R (get_or xs k d) (get_or ys k e)) → EachWith R xs ys
   pairs_of [] [] e h = tt
@@ -31,6 +41,27 @@ module _ {A B : Type 0} (R : A → B → Type 0) where
   pairs_push [] (z ∷ ys) x y h one = absurd h
   pairs_push (z ∷ xs) [] x y h one = absurd h
   pairs_push (z ∷ xs) (w ∷ ys) x y h one = (h.0, pairs_push xs ys x y h.1 one)
+
+  pub pairs_sum : (f : A → ℕ) (g h : B → ℕ) → ((x : A) (y : B) → R x y → h y ≡ f x + g y) → (xs : List A) (ys : List B)
+      → EachWith R xs ys → sum_by h ys ≡ sum_by f xs + sum_by g ys
+  pairs_sum f g h each [] [] e = refl
+  pairs_sum f g h each [] (y ∷ ys) e = absurd e
+  pairs_sum f g h each (x ∷ xs) [] e = absurd e
+  pairs_sum f g h each (x ∷ xs) (y ∷ ys) e = omega (
+    arith,
+    sum_by-cons h y ys,
+    sum_by-cons f x xs,
+    sum_by-cons g y ys,
+    each x y e.0,
+    pairs_sum f g h each xs ys e.1,
+  )
+
+-- what a column has at the index of a row is what the row has at that of the column
+pub column_at : {T : Type 0} (rows columns : List (Vec T Global)) (count : ℕ) → AreColumns rows count columns
+    → (k j : ℕ) (d : Vec T Global) (x : T) → k < count → j < length rows
+    → slice_index_or (slice_index_or columns k d).items j x ≡ slice_index_or (slice_index_or rows j d).items k x
+column_at {T} rows columns count are k j d x near there = rw (are.each k d x near)
+    (get_or-map (λ (r : Vec T Global). slice_index_or r.items k x) rows j d x there)
 
 -- two lists that are taken apart from their ends
 module _ {A B : Type 0} (End : A → B → Type 0) (wholes : List A) (others : List B) where
@@ -68,20 +99,13 @@ module _ {A B : Type 0} (End : A → B → Type 0) (wholes : List A) (others : L
 
     -- those taken go together, if those of the whole lists do
     pub taken : (R : A → B → Type 0) → EachWith R wholes others → R x u
-    taken R all = subst (λ (z : A × B). R z.0 z.1) (λ i. (first i, second i))
-        (pairs_at R wholes others all (length ys) x u
-        (omega (arith, ap length wholes_are, length-append ys (x ∷ h.rest))))
-      where
-        first : get_or wholes (length ys) x ≡ x
-        first = ap (λ l. get_or l (length ys) x) wholes_are ∙ get_or-append_seam ys x h.rest x
-
-        second : get_or others (length ys) u ≡ u
-        second = ap (λ k. get_or others k u) (sym as_long) ∙ ap (λ l. get_or l (length vs) u) others_are
-            ∙ get_or-append_seam vs u h.more u
+    taken R all = rw (get_or_at ys x h.rest x (length ys) refl, get_or_at vs u h.more u (length ys) as_long) at
+        (pairs_at R (ys ++ x ∷ h.rest) (vs ++ u ∷ h.more) (rw (wholes_are, others_are) at all) (length ys) x u
+        (omega (arith, length-append ys (x ∷ h.rest))))
 
   pub all_gone : (xs : List A) (us : List B) (h : Halfway End wholes others xs us) → length xs ≡ 0
       → EachWith End wholes others × (others ≡ h.more)
   all_gone xs us h none =
       let gone : wholes ≡ h.rest = h.whole ∙ ap (λ l. l ++ h.rest) (nil_from_length xs none) in
       let same : others ≡ h.more = h.other ∙ ap (λ l. l ++ h.more) (nil_from_length us (h.same_long ∙ none)) in
-      (subst (λ (z : List A × List B). EachWith End z.0 z.1) (λ i. (sym gone i, sym same i)) h.ended, same)
+      (rw (gone, same) h.ended, same)

@@ -1,14 +1,11 @@
 -- How the queues are linked, once the countdowns are opened.
-use Rattle.std.proofs.Common.{◌≡◌, ℕ, ◌<◌, List, length, ap, sym, ◌∙◌, subst, arith, inl, inr, true, Vec, Global}
-use Rattle.std.proofs.Common.{slice_index_or, ◌==◌}
-use Rattle.rq_exchange.proofs.Words.{eqb-true, get_or-map, length-map, Definition, no_definition, listed, indices_of}
-use Rattle.rq_exchange.proofs.Words.{Pass, Ghosts, CountdownChain, Outbox, Target, Job, IsChainOf, IsCountdownOf, IsJob}
-use Rattle.rq_exchange.proofs.Words.{errors_in, at, naming, AreOpened, All-from_recursion}
-use Rattle.rq_exchange.proofs.Errors.{places_map}
-use Rattle.rq_exchange.proofs.Indices.{indices_hold, same_index}
-use Rattle.rq_exchange.proofs.Sources.{once}
+use Rattle.std.proofs.Common.{◌≡◌, ℕ, ◌<◌, List, length, ap, sym, ◌∙◌, arith, inl, inr, Vec, Global, slice_index_or}
+use Rattle.std.proofs.Common.{◌==◌}
+use Rattle.rq_exchange.proofs.Words.{cases_eq, eqb-true, get_or-map, length-map, Definition, no_definition, listed}
+use Rattle.rq_exchange.proofs.Words.{indices_of, Pass, Ghosts, CountdownChain, Outbox, Target, Job, IsChainOf}
+use Rattle.rq_exchange.proofs.Words.{IsCountdownOf, IsJob, errors_in, at, naming, AreOpened, All-from_recursion}
+use Rattle.rq_exchange.proofs.Indices.{Passes, all_pass, once, same_index, indices_map}
 use Rattle.rq_exchange.proofs.Pairs.{pairs_at, pairs_long}
-use Rattle.rq_exchange.proofs.Steps.{same_or}
 
 module _ (job : Job) (is : IsJob job) where
   pub many : length (errors_in job) ≡ length job.definitions.now
@@ -17,7 +14,7 @@ module _ (job : Job) (is : IsJob job) where
   -- the sources of a queue are those that name it
   pub sources_name : (e : ℕ) → e < length job.definitions.now → listed job.sources.now e ≡ naming (errors_in job) e
   sources_name e near = is.sources e near
-      ∙ sym (places_map (λ n. n == e) (λ (d : Definition). d.error) 0 job.definitions.now)
+      ∙ sym (indices_map (λ n. n == e) (λ (d : Definition). d.error) 0 job.definitions.now)
 
   ranked : (q : ℕ) → q < length job.definitions.now → at (errors_in job) q < length job.definitions.now
       → (at job.ranks.now q < length (listed job.sources.now (at (errors_in job) q)))
@@ -29,16 +26,16 @@ module _ (job : Job) (is : IsJob job) where
       → (slice_index_or (listed job.sources.now e) i 0 < length job.definitions.now)
       × (at (errors_in job) (slice_index_or (listed job.sources.now e) i 0) ≡ e)
   source_is e i near lt =
-      let at_i = All-from_recursion (λ k. (k < length job.definitions.now)
-      × (((slice_index_or job.definitions.now k no_definition).error == e) ≡ true))
-      (indices_of (λ d. d.error == e) 0 job.definitions.now)
-      (indices_hold (λ (d : Definition). d.error == e) job.definitions.now no_definition) i 0
+      let k = slice_index_or (indices_of (λ (d : Definition). d.error == e) 0 job.definitions.now) i 0 in
+      let passes = All-from_recursion
+      (Passes (λ (d : Definition). d.error == e) no_definition 0 job.definitions.now) _
+      (all_pass (λ (d : Definition). d.error == e) no_definition 0 job.definitions.now) i 0
       (rw (is.sources e near) at lt) in
+      let within : k < length job.definitions.now = omega (arith, passes.high) in
       rw (is.sources e near) (
-        at_i.0,
-        get_or-map (λ (d : Definition). d.error) job.definitions.now
-            (slice_index_or (indices_of (λ d. d.error == e) 0 job.definitions.now) i 0) no_definition 0 at_i.0
-            ∙ eqb-true _ e at_i.1,
+        within,
+        get_or-map (λ (d : Definition). d.error) job.definitions.now k no_definition 0 within
+            ∙ eqb-true _ e (passes.holds k (omega arith)),
       )
 
   rank_is : (e i : ℕ) → e < length job.definitions.now → i < length (listed job.sources.now e)
@@ -46,10 +43,9 @@ module _ (job : Job) (is : IsJob job) where
   rank_is e i near lt =
       let s = slice_index_or (listed job.sources.now e) i 0 in
       let known = source_is e i near lt in
-      let r = ranked s known.0 (omega (arith, known.1, near)) in
-      let here = rw known.1 at r in
+      let here = rw known.1 at (ranked s known.0 (omega (arith, known.1, near))) in
       same_index (listed job.sources.now e)
-      (rw (is.sources e near) (once (λ (d : Definition). d.error == e) 0 job.definitions.now))
+      (rw (is.sources e near) (once (λ (d : Definition). d.error == e) no_definition 0 job.definitions.now))
       (at job.ranks.now s) i here.0 lt here.1
 
   module _ {g : Ghosts Outbox Target} (workers : ℕ) (chain : CountdownChain)
@@ -61,7 +57,7 @@ module _ (job : Job) (is : IsJob job) where
     -- a queue whose slot is that of a countdown has sources, and is the queue of that countdown
     is_at : (x : ℕ) → x < length job.definitions.now → at chain.slots.items x < length chain.countdowns.items
         → at o.queues (at chain.slots.items x) ≡ x
-    is_at x near there = elim (same_or (length (listed job.sources.now x)) 0) [
+    is_at x near there = elim (cases_eq (length (listed job.sources.now x)) 0) [
       | inl none ↦ absurd (omega (arith, o.bare x near none, o.few, there))
       | inr some ↦ (o.fed x near (omega (arith, some))).1
     ]
@@ -73,11 +69,10 @@ module _ (job : Job) (is : IsJob job) where
         apart = λ x y l m there e. sym (is_at y m (omega (arith, there, e))) ∙ ap (at o.queues) e ∙ is_at x l there;
         fed = λ x l some. omega (arith, (o.fed x l some).0, as_many);
         bare = λ x l none. omega (arith, o.bare x l none, o.few);
-        ranked = λ q l m. ranked q l m;
+        ranked = ranked;
         exact = λ e i l lt. ((source_is e i l lt).0, (source_is e i l lt).1, rank_is e i l lt);
       };
       slots = o.long;
-      keyed = λ e d l some. let slot = o.fed e l some in subst (λ q. IsCountdownOf job q
-          (slice_index_or chain.countdowns.items (at chain.slots.items e) d)) slot.1
+      keyed = λ e d l some. let slot = o.fed e l some in rw slot.1 at
           (pairs_at (IsCountdownOf job) o.queues chain.countdowns.items o.keyed (at chain.slots.items e) 0 d slot.0);
     }

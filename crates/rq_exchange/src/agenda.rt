@@ -51,6 +51,7 @@ fn fields_after(
 impl Agenda {
     /// That of so many lawful records, which are analysed. All else that the analysis found is let
     /// go: what became of each unit, and who is registered. Refused only with `Resources`.
+    #[tactic(auto, using(rq_catalog::proofs::Runs::front_whole))]
     pub fn of(
         alloc: Global,
         state: &State,

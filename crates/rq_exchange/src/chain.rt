@@ -107,6 +107,7 @@ fn target_of(job: &Job, queue: u32) -> Target
 
 // Opens the countdown of a queue that has sources, and answers its index. If the queue has none,
 // the index is past the last.
+#[tactic(auto, using(crate::proofs::Sources::sources_few))]
 fn open_one(
     alloc: Global,
     job: &Job,

@@ -27,6 +27,7 @@ fn spread<T: Drop>(columns: &mut Vec<Vec<T>>, row: Vec<T>) -> Result<(), Fault>
 }
 
 /// The columns of rows that are equally long.
+#[tactic(auto, using(rq_state::proofs::Listings::listed_at))]
 pub(crate) fn columns<T: Drop>(
     alloc: Global,
     rows: Vec<Vec<T>>,

@@ -1,5 +1,6 @@
 use Rattle.std.proofs.Common.{◌≡◌, ap, ◌∙◌, arith}
-use Rattle.rq_exchange.proofs.Words.{Two, run, lawful_front, AreAfter, front_whole}
+use Rattle.rq_exchange.proofs.Words.{Two, run, lawful_front, AreAfter}
+use Rattle.rq_catalog.proofs.Runs.{front_whole}
 use Rattle.rq_exchange.proofs.agenda.fields_after.Goals as goal
 
 pub returns-clause-fields : goal.returns-clause-fields

@@ -1,26 +1,6 @@
 use Rattle.std.proofs.Common.{◌<◌, length, ap, ◌∙◌, arith, rules, inr}
 use Rattle.rq_exchange.proofs.Words.{Target}
-use Rattle.rq_exchange.proofs.Sources.{sources_few}
 use Rattle.rq_exchange.proofs.chain.open_one.Goals as goal
-
-pub overflow_cast-sources : goal.overflow_cast-sources
-overflow_cast-sources c =
-    omega (
-      arith,
-      ap length c.sources_of-sources.ensures,
-      sources_few c.args.job.now c.args.queue c.requires.job c.requires.queue,
-    )
-
-pub open-requires-clause-sources : goal.open-requires-clause-sources
-open-requires-clause-sources c =
-    let some : 0 < length c.sources_of-sources.result.now = search rules in (
-      some,
-      omega (
-        arith,
-        ap length c.sources_of-sources.ensures,
-        sources_few c.args.job.now c.args.queue c.requires.job c.requires.queue,
-      ),
-    )
 
 pub returns-clause-opened : goal.returns-clause-opened
 returns-clause-opened c =

@@ -1,5 +1,6 @@
-use Rattle.std.proofs.Common.{◌<◌, ◌%◌, length, rules, get_or, refl, vec_items}
-use Rattle.rq_exchange.proofs.Counting.{deal_more, size_more}
+use Rattle.std.proofs.Common.{ℕ, List, ◌<◌, ◌%◌, length, length-append, get_or, eqb, cond, rules, arith}
+use Rattle.rq_exchange.proofs.Words.{times, sum_by_push, sum_by_more}
+use Rattle.rq_exchange.proofs.Counting.{weigh_more}
 use Rattle.rq_exchange.proofs.deals.deal.Goals as goal
 
 pub loop-i-preserved : goal.loop-i-preserved
@@ -7,12 +8,17 @@ loop-i-preserved c =
     let i = c.loop-i.invariant in
     let k = c.loop-i.i % c.args.workers in
     let lt : k < length c.loop-i.lists.items = search rules in
-    let at : c.loop-i.i < length c.args.tasks.now = search rules in (
+    let near : c.loop-i.i < length c.args.tasks.now = search rules in
+    let q = get_or c.args.tasks.now c.loop-i.i 0 in
+    let more = λ (h : List ℕ → ℕ). weigh_more h c.loop-i.lists.items k q c.index_mut.result.now c.push.new.self lt
+    c.index_mut.ensures.value c.in_ok-push.ensures.items in (
       i.0,
-      (λ x. deal_more vec_items x c.loop-i.i k (get_or c.args.tasks.now c.loop-i.i 0) c.loop-i.lists.items
-          c.index_mut.result.now c.push.new.self c.args.tasks.now
-          (i.1 x) lt at c.index_mut.ensures.value c.in_ok-push.ensures.items refl),
-      size_more vec_items c.loop-i.i k (get_or c.args.tasks.now c.loop-i.i 0) c.loop-i.lists.items
-          c.index_mut.result.now c.push.new.self i.2 lt c.index_mut.ensures.value
-          c.in_ok-push.ensures.items,
+      (λ x. let is : ℕ → ℕ = λ y. cond (eqb y x) 1 0 in omega (
+        arith,
+        i.1 x,
+        more (times x),
+        sum_by_push is c.index_mut.result.now.items q,
+        sum_by_more is c.args.tasks.now c.loop-i.i 0 near,
+      )),
+      omega (arith, i.2, more length, length-append {A = ℕ}),
     )

@@ -1,5 +1,6 @@
 use Rattle.std.proofs.Common.{◌<◌, ap, ◌∙◌, ◌++◌, ◌∷◌, [], ℕ, length, rules}
-use Rattle.rq_exchange.proofs.Words.{Vec, listed_push}
+use Rattle.rq_exchange.proofs.Words.{listed_push}
+use Rattle.std.specs.Global.{Vec}
 use Rattle.rq_exchange.proofs.links.list.Goals as goal
 
 pub returns-clause-listed : goal.returns-clause-listed

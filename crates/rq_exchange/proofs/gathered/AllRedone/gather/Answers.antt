@@ -1,16 +1,13 @@
-use Rattle.std.proofs.Common.{◌≡◌, length, map, sym, ap, ◌∙◌, subst, Vec, Global}
-use Rattle.rq_exchange.proofs.Words.{State, Definition, id_before, registrant_before, IsWellFormed, Part, part_of}
-use Rattle.rq_exchange.proofs.Words.{gathered, state_in_order, place_before, IsRedoneTo, members, is_same}
-use Rattle.rq_record.specs.declared.record.UnitNo.{UnitNo}
-use Rattle.rq_state.specs.Views.{unit_of}
+use Rattle.std.proofs.Common.{◌≡◌, ap, ◌∙◌}
+use Rattle.rq_exchange.proofs.Words.{State, id_before, registrant_before, state_in_order, place_before, IsRedoneTo}
+use Rattle.rq_exchange.proofs.Words.{members, is_same}
 use Rattle.rq_state.specs.Inside.{state_of}
 use Rattle.rq_state.specs.Laws.{HasSame}
-use Rattle.rq_exchange.proofs.gathered.AllRedone.gather.Goals as goal
 use Rattle.rq_exchange.proofs.gathered.AllRedone.gather.Goals.{In_ok-fields}
+use Rattle.rq_exchange.proofs.gathered.AllRedone.gather.Goals as goal
 
 same : (c : In_ok-fields) (t : State) → IsRedoneTo t c.args.self → HasSame t (state_of c.in_ok-fields.fields)
 same c t all =
-    let before = c.args.self.fields in
     let poured = c.in_ok-fields.ensures.poured t all.parts in
     let whole = c.parts_make_the_state.ensures t all.well in
     record {
@@ -18,19 +15,14 @@ same c t all =
       greatest = poured.greatest ∙ all.fields.greatest;
       committed = poured.committed ∙ all.fields.committed;
       aborted = poured.aborted ∙ all.fields.aborted;
-      definitions = ap (λ (v : Vec Definition Global). v.items) poured.definitions ∙ all.fields.definitions;
-      units = is_same t.units (map unit_of c.in_ok-fields.fields.units.items)
-          (ap (λ (v : Vec UnitNo Global). map unit_of v.items) poured.units ∙ all.fields.units);
-      registrants = members registrant_before t.registrants
-          (gathered (λ (p : Part). p.registrants) (part_of t) (length t.definitions))
-          before.registrants.items c.in_ok-fields.fields.registrants.items (ap (λ (s : State). s.registrants) whole)
+      definitions = rw poured.definitions all.fields.definitions;
+      units = is_same _ _ (rw poured.units all.fields.units);
+      registrants = members registrant_before _ _ _ _ (ap (λ (s : State). s.registrants) whole)
           all.fields.registrants (rw all.every at poured.registrants);
-      elements = members id_before t.elements (gathered (λ (p : Part). p.elements) (part_of t) (length t.definitions))
-          before.elements.items c.in_ok-fields.fields.elements.items (ap (λ (s : State). s.elements) whole)
-          all.fields.elements (rw all.every at poured.elements);
-      notes = members place_before t.notes (gathered (λ (p : Part). p.notes) (part_of t) (length t.definitions))
-          before.notes.items c.in_ok-fields.fields.notes.items (ap (λ (s : State). s.notes) whole)
-          all.fields.notes (rw all.every at poured.notes);
+      elements = members id_before _ _ _ _ (ap (λ (s : State). s.elements) whole) all.fields.elements
+          (rw all.every at poured.elements);
+      notes = members place_before _ _ _ _ (ap (λ (s : State). s.notes) whole) all.fields.notes
+          (rw all.every at poured.notes);
     }
 
 -- the fields, put in order, are the state that all is redone to
@@ -40,9 +32,8 @@ ordered c t all = c.any_order_makes_the_state.ensures t (state_of c.in_ok-fields
 
 pub build_kept-requires : goal.build_kept-requires
 build_kept-requires c =
-    let d = (goal.at.build_kept-requires c).In_ok-fields in
     let all = c.requires.redone in
-    subst IsWellFormed (sym (ordered d all.0 all.1)) all.1.well
+    rw (ordered (goal.at.build_kept-requires c).In_ok-fields all.0 all.1) all.1.well
 
 pub returns-clause-state : goal.returns-clause-state
 returns-clause-state c = λ t all. c.in_ok-state.ensures.built
