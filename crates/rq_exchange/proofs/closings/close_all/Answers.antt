@@ -1,4 +1,4 @@
-use Rattle.std.proofs.Common.{◌∷◌, sym, reverse, arith}
+use Rattle.std.proofs.Common.{◌∷◌, sym, arith}
 use Rattle.rq_exchange.proofs.Words.{IsSettled, IsColumn, reverse-append}
 use Rattle.rq_exchange.proofs.Pairs.{all_before, taken, one_back, all_gone, pairs_long}
 use Rattle.rq_exchange.proofs.closings.close_all.Goals as goal
