@@ -22,6 +22,7 @@ pub struct Agenda {
 }
 
 // The state after so many records, which are analysed, except its members.
+#[tactic(auto, using(rq_catalog::proofs::Runs::front_whole))]
 fn fields_after(
     alloc: Global,
     state: &State,

@@ -48,6 +48,7 @@ impl Job<'_> {
     }
 
     // The part of the queue before the records; it is empty for a queue that the records define.
+    #[tactic(auto, using(crate::proofs::Cases::fresh_part))]
     fn part_before(&self, alloc: Global, queue: u32) -> Result<Part, Fault>
         requires job { IsJob self.now }
         requires defined { queue < length self.now.definitions.now }

@@ -13,12 +13,10 @@ loop-i-preserved c =
     let more = λ (h : List ℕ → ℕ). weigh_more h c.loop-i.lists.items k q c.index_mut.result.now c.push.new.self lt
     c.index_mut.ensures.value c.in_ok-push.ensures.items in (
       i.0,
-      (λ x. let is : ℕ → ℕ = λ y. cond (eqb y x) 1 0 in omega (
-        arith,
-        i.1 x,
-        more (times x),
-        sum_by_push is c.index_mut.result.now.items q,
-        sum_by_more is c.args.tasks.now c.loop-i.i 0 near,
-      )),
+      (λ x.
+          let is : ℕ → ℕ = λ y. cond (eqb y x) 1 0 in
+          let one = sum_by_push is c.index_mut.result.now.items q in
+          let next = sum_by_more is c.args.tasks.now c.loop-i.i 0 near in
+          omega (arith, i.1 x, more (times x))),
       omega (arith, i.2, more length, length-append {A = ℕ}),
     )

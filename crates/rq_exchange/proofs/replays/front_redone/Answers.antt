@@ -24,14 +24,9 @@ lawful g c = (parted (version_of c.args.version) c.args.state.now (map record_of
 pub slice_bounds-lawful-end : goal.slice_bounds-lawful-end
 slice_bounds-lawful-end g c =
     let p = parted (version_of c.args.version) c.args.state.now (map record_of c.args.records.now) in
-    omega (
-      arith,
-      length-take c.lawful-count.result c.args.records.now,
-      many g c,
-      ap length p.whole,
-      length-append (front g c) p.more,
-      length-map c.args.records.now record_of,
-    )
+    let parts = length-append (front g c) p.more in
+    let some = length-take c.lawful-count.result c.args.records.now in
+    omega (arith, many g c, ap length p.whole, length-map c.args.records.now record_of)
 
 -- a replay wants what version 2 says of them
 pub replay_analysed-requires-clause-lawful : goal.replay_analysed-requires-clause-lawful
