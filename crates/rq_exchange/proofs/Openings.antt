@@ -32,8 +32,8 @@ module _ {g : Ghosts Outbox Target} (job : Job) (workers : ℕ) where
           few = omega (arith, o.few, length-append cs (c ∷ []));
           bare = λ x lt none. grind (arith, common_steps, cases_lt x m, o.bare x, o.long);
           fed = λ x lt some. grind (arith, common_steps, get_or_push, cases_lt x m, o.fed x, o.long);
-          keyed = pairs_push (IsCountdownOf job) o.queues cs m c o.keyed keyed;
-          fresh = pairs_push (IsFreshColumn workers) cs columns c column o.fresh fresh;
+          keyed = pairs_push _ _ _ _ _ o.keyed keyed;
+          fresh = pairs_push _ _ _ _ _ o.fresh fresh;
         }
 
     pub opened_more : (slots' : List ℕ) (cs' : List (Countdown Outbox Target))
@@ -50,11 +50,10 @@ module _ {g : Ghosts Outbox Target} (job : Job) (workers : ℕ) where
     as_many = pairs_long (IsFreshColumn workers) chain.countdowns.items columns o.fresh
 
     pub columns_long : All (λ r. length r.items ≡ workers) columns
-    columns_long = all_second (IsFreshColumn workers) (λ r. length r.items ≡ workers) (λ c r h. h.count)
-        chain.countdowns.items columns o.fresh
+    columns_long = all_second (IsFreshColumn workers) _ (λ c r h. h.count) _ _ o.fresh
 
     pub has_passes : HasPasses chain workers
-    has_passes = λ k d lt. (pairs_at (IsFreshColumn workers) chain.countdowns.items columns o.fresh k d
+    has_passes = λ k d lt. (pairs_at (IsFreshColumn workers) _ _ o.fresh k d
         (some_of columns k (omega (arith, lt, as_many))) lt).passes
 
     pub rows_are : (rows : List (Vec (Pass Outbox Target g) Global)) → AreColumns columns workers rows
@@ -64,14 +63,14 @@ module _ {g : Ghosts Outbox Target} (job : Job) (workers : ℕ) where
           record {
             each = turned.long k d near ∙ sym as_many;
             own = λ j c p there.
-                let f = pairs_at (IsFreshColumn workers) chain.countdowns.items columns o.fresh j c d there in
+                let f = pairs_at (IsFreshColumn workers) _ _ o.fresh j c d there in
                 rw (column_at columns rows workers turned k j d p near (omega (arith, there, as_many)))
                 (f.own k p (omega (arith, near, f.count)));
           },
           λ j p there.
               let within : j < length columns = omega (arith, there, turned.long k d near) in
               let blank = all_second (IsFreshColumn workers) (λ r. All (λ p. history_of p ≡ []) r.items)
-              (λ c r h. h.blank) chain.countdowns.items columns o.fresh j d within in
+              (λ c r h. h.blank) _ _ o.fresh j d within in
               rw (column_at columns rows workers turned k j d p near within)
               (blank k p (omega (arith, near, columns_long j d within))),
         )

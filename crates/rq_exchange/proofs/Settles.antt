@@ -1,5 +1,5 @@
 -- The passes of the threads, by countdown.
-use Rattle.std.proofs.Common.{◌≡◌, ℕ, ◌<◌, List, [], All, length, map, sym, ap, ◌∙◌, arith, Vec, Global, flat_map}
+use Rattle.std.proofs.Common.{◌≡◌, ℕ, ◌<◌, List, [], All, length, map, sym, ◌∙◌, arith, Vec, Global, flat_map}
 use Rattle.std.proofs.Common.{slice_index_or}
 use Rattle.rq_exchange.proofs.Words.{get_or-map, length-map, Countdown, Pass, Ghosts, Entry, Settled, EachWith, map-map}
 use Rattle.rq_exchange.proofs.Words.{sources_of, history_of, CountdownChain, Outbox, Target, ArePasses, HasPasses}
@@ -48,11 +48,8 @@ module _ {g : Ghosts Outbox Target} {K : Type 0} (row : K → Vec (Pass Outbox T
   columns_tell settled c d lt =
       let e = some_of columns c (omega (arith, lt, turned.len)) in
       let s = pairs_at IsSettled chain.countdowns.items columns settled c d e lt in
-      let same : flat_map tells (slice_index_or columns c e).items ≡ flat_map (told c) kept =
-      sym (flat_map-map (λ (es : List (Entry Outbox)). es) tells (slice_index_or columns c e).items)
-      ∙ ap (flat_map (λ (es : List (Entry Outbox)). es)) (column_tells c e lt)
-      ∙ flat_map-map (λ (es : List (Entry Outbox)). es) (told c) kept in
-      (s.0, s.1, rw same at s.2)
+      (s.0, s.1, rw (← flat_map-map (λ (es : List (Entry Outbox)). es) tells (slice_index_or columns c e).items,
+          column_tells c e lt, flat_map-map) at s.2)
 
   pub columns_show : (c : ℕ) → c < length chain.countdowns.items
       → slice_index_or (map (λ (column : Row). map tells column.items) columns) c [] ≡ map (told c) kept

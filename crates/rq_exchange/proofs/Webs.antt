@@ -51,9 +51,6 @@ module _ (job : Job) (is : IsJob job) where
   module _ {g : Ghosts Outbox Target} (workers : ℕ) (chain : CountdownChain)
       (columns : List (Vec (Pass Outbox Target g) Global))
       (o : AreOpened job workers (length job.definitions.now) chain.slots.items chain.countdowns.items columns) where
-    as_many : length o.queues ≡ length chain.countdowns.items
-    as_many = pairs_long (IsCountdownOf job) o.queues chain.countdowns.items o.keyed
-
     -- a queue whose slot is that of a countdown has sources, and is the queue of that countdown
     is_at : (x : ℕ) → x < length job.definitions.now → at chain.slots.items x < length chain.countdowns.items
         → at o.queues (at chain.slots.items x) ≡ x
@@ -67,12 +64,12 @@ module _ (job : Job) (is : IsJob job) where
       web = record {
         fall = λ q l m. is.fall q (omega (arith, l, many)) (omega (arith, m, many));
         apart = λ x y l m there e. sym (is_at y m (omega (arith, there, e))) ∙ ap (at o.queues) e ∙ is_at x l there;
-        fed = λ x l some. omega (arith, (o.fed x l some).0, as_many);
+        fed = λ x l some. let many = pairs_long (IsCountdownOf job) _ _ o.keyed in omega (arith, (o.fed x l some).0);
         bare = λ x l none. omega (arith, o.bare x l none, o.few);
         ranked = ranked;
         exact = λ e i l lt. ((source_is e i l lt).0, (source_is e i l lt).1, rank_is e i l lt);
       };
       slots = o.long;
-      keyed = λ e d l some. let slot = o.fed e l some in rw slot.1 at
-          (pairs_at (IsCountdownOf job) o.queues chain.countdowns.items o.keyed (at chain.slots.items e) 0 d slot.0);
+      keyed = λ e d l some. let slot = o.fed e l some in
+          rw slot.1 at (pairs_at (IsCountdownOf job) _ _ o.keyed (at chain.slots.items e) 0 d slot.0);
     }

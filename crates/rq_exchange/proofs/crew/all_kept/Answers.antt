@@ -69,8 +69,7 @@ finish-requires g c =
 pub returns-clause-kept : goal.returns-clause-kept
 returns-clause-kept g c =
     let d = (goal.at.returns-clause-kept g c).In_ok-seats in
-    taken_over c.args.job.now c.args.chain.now (map taken_of c.in_ok-seats.seats.items) c.in_ok-seats.kept.items
-    c.left.result.now c.args.tasks.now (deal_of c.in_ok-room.room) c.index_mut.result.now c.finish.new.kept
+    taken_over c.args.job.now c.args.chain.now _ _ c.left.result.now c.args.tasks.now (deal_of c.in_ok-room.room) _ _
     (back g d).keep (omega (arith, threads g d, c.requires.count.0)) c.index_mut.ensures.value
     (λ s keeps. record {
       passes = c.in_ok-finish.ensures.passes;
