@@ -1,8 +1,11 @@
 -- Facts of lists that std does not have.
 use Rattle.std.proofs.Common.{◌≡◌, ℕ, zero, suc, ◌-◌, List, [], ◌∷◌, ◌++◌, All, length, get_or, drop, map, reverse}
 use Rattle.std.proofs.Common.{replicate, sum, sum_by, Some, slice_get, sym, refl, ap, ◌∙◌, subst, arith, append_assoc}
-use Rattle.rq_pool.proofs.Words.{map-append, reverse-append, length-reverse, get_or-reverse, sum-map, map-map}
+use Rattle.rq_pool.proofs.Words.{map-append, reverse-append, length-reverse, get_or-reverse, sum-map, map-map, map-set_same}
 use Rattle.std.proofs.lemmas.List.Sorted.{sum_by-IsPermutation, IsPermutation-reverse}
+
+-- for the tactics: what a list shows after a write that shows the same
+pub ruleset same_after = (map-set_same)
 
 module _ {X : Type 0} (P : X → Type 0) (xs : List X) where
   pub all_reverse : All P xs → All P (reverse xs)

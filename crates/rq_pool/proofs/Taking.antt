@@ -1,10 +1,8 @@
 -- What a take changes of what a seat has.
-use Rattle.std.proofs.Common.{◌≡◌, ◌≢◌, ℕ, zero, suc, ◌+◌, ◌<◌, ◌≤◌, List, [], ◌∷◌, ◌++◌, length, get_or, set, sum_by}
-use Rattle.std.proofs.Common.{Bool, true, false, T, cond, ◌==◌, sym, refl, ap, ◌∙◌, subst, arith, length-set}
-use Rattle.std.proofs.Common.{get_or-set_same, get_or-set_other}
-use Rattle.rq_pool.proofs.Words.{dite, ℕ_discrete, sum_by-cons, sum_by-append, sum_by_push, sum_by-set, Share, times_in}
-use Rattle.rq_pool.proofs.Words.{size, Taken, Holds}
-use Rattle.std.proofs.Math.Dec.{eqb_refl}
+use Rattle.std.proofs.Common.{◌≡◌, ◌≢◌, ℕ, suc, ◌<◌, ◌≤◌, List, [], ◌∷◌, ◌++◌, length, get_or, set, sum_by, cond}
+use Rattle.std.proofs.Common.{◌==◌, eq-eqb, sym, refl, ap, ◌∙◌, subst, arith, length-set, get_or-set_other}
+use Rattle.rq_pool.proofs.Words.{sum_by-cons, sum_by-append, sum_by_push, sum_by-set, Share, times_in, size, Taken, Holds}
+use Rattle.rq_pool.proofs.Laying.{set_either}
 use Rattle.rq_pool.proofs.Rules.{length_sum}
 
 module _ (lists : List (List ℕ)) (number : ℕ) where
@@ -40,70 +38,34 @@ module _ (lists : List (List ℕ)) (number : ℕ) where
           sum_by-set (sum_by h) stolens j ys [] inside,
         ));
     within = s.within;
-    least = λ h k. dite (ℕ_discrete k j)
-        (λ e. subst (λ (m : ℕ). sum_by h (get_or (set stolens j ys) m []) ≤ sum_by h (get_or lists m [])) (sym e)
-        (subst (λ (l : List ℕ). sum_by h l ≤ sum_by h (get_or lists j []))
-        (sym (get_or-set_same stolens j ys [] inside)) (less h)))
-        (λ ne. subst (λ (l : List ℕ). sum_by h l ≤ sum_by h (get_or lists k []))
-        (sym (get_or-set_other stolens j k ys [] ne)) (s.least h k));
+    least = λ h k. set_either (λ l. sum_by h l ≤ sum_by h (get_or lists k [])) stolens j k ys [] inside
+        (λ e. subst (λ m. sum_by h ys ≤ sum_by h (get_or lists m [])) (sym e) (less h)) (λ _. s.least h k);
     untouched = get_or-set_other stolens j number ys [] (λ e. other (sym e)) ∙ s.untouched;
   }
 
-module _ (h : ℕ → ℕ) where
-  -- each of the ss weighs no more than its like of the ls, and one has `extra` to spare
-  spread : (ss ls : List (List ℕ)) → length ss ≡ length ls
-      → ((j : ℕ) → sum_by h (get_or ss j []) ≤ sum_by h (get_or ls j [])) → sum_by (sum_by h) ss ≤ sum_by (sum_by h) ls
-  spread [] ls e least = omega arith
-  spread (s ∷ ss) [] e least = absurd (omega arith)
-  spread (s ∷ ss) (l ∷ ls) e least =
-      omega (
-        arith,
-        least 0,
-        spread ss ls (omega arith) (λ j. least (suc j)),
-        sum_by-cons (sum_by h) s ss,
-        sum_by-cons (sum_by h) l ls,
-      )
-
-  spread_one : (ss ls : List (List ℕ)) (number extra : ℕ) → length ss ≡ length ls
-      → ((j : ℕ) → sum_by h (get_or ss j []) ≤ sum_by h (get_or ls j [])) → number < length ls
-      → extra + sum_by h (get_or ss number []) ≤ sum_by h (get_or ls number [])
-      → extra + sum_by (sum_by h) ss ≤ sum_by (sum_by h) ls
-  spread_one ss [] number extra e least inside one = absurd (omega arith)
-  spread_one [] (l ∷ ls) number extra e least inside one = absurd (omega arith)
-  spread_one (s ∷ ss) (l ∷ ls) zero extra e least inside one =
-      omega (
-        arith,
-        spread ss ls (omega arith) (λ j. least (suc j)),
-        sum_by-cons (sum_by h) s ss,
-        sum_by-cons (sum_by h) l ls,
-      )
-  spread_one (s ∷ ss) (l ∷ ls) (suc number) extra e least inside one =
-      omega (
-        arith,
-        least 0,
-        spread_one ss ls number extra (omega arith) (λ j. least (suc j)) (omega arith) one,
-        sum_by-cons (sum_by h) s ss,
-        sum_by-cons (sum_by h) l ls,
-      )
+-- lists that weigh no more than their like weigh no more together
+spread : (h : ℕ → ℕ) (ss ls : List (List ℕ)) → length ss ≡ length ls
+    → ((j : ℕ) → sum_by h (get_or ss j []) ≤ sum_by h (get_or ls j [])) → sum_by (sum_by h) ss ≤ sum_by (sum_by h) ls
+spread h [] ls e least = omega arith
+spread h (s ∷ ss) [] e least = absurd (omega arith)
+spread h (s ∷ ss) (l ∷ ls) e least = let here = least 0 in let more = spread h ss ls (omega arith) (λ j. least (suc j)) in
+    omega (arith, sum_by-cons (sum_by h) s ss, sum_by-cons (sum_by h) l ls)
 
 -- a seat has taken nothing more often than it was dealt
 bounded : (lists : List (List ℕ)) (number : ℕ) (v : Share) (stolens : List (List ℕ)) (taken : List ℕ)
     → Holds lists number v stolens taken → (h : ℕ → ℕ) → sum_by h taken ≤ sum_by (sum_by h) lists
-bounded lists number v stolens taken s h = let c = s.counts h in let u = ap (sum_by h) s.untouched in let d =
-    ap (sum_by h) s.dealt in let w = s.within h in
-    omega (arith, spread_one h stolens lists number (sum_by h v.taken) s.same (s.least h) s.numbered (omega arith))
+bounded lists number v stolens taken s h = let inside : number < length stolens = omega arith in let c = s.counts h in
+    let u = ap (sum_by h) s.untouched in let most =
+    spread h (set stolens number v.taken) lists (length-set stolens number v.taken ∙ s.same)
+    (λ j. set_either (λ l. sum_by h l ≤ sum_by h (get_or lists j [])) stolens number j v.taken [] inside
+    (λ e. subst (λ m. sum_by h v.taken ≤ sum_by h (get_or lists m [])) (sym e)
+    (omega (arith, s.within h, ap (sum_by h) s.dealt))) (λ _. s.least h j)) in
+    omega (arith, sum_by-set (sum_by h) stolens number v.taken [] inside)
 
 lengths : (xss : List (List ℕ)) → sum_by (sum_by (λ _. 1)) xss ≡ size xss
 lengths [] = refl
 lengths (xs ∷ xss) =
     omega (arith, length_sum xs, lengths xss, sum_by-cons (sum_by (λ (_ : ℕ). 1)) xs xss, sum_by-cons length xs xss)
-
-counted : (b : Bool) → T b → cond {A = ℕ} b 1 0 ≡ 1
-counted true always = refl
-counted false never = absurd never
-
-itself_once : (x : ℕ) → cond {A = ℕ} (x == x) 1 0 ≡ 1
-itself_once x = counted (x == x) (eqb_refl x)
 
 -- so it has taken no more numbers than there are
 pub no_more : (lists : List (List ℕ)) (number : ℕ) (v : Share) (stolens : List (List ℕ)) (taken : List ℕ)
@@ -118,6 +80,6 @@ of_the_deal lists number v stolens taken x s =
     omega (
       arith,
       bounded lists number v stolens (taken ++ x ∷ []) s (λ y. cond (y == x) 1 0),
-      itself_once x,
+      ap (λ b. cond {A = ℕ} b 1 0) (eq-eqb x x refl),
       sum_by_push (λ y. cond (y == x) 1 0) taken x,
     )

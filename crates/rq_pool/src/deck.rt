@@ -141,6 +141,7 @@ impl Deck {
     }
 
     /// Takes in the owner of the deque of this number.
+    #[tactic(auto, using(crate::proofs::Lists::same_after))]
     pub(crate) fn seat_at(decks: &mut [Deck], number: usize, owner: Owner, n: usize, m: usize)
         requires few { (n ≤ 64) × (number < length decks.old) }
         requires decks { All (IsOpen n m) decks.old }

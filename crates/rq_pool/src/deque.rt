@@ -96,6 +96,7 @@ pub(crate) type Thief = Stealer<u32, Global, Share, DealRule>;
 pub(crate) type DequePass = Pass<u32, Share>;
 
 /// A deque that holds the list. It has room for it from the start.
+#[tactic(auto, using(crate::proofs::Rules::puts))]
 pub(crate) fn dealt(alloc: Global, list: &[u32]) -> Result<Owner, AllocError>
     requires { length list.now < 2 ^ 32 }
     ensures { IfOk result (λ w. (worker_flavor w ≡ 0) × (worker_view w ≡ share 256 list.now [])) }
@@ -111,6 +112,7 @@ pub(crate) fn dealt(alloc: Global, list: &[u32]) -> Result<Owner, AllocError>
 }
 
 /// A pass with one part.
+#[tactic(auto, using(crate::proofs::Rules::cuts))]
 pub(crate) fn cut(owner: &mut Owner) -> DequePass
     requires { 1 < (worker_view owner.old).parts }
     ensures same { (worker_deque owner.new ≡ worker_deque owner.old)
@@ -153,6 +155,7 @@ pub(crate) fn steal_one(thief: &Thief, pass: &mut DequePass) -> Option<u32>
 }
 
 /// Takes in a pass with all that it took.
+#[tactic(auto, using(crate::proofs::Rules::glues))]
 pub(crate) fn gather(owner: &mut Owner, pass: DequePass)
     requires { IsPassOf (worker_deque owner.old) pass × (0 < (worker_view owner.old).parts) }
     ensures same { (worker_deque owner.new ≡ worker_deque owner.old)
@@ -165,6 +168,7 @@ pub(crate) fn gather(owner: &mut Owner, pass: DequePass)
 
 /// Two owners of one deque have no more than all parts together. So two whose parts are more cannot
 /// exist.
+#[tactic(auto, using(crate::proofs::Rules::wholes, crate::proofs::Rules::glues))]
 pub(crate) fn together(one: &mut Owner, mut two: Owner)
     requires { (worker_deque two ≡ worker_deque one.old) × (0 < (worker_view one.old).parts) }
     ensures { (worker_view one.old).parts + (worker_view two).parts ≤ 256 }

@@ -60,6 +60,7 @@ impl DequeSeat {
     }
 
     // One steal at each other seat in turn.
+    #[tactic(auto, using(crate::proofs::Lists::same_after))]
     fn steal(&mut self, room: &DequeRoom) -> Option<u32>
         requires sources { map source_id self.old.sources.items ≡ ids_of room.now }
         requires holds { HasTaken (ids_of room.now) self.old self.old.taken.items }

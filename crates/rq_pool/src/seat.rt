@@ -86,6 +86,7 @@ impl Seat {
     ghost use Rattle.rq_pool.specs.Rooms.{IsSeatBeside, IsDequeSeat, taken_of};
 
     /// A seat with a deque of its own, the one of its number.
+    #[tactic(auto, using(crate::proofs::Dealing::begun))]
     pub(crate) fn beside(number: usize, owner: Owner, sources: Vec<Source>, taken: Vec<u32>) -> Seat
         requires fifo { worker_flavor owner ≡ 0 }
         ensures taken { taken_of result ≡ taken.items }

@@ -3,7 +3,7 @@ use Rattle.std.proofs.Common.{◌≡◌, ◌+◌, List, [], ◌∷◌, ◌++◌,
 use Rattle.std.proofs.Common.{append_assoc, append-nil, flat_map}
 use Rattle.rq_pool.proofs.Countdowns.Words.{View, total, parts, spent_view, all_made, all_refused, map_push}
 use Rattle.rq_pool.proofs.Countdowns.Words.{flat_map-append}
-use Rattle.rq_pool.proofs.Countdowns.Totals.{total_append}
+use Rattle.rq_pool.proofs.Totals.{total_append}
 
 module _ {A T K : Type 0} (g : A → View T K) where
   further : {B : Type 0} (f : View T K → List B) (ys xs : List A) (x : A) (a b all : List B) → ys ≡ xs ++ x ∷ []
@@ -34,11 +34,6 @@ module _ {A T K : Type 0} (g : A → View T K) where
       (goes_on all all xs x spent_view (g x) e (omega arith) (sym (append-nil (g x).made))
       (sym (append-nil (g x).refused))
       (omega arith, append-nil (all_made (map g all)), append-nil (all_refused (map g all))))
-
-  pub ends : (all xs : List A) (v : View T K) → length xs ≡ 0 → Holds xs v all
-      → (v.parts ≡ total parts (map g all)) × (v.made ≡ all_made (map g all)) × (v.refused ≡ all_refused (map g all))
-  ends all [] v e h = ((let a = h.0 in omega arith), h.1, h.2)
-  ends all (x ∷ xs) v e h = absurd (omega arith)
 
 module _ {A T K : Type 0} (g : A → View T K) (each : (p : A) → (g p).parts ≡ 1) where
   pub parts_long : (ps : List A) → total parts (map g ps) ≡ length ps

@@ -1,21 +1,22 @@
--- A view is cut in two, and two views are made one.
-use Rattle.std.proofs.Common.{◌≡◌, ◌≢◌, ◌⊎◌, ℕ, zero, suc, ◌+◌, ◌<◌, List, [], ◌∷◌, ◌++◌, set, sym, refl, ap, ◌∙◌}
-use Rattle.std.proofs.Common.{subst, ⊎_elim, inl, inr, arith, Option, None}
+-- The table at the start, a view that is cut in two, and two views that are made one.
+use Rattle.std.proofs.Common.{◌≡◌, ◌⊎◌, ℕ, zero, suc, ◌+◌, ◌<◌, List, [], ◌∷◌, ◌++◌, map, set, replicate, sym, refl, ap}
+use Rattle.std.proofs.Common.{◌∙◌, subst, ⊎_elim, inl, inr, arith, Option, Some, None}
+use Rattle.std.proofs.lemmas.List.{get_or-replicate}
 use Rattle.rq_pool.proofs.Countdowns.Words.{some, some-injective, some-ne-none, dite, ℕ_discrete, get_elem?, State}
-use Rattle.rq_pool.proofs.Countdowns.Words.{Splits, Joins, at_set, at_snoc, set_here, set_else, at_longer, Made, View}
-use Rattle.rq_pool.proofs.Countdowns.Words.{Terms, total, Phase, here, parts, stands_at, names, made_for, times_told}
-use Rattle.rq_pool.proofs.Countdowns.Words.{lasts, HasMade, HasLast, SomeView, Knows, Held, left_of, right_of, both_of}
-use Rattle.rq_pool.proofs.Countdowns.Words.{spent_view}
-use Rattle.rq_pool.proofs.Countdowns.Totals.{total_set, total_append, inside}
-use Rattle.rq_pool.proofs.Countdowns.Views.{some_set, told_still}
+use Rattle.rq_pool.proofs.Countdowns.Words.{opening, Splits, Joins, set_here, set_else, at_longer, Made, View, Terms, total}
+use Rattle.rq_pool.proofs.Countdowns.Words.{Phase, clear, flag, is_shut, place, count, here, parts, stands_at, names}
+use Rattle.rq_pool.proofs.Countdowns.Words.{made_for, times_told, lasts, view, HasMade, HasLast, SomeView, AtSource, Knows}
+use Rattle.rq_pool.proofs.Countdowns.Words.{Held, left_of, right_of, both_of, spent_view, length-replicate}
+use Rattle.rq_pool.proofs.Totals.{read, total_set, total_append, Each, each_set, each_snoc}
+use Rattle.rq_pool.proofs.Countdowns.Views.{some_set, knows_still, knows_spent, told_still}
 
 module _ {A : Type 0} where
-  at_later : (more xs : List A) (k : ℕ) (x : A) → get_elem? xs k ≡ some x
+  pub at_later : (more xs : List A) (k : ℕ) (x : A) → get_elem? xs k ≡ some x
       → (j : ℕ) × (get_elem? (more ++ xs) j ≡ some x)
   at_later [] xs k x e = (k, e)
   at_later (y ∷ more) xs k x e = let q = at_later more xs k x e in (suc q.0, q.1)
 
-  at_either : (xs ys : List A) (k : ℕ) (x : A) → get_elem? (xs ++ ys) k ≡ some x
+  pub at_either : (xs ys : List A) (k : ℕ) (x : A) → get_elem? (xs ++ ys) k ≡ some x
       → ((j : ℕ) × (get_elem? xs j ≡ some x)) ⊎ ((j : ℕ) × (get_elem? ys j ≡ some x))
   at_either [] ys k x e = inr (k, e)
   at_either (y ∷ xs) ys zero x e = inl (0, e)
@@ -23,140 +24,126 @@ module _ {A : Type 0} where
       ⊎_elim (λ (t : (j : ℕ) × (get_elem? xs j ≡ some x)). inl (suc t.0, t.1))
       (λ (t : (j : ℕ) × (get_elem? ys j ≡ some x)). inr t) (at_either xs ys k x e)
 
-module _ {T : Type 0} where
-  made_longer : (i : ℕ) (x : T) (ms more : List (Made T)) → HasMade i x ms → HasMade i x (ms ++ more)
-  made_longer i x ms more had = (had.0, had.1, at_longer ms more had.0 had.1 had.2, had.3, had.4)
+module _ (T : Type 0) where
+  abbrev cleared : ℕ → List (Phase T)
+  cleared n = replicate n clear
 
-  made_later : (i : ℕ) (x : T) (more ms : List (Made T)) → HasMade i x ms → HasMade i x (more ++ ms)
-  made_later i x more ms had = let q = at_later more ms had.0 had.1 had.2 in (q.0, had.1, q.1, had.3, had.4)
+  all_clear : (n : ℕ) → (count (cleared n) ≡ n) × (replicate n 0 ≡ map flag (cleared n))
+      × (map some (replicate {A = Option T} n None) ≡ map place (cleared n))
+  all_clear zero = (refl, refl, refl)
+  all_clear (suc n) = let q = all_clear n in
+      (omega (arith, q.0), ap (λ l. 0 ∷ l) q.1, ap (λ l. some None ∷ l) q.2)
 
-  last_longer : (ys : List T) (ms more : List (Made T)) → HasLast ys ms → HasLast ys (ms ++ more)
-  last_longer ys ms more had = (had.0, had.1, at_longer ms more had.0 had.1 had.2, had.3)
+  clear_only : (n i : ℕ) (p : Phase T) → get_elem? (cleared n) i ≡ some p → clear ≡ p
+  clear_only n i p e = let r = read (cleared n) i p e in
+      sym (get_or-replicate n i clear p (omega (arith, r.0, length-replicate {A = Phase T} n clear))) ∙ r.1
 
-  last_later : (ys : List T) (more ms : List (Made T)) → HasLast ys ms → HasLast ys (more ++ ms)
-  last_later ys more ms had = let q = at_later more ms had.0 had.1 had.2 in (q.0, had.1, q.1, had.3)
-
-module _ {T K : Type 0} where
-  split_total : (f : View T K → ℕ) (views : List (View T K)) (id : ℕ) (v l r : View T K) → get_elem? views id ≡ some v
-      → f l + f r ≡ f v → total f (set views id l ++ r ∷ []) ≡ total f views
-  split_total f views id v l r at e = let a = total_append f (set views id l) (r ∷ []) in let b =
-      total_set f views id v l at in omega arith
-
-  join_total : (f : View T K → ℕ) (views : List (View T K)) (id other : ℕ) (v w b u : View T K)
-      → get_elem? views id ≡ some v → get_elem? (set views id b) other ≡ some w → f b + f u ≡ f v + f w
-      → total f (set (set views id b) other u) ≡ total f views
-  join_total f views id other v w b u at at' e = let a = total_set f views id v b at in let d =
-      total_set f (set views id b) other w u at' in omega arith
-
-  join_some : (P : List (Made T) → Type 0) (views : List (View T K)) (id other : ℕ) (v w b u : View T K)
-      → get_elem? views id ≡ some v → ¬ (other ≡ id) → get_elem? (set views id b) other ≡ some w
-      → (P v.made → P b.made) → (P w.made → P b.made) → SomeView P views → SomeView P (set (set views id b) other u)
-  join_some P views id other v w b u at apart at' from_v from_w (j, y, e, has) =
-      let at_b : get_elem? (set (set views id b) other u) id ≡ some b =
-      set_else (set views id b) other id u (λ z. apart (sym z)) ∙ set_here views id b (inside views id v at) in
-      dite (ℕ_discrete j id)
-      (λ (same : j ≡ id). let is : y ≡ v = some-injective y v (sym e ∙ ap (get_elem? views) same ∙ at) in
-      (id, b, at_b, from_v (subst (λ (z : View T K). P z.made) is has)))
-      (λ not_id. dite (ℕ_discrete j other)
-      (λ (same : j ≡ other). let is : y ≡ w =
-      some-injective y w (sym e ∙ ap (get_elem? views) same ∙ sym (set_else views id other b apart) ∙ at') in
-      (id, b, at_b, from_w (subst (λ (z : View T K). P z.made) is has)))
-      (λ not_other. (j, y, set_else (set views id b) other j u not_other ∙ set_else views id j b not_id ∙ e, has)))
+-- a list that is longer at either end has what it had
+abbrev Grows : {T : Type 0} → (List (Made T) → Type 0) → Type 0
+Grows {T} P = (more ms : List (Made T)) → P ms → P (ms ++ more) × P (more ++ ms)
 
 module _ {T K : Type 0} (fits : K → ℕ → T → Type 0) (terms : Terms K) where
-  abbrev St : Type 0
-  St = State (Option T) (View T K)
-
-  abbrev H : St → Type 0
+  abbrev H : State (Option T) (View T K) → Type 0
   H = Held fits terms
 
   abbrev Views : Type 0
   Views = List (View T K)
 
+  abbrev first : View T K
+  first = view terms.passes (Some terms.key) None [] []
+
+  pub starts : (n m : ℕ) (ws : List ℕ) → suc n ≡ m → 0 < n → 0 < terms.passes → ws ≡ set (replicate m 0) 0 n
+      → H (opening ws (replicate n None) first)
+  starts n m ws e some_source some_pass is = let q = all_clear T n in record {
+    phases = replicate n clear;
+    words_are = is ∙ ap (λ k. set (replicate k 0) 0 n) (sym e) ∙ (λ j. sym q.0 j ∷ q.1 j);
+    homes_are = q.2;
+    all_parts = omega arith;
+    each_source = λ i p at. subst (AtSource (fits terms.key) (first ∷ []) i) (clear_only T n i p at)
+        record { standing = refl; done = refl; holding = λ x none. absurd (some-ne-none x (sym none)) };
+    each_pass = each_snoc (Knows terms.key (replicate n clear)) [] first record {
+      same_key = λ _. refl;
+      idle = λ z. absurd (omega arith);
+      set_before = λ k i none. absurd (some-ne-none i (sym none));
+    } (λ j v none. absurd (some-ne-none v (sym none)));
+    told_once = inl record {
+      waiting = omega (arith, q.0);
+      nobody = refl;
+      none_shut = λ i p at. ap is_shut (sym (clear_only T n i p at));
+    };
+  }
+
   -- other views with the same totals, which have no less
-  reviewed : (s : St) (views' : Views) → H s → total parts views' ≡ total parts s.views
+  reviewed : (s : State (Option T) (View T K)) (views' : Views) → H s → total parts views' ≡ total parts s.views
       → ((i : ℕ) → total (stands_at i) views' ≡ total (stands_at i) s.views)
-      → ((i : ℕ) → total (made_for i) views' ≡ total (made_for i) s.views)
-      → total lasts views' ≡ total lasts s.views
-      → ((i : ℕ) (x : T) → SomeView (HasMade i x) s.views → SomeView (HasMade i x) views')
-      → ((ys : List T) → SomeView (HasLast ys) s.views → SomeView (HasLast ys) views')
-      → ((ps : List (Phase T)) → ((j : ℕ) (u : View T K) → get_elem? s.views j ≡ some u → Knows terms.key ps u)
-      → (j : ℕ) (u : View T K) → get_elem? views' j ≡ some u → Knows terms.key ps u)
+      → ((i : ℕ) → total (made_for i) views' ≡ total (made_for i) s.views) → total lasts views' ≡ total lasts s.views
+      → ((P : List (Made T) → Type 0) → Grows P → SomeView P s.views → SomeView P views')
+      → ((ps : List (Phase T)) → Each (λ _. Knows terms.key ps) s.views → Each (λ _. Knows terms.key ps) views')
       → H record { words = s.words; homes = s.homes; views = views' }
-  reviewed s views' h a b c d e f g = record {
+  reviewed s views' h a b c d grow know = record {
     phases = h.phases;
     words_are = h.words_are;
     homes_are = h.homes_are;
     all_parts = a ∙ h.all_parts;
-    each_source = λ i p at. let old = h.each_source i p at in
-        record {
-          standing = b i ∙ old.standing;
-          done = c i ∙ old.done;
-          holding =
-              λ x is. ((old.holding x is).0, e i x (old.holding x is).1);
-        };
-    each_pass = g h.phases h.each_pass;
-    told_once = told_still s.views views' h.phases d f h.told_once;
+    each_source = λ i p at. let old = h.each_source i p at in record {
+      standing = b i ∙ old.standing;
+      done = c i ∙ old.done;
+      holding = λ x is. let had = old.holding x is in (
+        had.0,
+        grow (HasMade i x) (λ more ms m. let q =
+            at_later more ms m.0 m.1 m.2 in
+            ((m.0, m.1, at_longer ms more m.0 m.1 m.2, m.3, m.4), (q.0, m.1, q.1, m.3, m.4))) had.1,
+      );
+    };
+    each_pass = know h.phases h.each_pass;
+    told_once = told_still s.views views' h.phases d (λ ys. grow (HasLast ys) (λ more ms m. let q =
+        at_later more ms m.0 m.1 m.2 in ((m.0, m.1, at_longer ms more m.0 m.1 m.2, m.3), (q.0, m.1, q.1, m.3))))
+        h.told_once;
   }
 
   pub splits : (id : ℕ) (v : View T K) → 1 < v.parts → Splits H id v (left_of v) (right_of v)
   splits id v some_parts s h at = let l : View T K = left_of v in let r : View T K = right_of v in let views' : Views =
       set s.views id l ++ r ∷ [] in
-      let grow : (P : List (Made T) → Type 0) → SomeView P s.views → SomeView P views' = λ P had. let q =
-      some_set P s.views id v l at (λ has. has) had in
-      (q.0, q.1, at_longer (set s.views id l) (r ∷ []) q.0 q.1 q.2, q.3) in
-      reviewed s views' h (split_total parts s.views id v l r at (omega arith))
-      (λ i. split_total (stands_at i) s.views id v l r at (omega arith))
-      (λ i. split_total (made_for i) s.views id v l r at (omega arith))
-      (split_total lasts s.views id v l r at (omega arith)) (λ i x. grow (HasMade i x)) (λ ys. grow (HasLast ys))
-      (λ ps each j u e. let old = each id v at in ⊎_elim
-      (λ (was : get_elem? (set s.views id l) j ≡ some u).
-      ⊎_elim (λ (t : (j ≡ id) × (l ≡ u)). subst (Knows terms.key ps) t.1
-      record {
-        same_key = λ _. old.same_key (omega arith);
-        idle = λ z. absurd (omega arith);
-        set_before =
-            old.set_before;
-      })
-      (λ (t : (j ≢ id) × (get_elem? s.views j ≡ some u)). each j u t.1) (at_set s.views id j l u was))
-      (λ (is : r ≡ u). subst (Knows terms.key ps) is
-      record {
-        same_key = λ _. old.same_key (omega arith);
-        idle = λ z. absurd (omega arith);
-        set_before =
-            λ k i e. absurd (some-ne-none i (sym e));
-      }) (at_snoc (set s.views id l) r u j e))
+      let same : (f : View T K → ℕ) → f l + f r ≡ f v → total f views' ≡ total f s.views =
+      λ f e. omega (arith, total_append f (set s.views id l) (r ∷ []), total_set f s.views id v l at) in
+      reviewed s views' h (same parts (omega arith)) (λ i. same (stands_at i) (omega arith))
+      (λ i. same (made_for i) (omega arith)) (same lasts (omega arith))
+      (λ P _ had. let q = some_set P s.views id v l at (λ has. has) had in
+      (q.0, q.1, at_longer (set s.views id l) (r ∷ []) q.0 q.1 q.2, q.3))
+      (λ ps each. let old = each id v at in each_snoc (Knows terms.key ps) (set s.views id l) r
+      (knows_still terms.key ps ps v r (omega arith) (omega arith) refl old (λ k i e. absurd (some-ne-none i (sym e))))
+      (each_set (λ _. Knows terms.key ps) s.views id l
+      (knows_still terms.key ps ps v l (omega arith) (omega arith) refl old old.set_before) (λ j u _. each j u)))
 
   pub joins : (id : ℕ) (v : View T K) (other : ℕ) (w : View T K) → 0 < v.parts → v.at ≡ None → w.at ≡ None
       → Joins H id v other w (both_of v w) spent_view
   joins id v other w part va wa s h at apart at' = let b : View T K = both_of v w in let u : View T K = spent_view in
       let views' : Views = set (set s.views id b) other u in
+      let same : (f : View T K → ℕ) → f b + f u ≡ f v + f w → total f views' ≡ total f s.views =
+      λ f e. omega (arith, total_set f s.views id v b at, total_set f (set s.views id b) other w u at') in
       let was : get_elem? s.views other ≡ some w = sym (set_else s.views id other b apart) ∙ at' in
-      reviewed s views' h (join_total parts s.views id other v w b u at at' (omega arith))
-      (λ i. join_total (stands_at i) s.views id other v w b u at at'
-      (let p : stands_at i v ≡ 0 = ap (here i) va in let q : stands_at i w ≡ 0 = ap (here i) wa in omega arith))
-      (λ i. join_total (made_for i) s.views id other v w b u at at'
-      (let q = total_append (names i) w.made v.made in omega arith))
-      (join_total lasts s.views id other v w b u at at' (let q = total_append times_told w.made v.made in omega arith))
-      (λ i x. join_some (HasMade i x) s.views id other v w b u at apart at' (made_later i x w.made v.made)
-      (made_longer i x w.made v.made))
-      (λ ys. join_some (HasLast ys) s.views id other v w b u at apart at' (last_later ys w.made v.made)
-      (last_longer ys w.made v.made))
-      (λ ps each j y e. let mine = each id v at in let theirs = each other w was in ⊎_elim
-      (λ (t : (j ≡ other) × (u ≡ y)). subst (Knows terms.key ps) t.1
-      record {
-        same_key = λ z. absurd (omega arith);
-        idle = λ _. (refl, refl, refl);
-        set_before =
-            λ k i g. absurd (some-ne-none i (sym g));
-      })
-      (λ (t : (j ≢ other) × (get_elem? (set s.views id b) j ≡ some y)). ⊎_elim
-      (λ (m : (j ≡ id) × (b ≡ y)). subst (Knows terms.key ps) m.1 record {
-        same_key = λ _. mine.same_key part;
-        idle = λ z. absurd (omega arith);
-        set_before = λ k i g. ⊎_elim (λ (n : (l : ℕ) × (get_elem? w.refused l ≡ some i)). theirs.set_before n.0 i n.1)
-            (λ (n : (l : ℕ) × (get_elem? v.refused l ≡ some i)). mine.set_before n.0 i n.1)
-            (at_either w.refused v.refused k i g);
-      })
-      (λ (m : (j ≢ id) × (get_elem? s.views j ≡ some y)). each j y m.1) (at_set s.views id j b y t.1))
-      (at_set (set s.views id b) other j u y e))
+      let at_b : get_elem? views' id ≡ some b = set_else (set s.views id b) other id u (λ z. apart (sym z))
+      ∙ set_here s.views id b (read s.views id v at).0 in
+      reviewed s views' h (same parts (omega arith))
+      (λ i. same (stands_at i) (omega (arith, ap (here i) va, ap (here i) wa)))
+      (λ i. same (made_for i) (omega (arith, total_append (names i) w.made v.made)))
+      (same lasts (omega (arith, total_append times_told w.made v.made)))
+      (λ P grows had. dite (ℕ_discrete had.0 id)
+      (λ same. let is : had.1 ≡ v = some-injective had.1 v (sym had.2 ∙ ap (get_elem? s.views) same ∙ at) in
+      (id, b, at_b, (grows w.made v.made (subst (λ (z : View T K). P z.made) is had.3)).1))
+      (λ not_id. dite (ℕ_discrete had.0 other)
+      (λ same. let is : had.1 ≡ w = some-injective had.1 w (sym had.2 ∙ ap (get_elem? s.views) same ∙ was) in
+      (id, b, at_b, (grows v.made w.made (subst (λ (z : View T K). P z.made) is had.3)).0))
+      (λ not_other. (
+        had.0,
+        had.1,
+        set_else (set s.views id b) other had.0 u not_other
+            ∙ set_else s.views id had.0 b not_id ∙ had.2,
+        had.3,
+      ))))
+      (λ ps each. each_set (λ _. Knows terms.key ps) (set s.views id b) other u (knows_spent terms.key ps)
+      (λ j y _. each_set (λ _. Knows terms.key ps) s.views id b
+      (knows_still terms.key ps ps v b part (omega arith) refl (each id v at)
+      (λ k i g. ⊎_elim (λ (n : (l : ℕ) × (get_elem? w.refused l ≡ some i)). (each other w was).set_before n.0 i n.1)
+      (λ (n : (l : ℕ) × (get_elem? v.refused l ≡ some i)). (each id v at).set_before n.0 i n.1)
+      (at_either w.refused v.refused k i g))) (λ k z _. each k z) j y))

@@ -20,13 +20,15 @@ pub use Rattle.rq_pool.specs.declared.countdown.view.Made.{Made}
 pub use Rattle.rq_pool.specs.declared.countdown.view.Terms.{Terms}
 pub use Rattle.rq_pool.specs.declared.countdown.view.View.{View}
 pub use Rattle.std.proofs.lemmas.Grind.{common_steps, flat_map-append}
-pub use Rattle.std.proofs.lemmas.List.{drop_all, length-map, length-replicate, length_push, map_push, nil_from_length}
+pub use Rattle.std.proofs.Math.Seq.{map-set_same}
+pub use Rattle.std.proofs.lemmas.List.{get_or-map, length-map, length-replicate, length_push, map_push, nil_from_length}
 pub use Rattle.std.proofs.lemmas.List.{replicate_more}
 pub use Rattle.std.proofs.lemmas.List.Elements.{All-pop, All-push}
 pub use Rattle.std.specs.Slots.{slots_filled, slots_items, slots_len}
 pub use Rattle.std.specs.Slots.Ownership.{Filled}
 pub use lib.ListN.{get_elem?}
 pub use lib.Seq.{map-set}
+pub use mathlib.Core.List.{map-map}
 pub use mathlib.Core.Logic.{dite}
 pub use mathlib.Core.Option.{none, some, some-injective, some-ne-none}
 pub use native.Mathlib.Decide.{ℕ_discrete}

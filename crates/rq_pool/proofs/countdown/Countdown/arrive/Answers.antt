@@ -1,29 +1,11 @@
-use Rattle.std.proofs.Common.{arith, ap, sym, ◌∙◌, subst, [], ◌∷◌, ◌++◌, refl, length, map, replicate, Some, None}
+use Rattle.std.proofs.Common.{arith, ap, sym, ◌∙◌, [], ◌∷◌, ◌++◌, refl, length, map, replicate, Some, None}
 use Rattle.std.proofs.Common.{append-nil}
-use Rattle.rq_pool.proofs.Countdowns.Words.{indexed, outboxes_in, lasts, after, count_told, made_of, Fit, entry}
-use Rattle.rq_pool.proofs.Countdowns.Words.{Answered, Twice, NotLast, Last}
+use Rattle.rq_pool.proofs.Countdowns.Words.{indexed, outboxes_in, lasts, after, count_told, made_of}
+use Rattle.rq_pool.proofs.Countdowns.Words.{NotLast, Last}
 use Rattle.rq_pool.proofs.Countdowns.Histories.{tells, gives}
 use Rattle.rq_pool.proofs.Countdowns.Gathers.{contents_numbered}
 use Rattle.rq_pool.proofs.Countdowns.Views.{lasts_after}
 use Rattle.rq_pool.proofs.countdown.Countdown.arrive.Goals as goal
-
-pub invariant_of-pass : goal.invariant_of-pass
-invariant_of-pass g c = let was = c.args.pass.now.seat.me.0 in let s = c.args.source in let x = c.args.outbox in
-    let set = c.claim.ensures.set c.if-not-claim.true in let ids = ap (λ z. z.slots) c.claim.ensures.own.0 in
-    let more = c.noted.ensures.entry ∙ (λ j. c.args.pass.now.diary ++ entry s (c.of-shown.ensures j) (Twice x) ∷ []) in
-    record {
-      told = tells _ _ s x (Twice x) more _ _ _ _ c.args.pass.now.told
-          (ap (λ m. m.0.made) set ∙ sym (append-nil was.made)) (ap (λ m. m.0.refused) set);
-      gave_back = gives _ _ s x (Twice x) more c.args.pass.now.gave_back refl;
-      rests = (ap (λ m. m.0.at) set, ap (λ m. m.0.parts) set ∙ c.args.pass.now.rests.1);
-      has_room = λ v e. let r = c.args.pass.now.has_room v e in
-          (ap (λ m. lasts m.0) set ∙ r.0, ap (λ m. m.1) set ∙ r.1, r.2, (let q = r.3 in omega (arith, ids)));
-      was_last = λ e. let r = c.args.pass.now.was_last e in (
-        ap (λ m. lasts m.0) set ∙ r.0,
-        ap (λ m. m.1) set ∙ r.1
-            ∙ ap (λ n. indexed 0 (replicate n None)) (sym ids),
-      );
-    }
 
 pub invariant_of-pass-then-not-hand_in : goal.invariant_of-pass-then-not-hand_in
 invariant_of-pass-then-not-hand_in g c = let was = c.args.pass.now.seat.me.0 in let s = c.args.source in let x =
@@ -76,12 +58,3 @@ invariant_of-pass-in-Some g c = let was = c.args.pass.now.seat.me.0 in let s = c
             (sym (ids ∙ c.args.self.now.sized.1)),
       );
     }
-
-pub returns-clause-answer : goal.returns-clause-answer
-returns-clause-answer g c = let hl = c.hand_in.ensures.last c.if-not-hand_in.false in let ys = hl.1.0 in
-    let same = c.collect_outboxes.ensures.room ∙ ap (λ m. outboxes_in m.1) hl.1.3 ∙ contents_numbered ys 0 in
-    subst (Answered (g.T.Fits.fits c.args.self.now.table.shared.key.key) c.args.self.now.sources c.args.outbox)
-    (sym c.noted-in-Some.ensures.answer) (
-      ap length same ∙ hl.1.1 ∙ c.args.self.now.sized.1,
-      subst (Fit (g.T.Fits.fits c.args.self.now.table.shared.key.key)) (sym same) hl.1.2,
-    )

@@ -1,7 +1,7 @@
 use Rattle.std.proofs.Common.{rules, arith, ap₂, sym, ◌+◌, ◌∙◌, ◌∷◌, ◌++◌, []}
 use Rattle.rq_pool.proofs.Countdowns.Words.{outboxes_in}
 use Rattle.rq_pool.proofs.Countdowns.Gathers.{after_one}
-use Rattle.rq_pool.proofs.Countdowns.Totals.{one_slot}
+use Rattle.rq_pool.proofs.Countdowns.Views.{one_slot}
 use Rattle.rq_pool.proofs.countdown.gather.collect_outboxes.Goals as goal
 
 pub take_one-outbox-requires : goal.take_one-outbox-requires

@@ -1,6 +1,6 @@
 use Rattle.std.proofs.Common.{arith, ap, ◌∙◌, ◌≡◌, ◌+◌, ◌++◌, Some}
 use Rattle.rq_pool.proofs.Countdowns.Words.{All-pop}
-use Rattle.rq_pool.proofs.Countdowns.Closes.{begins, goes_on, ends}
+use Rattle.rq_pool.proofs.Countdowns.Closes.{begins, goes_on}
 use Rattle.rq_pool.proofs.Countdowns.Joins.{joins}
 use Rattle.rq_pool.proofs.countdown.joined.join_all.Goals as goal
 
@@ -16,13 +16,6 @@ loop-pass-init g c = let e = c.in-Some.ensures.items in let own = c.retire-seat.
       (let p = ap (λ v. v.parts) m in let q = c.in-Some.first.rests.1 in omega arith),
       b,
     )
-
-pub retire-other-requires : goal.retire-other-requires
-retire-other-requires g c = (
-  (All-pop (λ p. p.seat.table_id ≡ c.args.board.now.table_id) _ _ (Some c.in-Some-pop.pass)
-      c.in-Some-pop.ensures.items c.loop-pass.invariant.0).1,
-  c.requires.own.1,
-)
 
 pub join_seat-requires : goal.join_seat-requires
 join_seat-requires g c = let i = c.loop-pass.invariant in let other = c.retire-other.ensures in (
@@ -49,14 +42,3 @@ loop-pass-preserved g c = let i = c.loop-pass.invariant in let other = c.retire-
       (let p = ap (λ u. u.parts) v in let q = i.4 in omega arith),
       b,
     )
-
-pub returns-clause-parts : goal.returns-clause-parts
-returns-clause-parts g c =
-    (ends (λ p. p.seat.me.0) c.args.passes.items c.loop-pass.passes.items c.loop-pass.seat.me.0
-    (let z = c.in_default-pop.ensures.cases.0 in omega (arith, c.loop-pass.passes.ok)) c.loop-pass.invariant.5).0
-
-pub returns-clause-history : goal.returns-clause-history
-returns-clause-history g c = let e =
-    ends (λ p. p.seat.me.0) c.args.passes.items c.loop-pass.passes.items c.loop-pass.seat.me.0
-    (let z = c.in_default-pop.ensures.cases.0 in omega (arith, c.loop-pass.passes.ok)) c.loop-pass.invariant.5 in
-    (e.1, e.2)

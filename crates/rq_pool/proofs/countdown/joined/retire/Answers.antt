@@ -1,6 +1,6 @@
 use Rattle.std.proofs.Common.{rules, ap, ◌∙◌, replicate, None}
 use Rattle.rq_pool.proofs.Countdowns.Words.{indexed}
-use Rattle.rq_pool.proofs.Countdowns.Returns.{gives_back}
+use Rattle.rq_pool.proofs.Countdowns.Steps.{gives_back}
 use Rattle.rq_pool.proofs.countdown.joined.retire.Goals as goal
 
 pub load-requires : goal.load-requires

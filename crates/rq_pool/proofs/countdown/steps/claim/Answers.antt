@@ -1,5 +1,5 @@
 use Rattle.std.proofs.Common.{rules, arith}
-use Rattle.rq_pool.proofs.Countdowns.Claims.{claims}
+use Rattle.rq_pool.proofs.Countdowns.Steps.{claims}
 use Rattle.rq_pool.proofs.countdown.steps.claim.Goals as goal
 
 pub swap-requires : goal.swap-requires

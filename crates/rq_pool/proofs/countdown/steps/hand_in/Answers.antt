@@ -1,6 +1,6 @@
 use Rattle.std.proofs.Common.{rules, arith, eqb-true, sym, ap, ◌∙◌, subst, map, Some, ◌<◌}
 use Rattle.rq_pool.proofs.Countdowns.Words.{lasts, after, indexed}
-use Rattle.rq_pool.proofs.Countdowns.Counts.{counts}
+use Rattle.rq_pool.proofs.Countdowns.Steps.{counts}
 use Rattle.rq_pool.proofs.countdown.steps.hand_in.Goals as goal
 
 pub fetch_sub-requires : goal.fetch_sub-requires

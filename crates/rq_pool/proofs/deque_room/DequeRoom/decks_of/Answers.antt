@@ -2,7 +2,7 @@ use Rattle.std.proofs.Common.{◌≡◌, ◌<◌, ◌^◌, All, ◌∷◌, [], �
 use Rattle.std.proofs.Common.{subst, ◌∙◌, arith, append-nil, Some}
 use Rattle.rq_pool.proofs.Words.{map-append, reverse-reverse, nil_from_length, IsStocked, IsWhole, deck_id, deck_list}
 use Rattle.rq_pool.proofs.Words.{owner_id, All-push, All-pop}
-use Rattle.rq_pool.proofs.Lists.{all_reverse, map-reverse, one_more_behind}
+use Rattle.rq_pool.proofs.Lists.{map-reverse, one_more_behind}
 use Rattle.rq_pool.proofs.deque_room.DequeRoom.decks_of.Goals as goal
 
 pub loop-list-preserved : goal.loop-list-preserved
@@ -43,11 +43,6 @@ returns-clause-lists c = let inv = c.loop-list.invariant in let before = c.loop-
     ∙ sym (ap (λ l. map deck_list before ++ reverse (map vec_items l))
     (nil_from_length c.loop-list.lists.items (omega (arith, c.in_default.ensures.cases)))) ∙ inv.lists in
     ap (map deck_list) c.reverse.ensures.items ∙ map-reverse deck_list before ∙ ap reverse all ∙ reverse-reverse lists
-
-pub returns-clause-decks : goal.returns-clause-decks
-returns-clause-decks c = let n = c.len-n.result in let count : n ≡ vec_len c.args.lists = omega arith in
-    subst (λ k. All (IsStocked k k) c.reverse.new.self.items) count
-    (rw c.reverse.ensures.items (all_reverse (IsStocked n n) c.loop-list.decks.items c.loop-list.invariant.stocked))
 
 pub returns-clause-owners : goal.returns-clause-owners
 returns-clause-owners c = let inv = c.loop-list.invariant in let count : c.len-n.result ≡ vec_len c.args.lists =

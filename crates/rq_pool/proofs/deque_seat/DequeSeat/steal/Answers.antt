@@ -4,11 +4,6 @@ use Rattle.rq_pool.proofs.Taking.{stole}
 use Rattle.rq_pool.proofs.Sources.{less_than_dealt}
 use Rattle.rq_pool.proofs.deque_seat.DequeSeat.steal.Goals as goal
 
-pub returns-in-Some-clause-sources : goal.returns-in-Some-clause-sources
-returns-in-Some-clause-sources c =
-    map-set_same source_id c.loop-j.self.sources.items c.loop-j.j c.steal.new.self c.index_mut.result.now
-    (c.steal.ensures.same ∙ ap source_id c.index_mut.ensures.value) ∙ c.loop-j.invariant.sources
-
 pub returns-in-Some-clause-some : goal.returns-in-Some-clause-some
 returns-in-Some-clause-some c =
     let inside : c.loop-j.j < length c.loop-j.self.sources.items = omega arith in
