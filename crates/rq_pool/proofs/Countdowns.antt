@@ -4,5 +4,4 @@ pub mod Steps
 pub mod Joins
 pub mod Gathers
 pub mod Histories
-pub mod Closes
 pub mod Endings

@@ -1,8 +1,8 @@
 -- Facts of lists that std does not have.
 use Rattle.std.proofs.Common.{◌≡◌, ℕ, zero, suc, ◌-◌, List, [], ◌∷◌, ◌++◌, All, length, get_or, drop, map, reverse}
 use Rattle.std.proofs.Common.{replicate, sum, sum_by, Some, slice_get, sym, refl, ap, ◌∙◌, subst, arith, append_assoc}
-use Rattle.rq_pool.proofs.Words.{map-append, reverse-append, length-reverse, get_or-reverse, sum-map, map-map, map-set_same}
-use Rattle.std.proofs.lemmas.List.Sorted.{sum_by-IsPermutation, IsPermutation-reverse}
+use Rattle.rq_pool.proofs.Words.{map-append, reverse-append, length-reverse, get_or-reverse, sum-map, map-map}
+use Rattle.rq_pool.proofs.Words.{map-set_same}
 
 -- for the tactics: what a list shows after a write that shows the same
 pub ruleset same_after = (map-set_same)
@@ -17,21 +17,12 @@ map-reverse f [] = refl
 map-reverse f (x ∷ xs) = ap (map f) (reverse-append (x ∷ []) xs) ∙ map-append f (reverse xs) (x ∷ [])
     ∙ ap (λ l. l ++ f x ∷ []) (map-reverse f xs) ∙ sym (reverse-append (f x ∷ []) (map f xs))
 
-pub sum_by-reverse : {A : Type 0} (h : A → ℕ) (xs : List A) → sum_by h (reverse xs) ≡ sum_by h xs
-sum_by-reverse h xs = sum_by-IsPermutation h xs (reverse xs) (IsPermutation-reverse xs)
-
 pub sum_by-map : {A B : Type 0} (f : B → ℕ) (g : A → B) (xs : List A) → sum_by f (map g xs) ≡ sum_by (λ x. f (g x)) xs
 sum_by-map f g xs = sym (sum-map f (map g xs)) ∙ ap sum (map-map f g xs) ∙ sum-map (λ x. f (g x)) xs
 
 -- the sums of lists whose values under f are the same
 pub sum_by_same : {A : Type 0} (f : A → ℕ) (xs ys : List A) → map f xs ≡ map f ys → sum_by f xs ≡ sum_by f ys
 sum_by_same f xs ys e = sym (sum-map f xs) ∙ ap sum e ∙ sum-map f ys
-
--- an element added at the end of a list comes first when the list is reversed
-pub one_more_behind : {A : Type 0} (before : List A) (x : A) (after : List A)
-    → (before ++ x ∷ []) ++ reverse after ≡ before ++ reverse (after ++ x ∷ [])
-one_more_behind before x after = append_assoc before (x ∷ []) (reverse after)
-    ∙ ap (λ l. before ++ l) (sym (reverse-append after (x ∷ [])))
 
 pub nothing_at : {A : Type 0} (n j : ℕ) → get_or (replicate {A = List A} n []) j [] ≡ []
 nothing_at zero j = refl

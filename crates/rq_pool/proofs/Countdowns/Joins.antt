@@ -3,10 +3,11 @@ use Rattle.std.proofs.Common.{◌≡◌, ◌⊎◌, ℕ, zero, suc, ◌+◌, ◌
 use Rattle.std.proofs.Common.{◌∙◌, subst, ⊎_elim, inl, inr, arith, Option, Some, None}
 use Rattle.std.proofs.lemmas.List.{get_or-replicate}
 use Rattle.rq_pool.proofs.Countdowns.Words.{some, some-injective, some-ne-none, dite, ℕ_discrete, get_elem?, State}
-use Rattle.rq_pool.proofs.Countdowns.Words.{opening, Splits, Joins, set_here, set_else, at_longer, Made, View, Terms, total}
-use Rattle.rq_pool.proofs.Countdowns.Words.{Phase, clear, flag, is_shut, place, count, here, parts, stands_at, names}
-use Rattle.rq_pool.proofs.Countdowns.Words.{made_for, times_told, lasts, view, HasMade, HasLast, SomeView, AtSource, Knows}
-use Rattle.rq_pool.proofs.Countdowns.Words.{Held, left_of, right_of, both_of, spent_view, length-replicate}
+use Rattle.rq_pool.proofs.Countdowns.Words.{opening, Splits, Joins, set_here, set_else, at_longer, Made, View, Terms}
+use Rattle.rq_pool.proofs.Countdowns.Words.{total, Phase, clear, flag, is_shut, place, count, here, parts, stands_at}
+use Rattle.rq_pool.proofs.Countdowns.Words.{names, made_for, times_told, lasts, view, HasMade, HasLast, SomeView}
+use Rattle.rq_pool.proofs.Countdowns.Words.{AtSource, Knows, Held, left_of, right_of, both_of, spent_view}
+use Rattle.rq_pool.proofs.Countdowns.Words.{length-replicate}
 use Rattle.rq_pool.proofs.Totals.{read, total_set, total_append, Each, each_set, each_snoc}
 use Rattle.rq_pool.proofs.Countdowns.Views.{some_set, knows_still, knows_spent, told_still}
 

@@ -19,15 +19,3 @@ returns-in-Some-clause-some c =
     (c.in-Some.x ∷ []) (stolen c.steal.new.self) c.loop-j.j c.requires.holds
     (λ e. c.if-j-self.false (e ∙ sym inv.number))
     (let l = ap length inv.stolens in omega (arith, length-map c.loop-j.self.sources.items stolen)) is less)
-
-pub loop-j-preserved : goal.loop-j-preserved
-loop-j-preserved c = record {
-  taken = c.loop-j.invariant.taken;
-  number = c.loop-j.invariant.number;
-  owner = c.loop-j.invariant.owner;
-  count = c.loop-j.invariant.count;
-  sources = map-set_same source_id c.loop-j.self.sources.items c.loop-j.j c.steal.new.self c.index_mut.result.now
-      (c.steal.ensures.same ∙ ap source_id c.index_mut.ensures.value) ∙ c.loop-j.invariant.sources;
-  stolens = map-set_same stolen c.loop-j.self.sources.items c.loop-j.j c.steal.new.self c.index_mut.result.now
-      (c.in_default.ensures.none ∙ ap stolen c.index_mut.ensures.value) ∙ c.loop-j.invariant.stolens;
-}
