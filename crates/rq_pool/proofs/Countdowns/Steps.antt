@@ -361,7 +361,8 @@ module _ {T K : Type 0} (fits : K → ℕ → T → Type 0) (terms : Terms K) wh
       let nothing : Option T = None in let g = giving s.homes [] s.homes nothing 0 refl refl in
       let c = has ∙ ap (λ n. indexed 0 (replicate n nothing)) (sym wide) in
       let give : Act (Option T) = give_all (length s.homes) in let words : List ℕ =
-      set s.words 0 (get_or s.words 0 0) in let homes : List (maybe.Option (Option T)) = homes_after s.homes me.1 give in
+      set s.words 0 (get_or s.words 0 0) in let homes : List (maybe.Option (Option T)) =
+      homes_after s.homes me.1 give in
       let same = sym (set_again s.views id me.0 at) in (
         me.0,
         give,

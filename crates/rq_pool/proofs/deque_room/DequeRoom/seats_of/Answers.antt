@@ -20,10 +20,12 @@ loop-owner-preserved c = record {
       let long : length c.loop-owner.decks ≡ length ids =
       sym (length-map c.loop-owner.decks deck_id) ∙ ap length before.same in
       let whole = (All-pop (IsWhole (length c.args.decks.now)) _ rest (Some owner) popped before.whole).1 in
-      rw c.push_reserved.ensures.items (All-push (IsSeatBeside ids) c.loop-owner.seats.items c.beside.result before.seats
+      rw c.push_reserved.ensures.items (All-push (IsSeatBeside ids) c.loop-owner.seats.items c.beside.result
+      before.seats
       (c.beside.ensures.seat ids (rw number at next.0) (drawn.sources ∙ before.same)
       (drawn.fresh ∙ ap (λ k. replicate k []) long) (subst (λ k. IsWhole k owner) (sym count) whole)
-      c.in_ok-taken.ensures.items (let s = c.requires.total in let k = c.in_ok-taken.ensures.capacity in omega arith))));
+      c.in_ok-taken.ensures.items (let s = c.requires.total in let k = c.in_ok-taken.ensures.capacity in
+      omega arith))));
   fresh = first_of (search rules, grind (arith, common_steps), grind (arith, elements));
   reserved = grind (arith, common_steps);
 }
