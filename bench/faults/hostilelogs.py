@@ -282,6 +282,14 @@ def registrants_at(n: int) -> Records:
     return told_by([], (newcomer(0, name) for name in sorted(map(name_of, range(n)))), [], [])
 
 
+def short_names_at(n: int) -> Records:
+    """A checkpoint of registrants of two letters, in as many queues as there may be: most members for the fewest bytes."""
+    names = sorted(map(bytes, itertools.product(LETTERS, repeat=2)))[: n // 4096]
+    queues = [definition(b"q%d" % queue) for queue in range(4096)]
+    registered = (newcomer(queue, name) for queue in range(4096) for name in names)
+    yield checkpoint(state((2**31, 2**31, 0, 0), queues, [], registered, [], []))
+
+
 def units_at(n: int) -> Records:
     """A checkpoint of open units."""
     return told_by((struct.pack(">Q", unit) for unit in range(1, 1 + n)), [], [], [])
@@ -304,4 +312,4 @@ IN_VERSION_TWO = [chained, all_killed, none_killed, killed_and_new, nothing_kill
 # Records that leave as much behind as they can.
 SMALL = [enqueued_by_one, enqueued_by_nobody, enqueued_one_by_one, enqueued_and_open, all_registered]
 # Restarts begin at their first record too.
-TOLD_AT = [registrants_at, units_at, elements_at, notes_at]
+TOLD_AT = [registrants_at, short_names_at, units_at, elements_at, notes_at]
