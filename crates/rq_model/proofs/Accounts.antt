@@ -12,11 +12,11 @@ use Rattle.rq_model.specs.States.{Free, Element, Registrant, State, empty, is_fr
 use Rattle.rq_model.specs.WellFormed.{IsWellFormed, IsElement}
 use Rattle.rq_model.specs.StateSpelling.{Fits, FitsDefinition, FitsRegistrant}
 use Rattle.rq_model.specs.WorkedLogs.{text_made}
-use Rattle.rq_model.specs.FateReports.{element_lines, ReportAccounts, CheckpointReportAccounts}
-use Rattle.rq_model.specs.FateReports.{BeginningReportAccounts}
+use Rattle.rq_model.specs.FateLaws.{element_lines, ReportAccounts, CheckpointReportAccounts}
+use Rattle.rq_model.specs.FateLaws.{BeginningReportAccounts}
 use Rattle.rq_model.specs.Fates.{requests, done, kills}
 use Rattle.rq_model.specs.Reports.{IsText}
-use Rattle.rq_model.specs.Tails.{IsTail}
+use Rattle.rq_model.specs.Closing.{IsTail}
 use Rattle.rq_model.specs.Frames.{AreBytes}
 use Rattle.rq_model.specs.Fates.{shown}
 use Rattle.rq_model.proofs.Lists.{each_weaker, each_append, each_both}
@@ -34,8 +34,8 @@ use Rattle.rq_model.specs.Machine.{all_lawful, latest, run, final}
 use Rattle.rq_model.specs.Fronts.{IsFront, Restarted, IsRestart}
 use Rattle.rq_model.specs.Fates.{with_aborts, tries_at, hears}
 use Rattle.rq_model.specs.FateLaws.{IsAsEnqueued}
-use Rattle.rq_model.specs.FateReports.{Accounts, RestartAccounts, BeginningAccounts, ClosedAccounts}
-use Rattle.rq_model.specs.FateReports.{CheckpointAccounts}
+use Rattle.rq_model.specs.FateLaws.{Accounts, RestartAccounts, BeginningAccounts, ClosedAccounts}
+use Rattle.rq_model.specs.FateLaws.{CheckpointAccounts}
 use Rattle.rq_model.proofs.Longest.{one_front, front_ends, one_restart}
 use Rattle.rq_model.proofs.Found.{front_restart}
 use Rattle.rq_model.proofs.Balance.{one_fate, all_are_free, runs_end}

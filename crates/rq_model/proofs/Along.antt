@@ -6,11 +6,11 @@ use Rattle.rq_model.specs.Frames.{header, start, log_of, frames_of, last_of, bef
 use Rattle.rq_model.specs.States.{empty}
 use Rattle.rq_model.specs.Machine.{run}
 use Rattle.rq_model.specs.Fronts.{Begins, IsWhy, IsFront}
-use Rattle.rq_model.specs.Growing.{AlongIsFront, WindowGoesOn}
+use Rattle.rq_model.specs.Appending.{AlongIsFront, WindowGoesOn}
 use Rattle.rq_model.proofs.Longest.{front_stops, last_of_join, log_joins, log_ends}
-use Rattle.rq_model.proofs.Linked.{linked}
+use Rattle.rq_model.proofs.FromCheckpoints.{linked}
 use Rattle.rq_model.proofs.Restarts.{header_long, follows, both_follow, why_joins}
-use Rattle.rq_model.proofs.Continued.{goes_on}
+use Rattle.rq_model.proofs.Carried.{goes_on}
 
 pub along_is_front : AlongIsFront
 along_is_front b version records rest why h short =

@@ -1,18 +1,129 @@
--- Records after a front, and what a crash leaves of them.
-use Rattle.std.proofs.Common.{◌≡◌, ℕ, ◌≤◌, List, [], ◌∷◌, ◌++◌, length, take, drop, refl, sym, ap}
-use Rattle.std.proofs.Common.{subst, ◌∙◌, append_assoc, arith}
+-- Records after a front, what a crash leaves of them, and the front of a log that grows.
+use Rattle.std.proofs.Common.{◌≡◌, inl, inr, ℕ, suc, ◌+◌, ◌<◌, ◌≤◌, List, [], ◌∷◌, ◌++◌, length, take, drop, refl, sym}
+use Rattle.std.proofs.Common.{ap, subst, ◌∙◌, append_assoc, arith}
 use Rattle.std.specs.List.{AllByRecursion}
-use Rattle.std.proofs.lemmas.List.{length-append, append-nil, take-append-drop}
+use Rattle.std.proofs.lemmas.Bool.{cases_lt}
+use Rattle.std.proofs.lemmas.List.{length-append, length-drop, take_at, drop_at, take-append-le, drop-append-le}
+use Rattle.std.proofs.lemmas.List.{take-append-drop, nil_from_length, append-nil}
+use Rattle.byteorder.specs.Numbers.{big_from-append}
 use Rattle.rq_model.specs.Records.{Record, Version}
 use Rattle.rq_model.specs.Spelling.{body_of, IsRecord}
-use Rattle.rq_model.specs.Frames.{log_limit, digest, header, start, log_of, frames_of, last_of, Whole, IsRest}
+use Rattle.rq_model.specs.Frames.{digest, frame, frames_of, last_of, stated, Rest, Whole, Cut, IsRest, log_limit}
+use Rattle.rq_model.specs.Frames.{header, start, log_of}
 use Rattle.rq_model.specs.States.{empty}
 use Rattle.rq_model.specs.Machine.{run}
 use Rattle.rq_model.specs.Fronts.{Begins, Ends, IsFront}
-use Rattle.rq_model.specs.Appending.{MayFollow, CrashInFrames, CrashWhileAppending, AppendedIsFront, WrittenStays}
-use Rattle.rq_model.proofs.Longest.{same_first, front_stops, one_header, last_of_join}
+use Rattle.rq_model.specs.Appending.{IsCleanEnd, MayFollow, CrashInFrames, CrashWhileAppending, AppendedIsFront}
+use Rattle.rq_model.specs.Appending.{WrittenStays, FrontGrows, FrontStays}
+use Rattle.rq_model.proofs.RecordReaders.{body_fits}
+use Rattle.rq_model.proofs.Runs.{frame_long, frame_reads}
+use Rattle.rq_model.proofs.Longest.{same_first, front_stops, one_header, last_of_join, front_whole}
 use Rattle.rq_model.proofs.Restarts.{both_follow, parts_follow, begins_join}
-use Rattle.rq_model.proofs.Torn.{torn}
+
+-- whole frames, as many as there are, and the cut part of the next
+pub record IsTorn (p part : List ℕ) (xs : List Record) : Type 0 where
+  pub count : ℕ
+  pub rest : List ℕ
+  pub why : Rest
+  pub few : count ≤ length xs
+  pub next : count < length xs → length part < length (frames_of p (take (suc count) xs))
+  pub whole : part ≡ frames_of p (take count xs) ++ rest
+  pub ends : IsRest (last_of p (take count xs)) rest why
+  pub clean : IsCleanEnd why
+
+-- how long the frames of the first records are
+more_long : (p : List ℕ) (x : Record) (xs : List Record) (k : ℕ) → length (frames_of p (take (suc k) (x ∷ xs)))
+    ≡ 36 + length (body_of x) + length (frames_of (digest p (body_of x)) (take k xs))
+more_long p x xs k =
+    let others = frames_of (digest p (body_of x)) (take k xs) in
+    omega (arith, length-append (frame p (body_of x)) others, frame_long p (body_of x))
+
+-- a frame, and others after it
+taken : (n : ℕ) (f part rest p body : List ℕ) (xs : List Record) → f ≡ take n part
+    → drop n part ≡ frames_of (digest p body) xs ++ rest → part ≡ (f ++ frames_of (digest p body) xs) ++ rest
+taken n f part rest p body xs front behind =
+    let joined : take n part ++ drop n part ≡ f ++ (frames_of (digest p body) xs ++ rest) =
+    λ i. sym front i ++ behind i in
+    sym (take-append-drop n part) ∙ joined ∙ sym (append_assoc f (frames_of (digest p body) xs) rest)
+
+pub torn : (version : Version) (p part missing : List ℕ) (xs : List Record) → AllByRecursion (IsRecord version) xs
+    → frames_of p xs ≡ part ++ missing → IsTorn p part xs
+torn version p part missing [] is e =
+    let none : length part ≡ 0 = omega (arith, ap length e, length-append part missing) in
+    record {
+      count = 0;
+      rest = part;
+      why = Whole;
+      few = omega arith;
+      next = λ l. absurd (omega (arith, l));
+      whole = refl;
+      ends = nil_from_length part none;
+      clean = inl refl;
+    }
+torn version p part missing (x ∷ xs) is e =
+    let n = length (body_of x) in
+    let f = frame p (body_of x) in
+    let others = frames_of (digest p (body_of x)) xs in
+    let long = frame_long p (body_of x) in
+    let first = more_long p x xs 0 in
+    elim (cases_lt (length part) (36 + n)) [
+      | inl short ↦
+          elim (cases_lt 0 (length part)) [
+            | inl some ↦
+                record {
+                  count = 0;
+                  rest = part;
+                  why = Cut;
+                  few = omega arith;
+                  next = λ l. omega (arith, short, first);
+                  whole = refl;
+                  ends = (
+                    some,
+                    elim (cases_lt (length part) 4) [
+                      | inl few ↦ inl few
+                      | inr four ↦
+                          let fit = body_fits version x is.0 in
+                          let number : stated part ≡ n = sym (big_from-append 4 part missing four) ∙ ap stated (sym e)
+                          ∙ (frame_reads p (body_of x) others fit).stated_is in
+                          inr (
+                            subst (λ (k : ℕ). (1 ≤ k) × (k ≤ 268435456)) (sym number) fit,
+                            omega (arith, short, number),
+                          )
+                    ],
+                  );
+                  clean = inr refl;
+                }
+            | inr none ↦ record {
+              count = 0;
+              rest = part;
+              why = Whole;
+              few = omega arith;
+              next = λ l. omega (arith, short, first);
+              whole = refl;
+              ends =
+                  nil_from_length part (omega (arith, none));
+              clean = inl refl;
+            }
+          ]
+      | inr whole ↦
+          let front = sym (take_at f others (36 + n) long) ∙ ap (take (36 + n)) e
+          ∙ take-append-le (36 + n) part missing whole in
+          let behind = sym (drop_at f others (36 + n) long) ∙ ap (drop (36 + n)) e
+          ∙ drop-append-le (36 + n) part missing whole in
+          let more = torn version (digest p (body_of x)) (drop (36 + n) part) missing xs is.1 behind in
+          record {
+            count = suc more.count;
+            rest = more.rest;
+            why = more.why;
+            few = omega (arith, more.few);
+            next = λ l.
+                let inner = more.next (omega (arith, l)) in
+                omega (arith, inner, more_long p x xs (suc more.count), length-drop (36 + n) part, whole);
+            whole = taken _ f part _ p _ _ front more.whole;
+            ends = more.ends;
+            clean = more.clean;
+          }
+    ]
 
 pub crash_in_frames : CrashInFrames
 crash_in_frames version s p rs xs part missing old new parts =
@@ -122,3 +233,26 @@ written_stays version w records found more rest old front =
     let (others, same) = stays_by version w records found front.bytes more rest heads.0 old (sym heads.1) long
     front.longest.begins.records front.longest.begins.whole in
     (sym heads.0, others, same)
+
+pub front_grows : FrontGrows
+front_grows b more version records xs rest left why front short begins ends =
+    let p = start version in
+    let bytes = front.bytes ++ more in
+    let parts : bytes ≡ frames_of p records ++ (rest ++ more) =
+    ap (λ (z : List ℕ). z ++ more) front.longest.begins.whole ∙ append_assoc (frames_of p records) rest more in
+    let both = subst (λ (z : List ℕ). Begins version empty p z (records ++ xs) left) (sym parts)
+    (begins_join version empty p (rest ++ more) left records xs (front_follows b version records rest front) begins) in
+    record {
+      short = short;
+      bytes = bytes;
+      whole = ap (λ (z : List ℕ). z ++ more) front.whole ∙ append_assoc (header version) front.bytes more;
+      longest = front_stops version empty p bytes left (records ++ xs) why both ends;
+    }
+
+pub front_stays : FrontStays
+front_stays b more version w records found rest left front grown =
+    let whole : b ++ more ≡ log_of version records ++ (rest ++ more) =
+    ap (λ (z : List ℕ). z ++ more) (front_whole b version records rest front)
+    ∙ append_assoc (log_of version records) rest more in
+    written_stays version w records found (rest ++ more) left (front_follows b version records rest front)
+    (subst (λ (z : List ℕ). IsFront z w found left) whole grown)

@@ -1,4 +1,5 @@
--- A queue by itself makes of its operations and of what arrives what the whole machine makes of it.
+-- A queue by itself makes of its operations and of what arrives what the whole machine makes of it,
+-- one operation or one arrival at a time.
 use Rattle.std.proofs.Common.{◌≡◌, ℕ, ◌+◌, ◌<◌, ◌≤◌, Bool, true, false, cond, List, [], ◌∷◌, ◌++◌, map, refl, sym, ap}
 use Rattle.std.proofs.Common.{◌∙◌, subst, arith}
 use Rattle.std.specs.Prelude.{◌==◌, nat_lt, nat_le, ⊤}
@@ -13,7 +14,7 @@ use Rattle.rq_model.specs.Queues.{Part, defined_by, Op, touches, touching_from, 
 use Rattle.rq_model.specs.Queues.{moves_of, arrivals_of, moves, arrivals}
 use Rattle.rq_model.specs.Redo.{act, sent, receive, put_all, before as before_place, from as from_place, redone}
 use Rattle.rq_model.specs.Redo.{all_sent}
-use Rattle.rq_model.specs.Laws.{IsSound, Projection}
+use Rattle.rq_model.specs.Laws.{IsSound, Projection, RedoSteps}
 use Rattle.rq_model.proofs.Lists.{by_cases, filter_all, filter_none, each_weaker, each_of, each_append, each_map}
 use Rattle.rq_model.proofs.Lists.{each_filter}
 use Rattle.rq_model.proofs.Steps.{core, Knows, known_by, step_part, step_moves}
@@ -211,3 +212,15 @@ projection version s rs q sound lawful = (
       ∙ ap (λ (ds : List Definition). core (definition_at ds q) (run s rs) q) (sym (run_definitions s rs)),
   project_moves _ s [] s rs q _ refl sound (knows_start s q) lawful,
 )
+
+arrives : (p : Part) (op : Op) (ops : List Op) (m : Move) (ms : List Move) → m.place < op.place
+    → (redone p (op ∷ ops) (m ∷ ms) ≡ redone (receive (m ∷ []) p) (op ∷ ops) ms)
+    × (all_sent p (op ∷ ops) (m ∷ ms) ≡ all_sent (receive (m ∷ []) p) (op ∷ ops) ms)
+arrives p op ops m ms l = grind arith
+
+pub redo_steps : RedoSteps
+redo_steps = record {
+  arrives = arrives;
+  acts = λ p op ops ms h. (first_op true op.place op.does p ops ms h, first_sent true op.place op.does p ops ms h);
+  ends = λ p m ms. (refl, refl);
+}

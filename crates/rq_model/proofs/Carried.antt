@@ -1,15 +1,32 @@
--- At a checkpoint: the front of a true one, and a log that grows after one.
-use Rattle.std.proofs.Common.{ℕ, ◌-◌, ◌≤◌, List, [], ◌∷◌, ◌++◌, length, take, drop, ap, ◌∙◌, arith}
-use Rattle.std.proofs.lemmas.List.{append-nil, length-drop, take-append-le, drop-append-le}
+-- At a checkpoint: the front of a true one, a log that grows after one, and one that is carried on in another file.
+use Rattle.std.proofs.Common.{ℕ, ◌-◌, ◌≤◌, List, [], ◌∷◌, ◌++◌, length, take, drop, ap, ◌∙◌, arith, ◌≡◌, ◌+◌, refl, sym}
+use Rattle.std.proofs.Common.{subst, append_assoc, inl, inr}
+use Rattle.std.proofs.lemmas.List.{append-nil, length-drop, take-append-le, drop-append-le, length-append, take_at}
+use Rattle.std.proofs.lemmas.List.{length-take, append_cancel_left}
+use Rattle.std.proofs.lemmas.Bool.{cases_lt}
+use Rattle.byteorder.specs.Numbers.{big_from-append}
 use Rattle.rq_model.specs.Records.{Record, Checkpoint, Version}
-use Rattle.rq_model.specs.Frames.{frames_of, before, HasHeader}
-use Rattle.rq_model.specs.States.{State}
-use Rattle.rq_model.specs.Fronts.{Ends}
-use Rattle.rq_model.specs.Carrying.{IsFrontAt, TrueHasFront, CrashWhileCarriedGrows}
-use Rattle.rq_model.proofs.Linked.{IsLinked}
-use Rattle.rq_model.proofs.Restarts.{follows}
-use Rattle.rq_model.proofs.FromCheckpoints.{front_at, true_front, restart_at}
-use Rattle.rq_model.proofs.Appended.{crash_in_frames}
+use Rattle.rq_model.specs.Spelling.{body_of}
+use Rattle.rq_model.specs.Frames.{frames_of, before, HasHeader, log_limit, header, start, last_of, stated, Length}
+use Rattle.rq_model.specs.Frames.{IsBodyLength, Whole, frame, body_in}
+use Rattle.rq_model.specs.States.{State, empty}
+use Rattle.rq_model.specs.Machine.{run}
+use Rattle.rq_model.specs.StateSpelling.{state_bytes, SpellsState}
+use Rattle.rq_model.specs.Fronts.{Ends, Begins, IsWhy, Restarted, restarted, IsLongest}
+use Rattle.rq_model.specs.Checkpoints.{IsRestartAt}
+use Rattle.rq_model.specs.Appending.{MayFollow}
+use Rattle.rq_model.specs.Carrying.{IsFrontAt, TrueHasFront, CrashWhileCarriedGrows, moved, moved_to, when_moved}
+use Rattle.rq_model.specs.Carrying.{MovesOn, GapIsLoud, begun_anew, StartsAnew, IsCarriedGap, FrontGoesOn}
+use Rattle.rq_model.specs.Carrying.{LaterSaysTheSame, FilesJoin, AnewJoins}
+use Rattle.rq_model.proofs.RecordReaders.{body_fits}
+use Rattle.rq_model.proofs.Runs.{frame_reads, frames_assoc}
+use Rattle.rq_model.proofs.Longest.{front_stops, log_ends, frames_apart}
+use Rattle.rq_model.proofs.StateCodes.{one_state}
+use Rattle.rq_model.proofs.FromCheckpoints.{IsLinked, linked, before_long, apart}
+use Rattle.rq_model.proofs.Restarts.{follows, header_long, front_spelt, run_join, parts_follow, later_longest}
+use Rattle.rq_model.proofs.Restarts.{spelt_after, why_parts, begins_join}
+use Rattle.rq_model.proofs.FromCheckpoints.{front_at, true_front, restart_at, ends_at, true_is_same}
+use Rattle.rq_model.proofs.Appended.{crash_in_frames, front_follows, longer_begins}
 
 pub true_has_front : TrueHasFront
 true_has_front b offset (records, kept, h, spelled) = (
@@ -60,3 +77,222 @@ crash_while_carried_grows b offset version s kept after xs part missing h new pa
       restart = restart_at (b ++ part) offset version s kept (after ++ take g.count xs) p g.rest (Ends g.why) left
           grown.ahead g.ends;
     }
+
+-- what is in such a file
+pub record GoesOn (version : Version) (new p bytes : List ℕ) (there : ℕ) : Type 0 where
+  pub header : HasHeader version new
+  pub at : IsLinked new there p bytes
+  pub size : length new ≡ there + length bytes
+
+pub goes_on : (version : Version) (p bytes gap : List ℕ) → length p ≡ 32
+    → GoesOn version (header version ++ (gap ++ (p ++ bytes))) p bytes (moved_to gap)
+goes_on version p bytes gap long =
+    let left = header version ++ gap in
+    let parts = sym (append_assoc (header version) gap (p ++ bytes)) in
+    let left_long = length-append (header version) gap in
+    record {
+      header = take_at (header version) (gap ++ (p ++ bytes)) 40 (header_long version);
+      at = linked (header version ++ (gap ++ (p ++ bytes))) left p [] bytes (moved_to gap) long parts
+          (omega (arith, left_long, header_long version));
+      size = omega (
+        arith,
+        ap length parts,
+        length-append left (p ++ bytes),
+        length-append p bytes,
+        left_long,
+        header_long version,
+        long,
+      );
+    }
+
+-- A checkpoint and all bytes after it, moved.
+
+moved_goes : (b : List ℕ) (offset : ℕ) (version : Version) (s : State) (kept : List ℕ) (after : List Record)
+    (rest gap : List ℕ) → IsFrontAt b offset version s kept after rest
+    → GoesOn version (moved version b offset gap) (before offset b) (drop offset b) (moved_to gap)
+moved_goes b offset version s kept after rest gap h =
+    let past = h.checkpoint.past_header in
+    goes_on version (before offset b) (drop offset b) gap
+    (before_long b offset (omega (arith, past)) (within b offset version s kept after rest h))
+
+moved_front : (b : List ℕ) (offset : ℕ) (version : Version) (s : State) (kept : List ℕ) (after : List Record)
+    (rest gap : List ℕ) → IsFrontAt b offset version s kept after rest
+    → length (moved version b offset gap) ≤ log_limit
+    → IsFrontAt (moved version b offset gap) (moved_to gap) version s kept after rest
+moved_front b offset version s kept after rest gap h short =
+    let goes = moved_goes b offset version s kept after rest gap h in
+    front_at (moved version b offset gap) (moved_to gap) version s kept after (before offset b) (drop offset b) rest short
+    goes.header (omega arith) goes.at h.spells h.front
+
+moved_restart : (b : List ℕ) (offset : ℕ) (version : Version) (s : State) (kept : List ℕ) (after : List Record)
+    (rest gap : List ℕ) (r : Restarted) → IsFrontAt b offset version s kept after rest
+    → length (moved version b offset gap) ≤ log_limit → IsRestartAt b offset r
+    → IsRestartAt (moved version b offset gap) (moved_to gap) (when_moved offset (moved_to gap) r)
+moved_restart b offset version s kept after rest gap r h short k =
+    let xs : List Record = Checkpoint kept ∷ after in
+    let t = run s xs in
+    let p = before offset b in
+    let new = moved version b offset gap in
+    let there = moved_to gap in
+    let high = within b offset version s kept after rest h in
+    let goes = moved_goes b offset version s kept after rest gap h in
+    let ended = ends_at b offset version s kept after rest r h k in
+    let front = moved_front b offset version s kept after rest gap h short in
+    let few : length rest ≤ length b - offset =
+    omega (arith, ap length h.front.begins.whole, length-append (frames_of p xs) rest, length-drop offset b) in
+    let used : length b - length rest + there - offset ≡ length new - length rest =
+    omega (arith, goes.size, few, high, length-drop offset b) in
+    let total : length b + there - offset ≡ length new = omega (arith, goes.size, high, length-drop offset b) in
+    let answer : when_moved offset there r ≡ restarted t (length rest) (length new) ended.why =
+    ap (when_moved offset there) ended.answer
+    ∙ (λ i. record (restarted t (length rest) (length new) ended.why) { used = used i; total = total i }) in
+    subst (IsRestartAt new there) (sym answer)
+    (restart_at new there version s kept after p rest ended.why front goes.at.ahead ended.ends)
+
+pub moves_on : MovesOn
+moves_on = record {
+  front = moved_front;
+  restart = moved_restart;
+  truth = λ b offset version s kept after rest gap r h short true_here restart.
+      moved_restart b offset version s kept after rest gap r h short (true_is_same b offset r true_here restart);
+}
+
+-- A log that goes on from a state.
+
+pub starts_anew : StartsAnew
+starts_anew version p s gap long spells small short =
+    let kept = state_bytes s in
+    let xs : List Record = Checkpoint kept ∷ [] in
+    let bytes = frames_of p xs in
+    let goes = goes_on version p bytes gap long in
+    let begins : Begins version s p bytes xs [] =
+    record { records = (small, tt); lawful = refl; whole = sym (append-nil bytes) } in
+    let front = front_at (begun_anew version p s gap) (moved_to gap) version s kept [] p bytes [] short goes.header
+    (omega arith) goes.at spells (front_stops version s p bytes [] xs (Ends Whole) begins refl) in (
+      front,
+      goes.at.ahead,
+      restart_at (begun_anew version p s gap) (moved_to gap) version s kept [] p [] (Ends Whole) front goes.at.ahead refl,
+    )
+
+pub front_goes_on : FrontGoesOn
+front_goes_on b version records rest gap front small short =
+    let (kept, log_end, size) = log_ends version records in
+    (starts_anew version (last_of (start version) records) (run empty records) gap size
+    (front_spelt b version records rest front) small short).0
+
+-- A gap that is no frame.
+pub gap_is_loud : GapIsLoud
+gap_is_loud version gap bytes long none short =
+    let p = start version in
+    let all = gap ++ bytes in
+    let same : stated all ≡ stated gap = big_from-append 4 gap bytes long in
+    let why : IsWhy version empty p all (Ends Length) = (
+      omega (arith, long, length-append gap bytes),
+      λ fits. none (subst IsBodyLength same fits),
+    ) in
+    let begins : Begins version empty p all [] all = record { records = tt; lawful = refl; whole = refl } in
+    record {
+      version = version;
+      records = [];
+      rest = all;
+      why = Ends Length;
+      front = record {
+        short = short;
+        bytes = all;
+        whole = refl;
+        longest = front_stops version empty p all all [] (Ends Length) begins why;
+      };
+      ends = why;
+      answer = refl;
+    }
+
+pub is_carried_gap : IsCarriedGap
+is_carried_gap = record { there = refl; room = omega arith; loud = λ fits. omega (arith, fits.1) }
+
+pub later_says_the_same : LaterSaysTheSame
+later_says_the_same b offset version s kept earlier again after rest r h spelled low k =
+    let p = before offset b in
+    let rs : List Record = Checkpoint kept ∷ earlier in
+    let xs : List Record = Checkpoint again ∷ after in
+    let t = run s rs in
+    let q = last_of p rs in
+    let bytes = frames_of q xs ++ rest in
+    let there = offset + length (frames_of p rs) in
+    let past = h.checkpoint.past_header in
+    let high = within b offset version s kept (earlier ++ xs) rest h in
+    let old = (parts_follow version s rs xs (follows version s p (drop offset b) rest (rs ++ xs) h.front.begins)).0 in
+    let left = take (offset - 32) b in
+    let whole = apart b offset (omega (arith, past))
+    ∙ ap (λ (z : List ℕ). left ++ (p ++ z)) (h.front.begins.whole ∙ frames_apart p rest rs xs) in
+    let at = linked b left p rs bytes there (before_long b offset (omega (arith, past)) high) whole
+    (omega (arith, length-take (offset - 32) b, past, high)) in
+    let spells = subst (SpellsState version t) (sym spelled)
+    (spelt_after version s rs h.spells.keeps h.spells.fits h.spells.deep old low) in
+    let front = front_at b there version t again after q bytes rest h.short h.header (omega (arith, past)) at spells
+    (later_longest version s p (drop offset b) rest rs xs h.front) in
+    let ended = ends_at b offset version s kept (earlier ++ xs) rest r h k in
+    let ends = why_parts version s p rest rs xs ended.why ended.ends in
+    let answer = ended.answer ∙ ap (λ (z : State). restarted z (length rest) (length b) ended.why) (run_join s rs xs) in (
+      front,
+      subst (IsRestartAt b there) (sym answer) (restart_at b there version t again after q rest ended.why front at.ahead ends),
+    )
+
+-- A longest list that begins earlier.
+pub longest_joins : (version : Version) (s : State) (p bytes rest : List ℕ) (rs xs : List Record) → MayFollow version s rs
+    → IsLongest version (run s rs) (last_of p rs) bytes xs rest
+    → IsLongest version s p (frames_of p rs ++ bytes) (rs ++ xs) rest
+longest_joins version s p bytes rest rs xs old h =
+    let q = last_of p rs in
+    record {
+      begins = begins_join version s p bytes rest rs xs old h.begins;
+      longest = λ others after b. elim (cases_lt (length others) (length rs)) [
+        | inl few ↦ omega (arith, few, length-append rs xs)
+        | inr many ↦
+            let (more, same) = longer_begins version p bytes after rs others old.records b.records many b.whole in
+            let all = subst (MayFollow version s) same (follows version s p (frames_of p rs ++ bytes) after others b) in
+            let new = (parts_follow version s rs more all).1 in
+            let whole : frames_of p rs ++ bytes ≡ frames_of p rs ++ (frames_of q more ++ after) =
+            b.whole ∙ ap (λ (z : List Record). frames_of p z ++ after) same ∙ frames_apart p after rs more in
+            let behind : Begins version (run s rs) q bytes more after =
+            record {
+              records = new.records;
+              lawful = new.lawful;
+              whole = append_cancel_left (frames_of p rs) _ _ whole;
+            } in
+            omega (arith, h.longest more after behind, ap length same, length-append rs more, length-append rs xs)
+      ];
+    }
+
+pub files_join : FilesJoin
+files_join b offset version s kept records after rest old front linked spelled =
+    let t = run empty records in
+    let is : s ≡ t = one_state version version s t kept front.spells spelled in
+    let xs : List Record = Checkpoint kept ∷ after in
+    let p = last_of (start version) records in
+    let bytes = drop offset b in
+    let linked_front = subst (λ (q : List ℕ). IsLongest version s q bytes xs rest) linked front.front in
+    let here = subst (λ (z : State). IsLongest version z p bytes xs rest) is linked_front in (
+      longest_joins version empty (start version) bytes rest records xs old here,
+      ap (λ (z : State). run z xs) is ∙ sym (run_join empty records xs),
+    )
+
+-- the checkpoint that the file begins with is read again, whatever follows it
+pub anew_joins : AnewJoins
+anew_joins b new more version records rest gap s kept after left front small whole h =
+    let p = last_of (start version) records in
+    let t = run empty records in
+    let first = Checkpoint (state_bytes t) in
+    let made = frames_of p (first ∷ []) in
+    let (log, log_end, long) = log_ends version records in
+    let goes = goes_on version p (made ++ more) gap long in
+    let parts : new ≡ header version ++ (gap ++ (p ++ (made ++ more))) =
+    whole ∙ append_assoc (header version) (gap ++ (p ++ made)) more
+    ∙ ap (λ (z : List ℕ). header version ++ z) (append_assoc gap (p ++ made) more)
+    ∙ ap (λ (z : List ℕ). header version ++ (gap ++ z)) (append_assoc p made more) in
+    let ahead : before (moved_to gap) new ≡ p = ap (before (moved_to gap)) parts ∙ goes.at.ahead in
+    let behind : drop (moved_to gap) new ≡ frame p (body_of first) ++ more =
+    ap (drop (moved_to gap)) parts ∙ goes.at.behind ∙ frames_assoc p (body_of first) [] more in
+    let body = (frame_reads p (body_of first) more (body_fits version first small)).body_is in
+    let is : kept ≡ state_bytes t = ap (drop 1) (sym h.checkpoint.body ∙ ap body_in behind ∙ body) in
+    files_join new (moved_to gap) version s kept records after left (front_follows b version records rest front) h ahead
+    (subst (SpellsState version t) (sym is) (front_spelt b version records rest front))

@@ -1,30 +1,32 @@
--- In bytes with a header the front is found, and why it ends.
+-- In bytes with a header the front is found, and why it ends; also from a checkpoint that spells a state.
 use Rattle.std.proofs.Common.{◌≡◌, ◌⊎◌, inl, inr, ℕ, zero, suc, ◌+◌, ◌≤◌, true, false, List, [], ◌∷◌, ◌++◌, length}
 use Rattle.std.proofs.Common.{take, drop, Option, Some, None, refl, sym, ap, subst, ◌∙◌, arith}
 use Rattle.std.proofs.lemmas.Bool.{and_from, cases_lt, cases_Bool}
 use Rattle.std.proofs.lemmas.List.{take_at, length-append, take-append-drop, nil_from_length}
 use Rattle.std.proofs.lemmas.Slice.Eq.{bytes_eq-Decides}
 use Rattle.sha2.specs.Sha256.{sha256}
+use Rattle.rq_bytes.proofs.Single.{IsBytes-drop, IsBytes-take}
+use Rattle.rq_bytes.proofs.Together.{spelled_by, read_again}
 use Rattle.rq_model.specs.Records.{Record, Version}
 use Rattle.rq_model.specs.Spelling.{body_of, IsRecord, Spells}
 use Rattle.rq_model.specs.Frames.{log_limit, digest, frame, magic, HasHeader, AreBytes, last_of, stated, body_in}
-use Rattle.rq_model.specs.Frames.{HasRightFrame, Rest, Whole, Cut, Length, Digest, IsRest, header}
+use Rattle.rq_model.specs.Frames.{HasRightFrame, Rest, Whole, Cut, Length, Digest, IsRest, header, before}
 use Rattle.rq_model.specs.States.{State, empty}
 use Rattle.rq_model.specs.Machine.{is_lawful, step, run}
+use Rattle.rq_model.specs.WellFormed.{IsWellFormed}
 use Rattle.rq_model.specs.Fronts.{Begins, Why, Ends, Form, Law, IsWhy, IsFront, Restarted, restarted, IsRestart}
-use Rattle.rq_model.specs.LogLaws.{EveryLogHasReport, HasReport, CrashSaysTheSame}
-use Rattle.rq_bytes.proofs.Single.{IsBytes-drop, IsBytes-take}
-use Rattle.rq_bytes.proofs.Together.{spelled_by, read_again}
-use Rattle.rq_model.specs.RecordReading.{record_read}
+use Rattle.rq_model.specs.Reports.{IsQueueText}
+use Rattle.rq_model.specs.Checkpoints.{IsRestartAt}
+use Rattle.rq_model.specs.LogLaws.{EveryLogHasReport, EveryCheckpointHasReport}
+use Rattle.rq_model.specs.Closing.{HasReport, CrashSaysTheSame}
+use Rattle.rq_model.specs.Reading.{record_read}
+use Rattle.rq_model.proofs.WorkedReports.{front_has_report, final_kept}
+use Rattle.rq_model.proofs.Kept.{runs_are_well_formed, empty_is_well_formed}
 use Rattle.rq_model.proofs.RecordReaders.{reads_record}
 use Rattle.rq_model.proofs.Runs.{frame_at, frame_long, frames_assoc}
 use Rattle.rq_model.proofs.Longest.{front_stops}
-use Rattle.rq_model.proofs.WorkedReports.{front_has_report, final_kept}
-use Rattle.rq_model.specs.Reports.{IsQueueText}
-use Rattle.rq_model.specs.WellFormed.{IsWellFormed}
 use Rattle.rq_model.proofs.Restarts.{header_long}
 use Rattle.rq_model.proofs.Tails.{crash_in_the_tail}
-use Rattle.rq_model.proofs.Kept.{runs_are_well_formed, empty_is_well_formed}
 use Rattle.rq_model.proofs.Listed.{is_text}
 
 -- a body is read as the record that it spells, or spells none
@@ -215,3 +217,34 @@ crash_says_the_same b tail part missing version records rest fits front tailed p
       told,
       lines_report _ _ _ closed.restart ((closed.lines queues).1 told.lines),
     )
+
+pub every_checkpoint_has_report : EveryCheckpointHasReport
+every_checkpoint_has_report version b offset kept s fits short head checkpoint spells =
+    (_, (r, restart, is_text r ended))
+  where
+    f : Found version s (before offset b) (drop offset b)
+    f = found (length (drop offset b)) version s (before offset b) (drop offset b)
+        (omega arith) (IsBytes-drop offset b fits)
+
+    r : Restarted
+    r = restarted (run s f.records) (length f.rest) (length b) f.why
+
+    restart : IsRestartAt b offset r
+    restart = record {
+      version = version;
+      state = s;
+      kept = kept;
+      records = f.records;
+      rest = f.rest;
+      why = f.why;
+      short = short;
+      header = head;
+      checkpoint = checkpoint;
+      spells = spells;
+      front = front_stops version s (before offset b) (drop offset b) f.rest f.records f.why f.begins f.ends;
+      ends = f.ends;
+      answer = refl;
+    }
+
+    ended : IsWellFormed r.state
+    ended = final_kept version (run s f.records) (runs_are_well_formed version s f.records spells.keeps f.begins.lawful)

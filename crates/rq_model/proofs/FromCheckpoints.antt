@@ -1,26 +1,71 @@
 -- From a checkpoint: the front there, its restart, and that a true one restarts to the same.
-use Rattle.std.proofs.Common.{◌≡◌, ℕ, ◌≤◌, List, ◌∷◌, ◌++◌, length, take, drop, refl, sym, ap, subst, ◌∙◌}
-use Rattle.std.proofs.Common.{append_assoc, arith}
-use Rattle.std.proofs.lemmas.List.{length-append, take_at}
+use Rattle.std.proofs.Common.{◌≡◌, ℕ, ◌+◌, ◌-◌, ◌≤◌, List, [], ◌++◌, length, take, drop, sym, ap, ◌∙◌, append_assoc}
+use Rattle.std.proofs.Common.{arith, ◌∷◌, refl, subst}
+use Rattle.std.proofs.lemmas.List.{length-append, length-take, length-drop, take_at, drop_at, take-append-drop}
+use Rattle.std.proofs.lemmas.List.{drop-drop}
 use Rattle.rq_model.specs.Records.{Record, Checkpoint, Version, One, Two}
 use Rattle.rq_model.specs.Spelling.{body_of}
-use Rattle.rq_model.specs.Frames.{log_limit, digest, frame, magic, header, start, frames_of, last_of, before, HasHeader}
-use Rattle.rq_model.specs.Frames.{body_in, HasRightFrame}
+use Rattle.rq_model.specs.Frames.{bodies_of, frames_of, last_of, before, log_limit, digest, frame, magic, header, start}
+use Rattle.rq_model.specs.Frames.{HasHeader, body_in, HasRightFrame}
 use Rattle.rq_model.specs.States.{State, empty}
 use Rattle.rq_model.specs.Machine.{run}
 use Rattle.rq_model.specs.StateSpelling.{state_bytes, SpellsState}
-use Rattle.rq_model.specs.LogLaws.{OneVersion, TrueSaysTheSame}
-use Rattle.rq_model.specs.Reports.{IsText}
 use Rattle.rq_model.specs.Fronts.{Why, IsLongest, IsWhy, Restarted, restarted, IsRestart}
+use Rattle.rq_model.specs.Reports.{IsText}
 use Rattle.rq_model.specs.Checkpoints.{HasCheckpoint, IsCheckpointAt, TrueAt, IsRestartAt}
+use Rattle.rq_model.specs.LogLaws.{OneVersion, TrueSaysTheSame}
 use Rattle.rq_model.specs.Carrying.{IsFrontAt}
-use Rattle.rq_model.proofs.Bodies.{body_fits}
-use Rattle.rq_model.proofs.Runs.{length-sha256, frame_reads, right_at}
+use Rattle.rq_model.proofs.RecordReaders.{body_fits}
+use Rattle.rq_model.proofs.Runs.{last_at_end, length-sha256, frame_reads, right_at}
 use Rattle.rq_model.proofs.Longest.{one_longest, one_why, front_ends, frames_apart}
-use Rattle.rq_model.proofs.Linked.{IsLinked, linked}
+use Rattle.rq_model.proofs.StateCodes.{one_state}
 use Rattle.rq_model.proofs.Restarts.{run_join, header_long, later_longest, at_both, why_joins, why_parts}
 use Rattle.rq_model.proofs.Restarts.{fronts_are_spelt}
-use Rattle.rq_model.proofs.StateCodes.{one_state}
+
+-- the 32 bytes before an offset of b, and all bytes from there on
+pub record IsLinked (b : List ℕ) (offset : ℕ) (p bytes : List ℕ) : Type 0 where
+  pub ahead : before offset b ≡ p
+  pub behind : drop offset b ≡ bytes
+
+-- the frames of records follow 32 bytes p: what comes next is linked to the last of these
+pub linked : (b left p : List ℕ) (rs : List Record) (bytes : List ℕ) (offset : ℕ) → length p ≡ 32
+    → b ≡ left ++ (p ++ (frames_of p rs ++ bytes)) → offset ≡ length left + 32 + length (frames_of p rs)
+    → IsLinked b offset (last_of p rs) bytes
+linked b left p rs bytes offset long whole there =
+    let q = last_of p rs in
+    let fs = frames_of p rs in
+    let (kept, ended_by, q_long) = last_at_end [] p (bodies_of rs) long in
+    let parts : b ≡ (left ++ kept) ++ (q ++ bytes) =
+    whole ∙ ap (λ (z : List ℕ). left ++ z) (sym (append_assoc p fs bytes))
+    ∙ ap (λ (z : List ℕ). left ++ (z ++ bytes)) ended_by
+    ∙ ap (λ (z : List ℕ). left ++ z) (append_assoc kept q bytes)
+    ∙ sym (append_assoc left kept (q ++ bytes)) in
+    let size : length kept + 32 ≡ 32 + length fs =
+    omega (arith, ap length ended_by, length-append p fs, length-append kept q, q_long, long) in
+    let place : length (left ++ kept) ≡ offset - 32 = omega (arith, length-append left kept, size, there) in
+    let end : length ((left ++ kept) ++ q) ≡ offset =
+    omega (arith, length-append left kept, length-append (left ++ kept) q, q_long, size, there) in
+    record {
+      ahead = ap (λ (z : List ℕ). take 32 (drop (offset - 32) z)) parts
+          ∙ ap (take 32) (drop_at (left ++ kept) (q ++ bytes) (offset - 32) place) ∙ take_at q bytes 32 q_long;
+      behind = ap (drop offset) (parts ∙ sym (append_assoc (left ++ kept) q bytes))
+          ∙ drop_at ((left ++ kept) ++ q) bytes offset end;
+    }
+
+-- the 32 bytes before an offset within b are 32, and are there
+pub before_long : (b : List ℕ) (offset : ℕ) → 32 ≤ offset → offset ≤ length b → length (before offset b) ≡ 32
+before_long b offset low high =
+    omega (arith, length-take 32 (drop (offset - 32) b), length-drop (offset - 32) b, low, high)
+
+pub apart : (b : List ℕ) (offset : ℕ) → 32 ≤ offset → b ≡ take (offset - 32) b ++ (before offset b ++ drop offset b)
+apart b offset low =
+    let left = take (offset - 32) b in
+    let behind = drop (offset - 32) b in
+    sym (take-append-drop (offset - 32) b)
+    ∙ ap (λ (z : List ℕ). left ++ z)
+    (sym (take-append-drop 32 behind)
+    ∙ ap (λ (z : List ℕ). take 32 behind ++ z)
+    (drop-drop 32 (offset - 32) b ∙ ap (λ (n : ℕ). drop n b) (omega (arith, low))))
 
 -- lawful records, the first of them a CHECKPOINT
 pub front_at : (b : List ℕ) (offset : ℕ) (version : Version) (s : State) (kept : List ℕ) (after : List Record)

@@ -12,7 +12,7 @@ use Rattle.rq_model.specs.Machine.{is_lawful, all_lawful, step}
 use Rattle.rq_model.specs.Queues.{Part, defined_by, Op, touches, touching_from, Move, transfers_at}
 use Rattle.rq_model.specs.Queues.{arrivals_of, arrivals, elements_at}
 use Rattle.rq_model.specs.Redo.{act, receive, before as before_place, from as from_place}
-use Rattle.rq_model.specs.Ready.{IsOf, IsReady, AreNew, GoesWell, RedoGoesWell, GoesOn}
+use Rattle.rq_model.specs.Redo.{IsOf, IsReady, AreNew, GoesWell, RedoGoesWell, GoesOn}
 use Rattle.rq_model.proofs.Lists.{each_weaker, each_passes, each_filter}
 use Rattle.rq_model.proofs.Merged.{ordered_filter, ordered_weaker}
 use Rattle.rq_model.proofs.Steps.{core, Knows, known_by, step_part}

@@ -1,23 +1,24 @@
--- The law of records: what is read of a body was spelled that way, and what is spelled is read
--- again.
-use Rattle.std.proofs.Common.{◌≡◌, ℕ, ◌≤◌, List, ◌∷◌, ◌++◌, length, Option, Some, None, refl, sym, ap}
-use Rattle.std.proofs.Common.{arith}
+-- The law of records: what is read of a body was spelled that way, and what is spelled is read. So a body spells at
+-- most one record.
+use Rattle.std.proofs.Common.{◌≡◌, ℕ, ◌≤◌, List, ◌∷◌, ◌++◌, length, Option, Some, None, refl, sym, ap, arith, subst}
+use Rattle.std.proofs.Common.{◌∙◌}
 use Rattle.std.specs.Prelude.{IsTrue, drop}
 use Rattle.std.specs.Int.{w64, to_be_bytes}
 use Rattle.std.proofs.lemmas.Bool.{eqb-true, ne_eqb, leb-true, le-leb}
+use Rattle.std.proofs.lemmas.List.{length-append}
 use Rattle.rq_bytes.specs.Readers.{Reader, number, piece, ◌then◌, made, tested, tagged}
 use Rattle.rq_bytes.specs.Reads.{Reads, Any, End}
 use Rattle.rq_bytes.proofs.Single.{reads_byte, reads_piece, reads_u16, reads_u32, reads_u64, reads_all}
 use Rattle.rq_bytes.proofs.Together.{reads_then, reads_tested, reads_alone, alike, TakesBehind, at_byte, in_case}
-use Rattle.rq_bytes.proofs.Together.{in_no_case, again_made, reads_tagged}
+use Rattle.rq_bytes.proofs.Together.{in_no_case, again_made, reads_tagged, spells_one}
 use Rattle.rq_model.specs.Records.{By, Record, Define, Register, Deregister, Begin, Enqueue, Dequeue, Commit, Abort}
 use Rattle.rq_model.specs.Records.{Checkpoint, Kill, Version, One, Two}
-use Rattle.rq_model.specs.Spelling.{is_name, who, IsWho, body_of, IsRecord}
-use Rattle.rq_model.specs.RecordReading.{name_left, at_most, is_zero, nobody, somebody, who_behind, who_read}
-use Rattle.rq_model.specs.RecordReading.{define_read, registration_read, unit_read, enqueue_read, dequeue_read}
-use Rattle.rq_model.specs.RecordReading.{checkpoint_read, kill_read, define_from, register_from, deregister_from}
-use Rattle.rq_model.specs.RecordReading.{enqueue_from}
-use Rattle.rq_model.specs.RecordReading.{dequeue_from, kill_from, record_behind, record_read}
+use Rattle.rq_model.specs.Spelling.{is_name, who, IsWho, body_of, IsRecord, Spells}
+use Rattle.rq_model.specs.Frames.{IsBodyLength}
+use Rattle.rq_model.specs.Reading.{name_left, at_most, is_zero, nobody, somebody, who_behind, who_read, define_read}
+use Rattle.rq_model.specs.Reading.{registration_read, unit_read, enqueue_read, dequeue_read, checkpoint_read, kill_read}
+use Rattle.rq_model.specs.Reading.{define_from, register_from, deregister_from, enqueue_from, dequeue_from, kill_from}
+use Rattle.rq_model.specs.Reading.{record_behind, record_read}
 
 -- a name has 1 to 64 bytes
 pub name_long : (name : List ℕ) → IsTrue (is_name name) → (1 ≤ length name) × (length name ≤ 64)
@@ -124,3 +125,29 @@ record_again version (Kill queue element) rest = again_made kill_from (reads_kil
 pub reads_record : (version : Version) → Reads (IsRecord version) body_of End (record_read version)
 unfolding record_read
 reads_record version = reads_tagged (record_takes version) (record_again version)
+
+who_long : (by : Option By) → IsWho by → length (who by) ≤ 73
+who_long None h = omega arith
+who_long (Some by) h = omega (arith, length-append by.name (to_be_bytes w64 by.tag), (name_long by.name h.0).1)
+
+pub body_fits : (version : Version) (r : Record) → IsRecord version r → IsBodyLength (length (body_of r))
+body_fits version (Define limit error name) h = let long = name_long name h.2 in (omega arith, omega (arith, long.1))
+body_fits version (Register queue name) h = let long = name_long name h.1 in (omega arith, omega (arith, long.1))
+body_fits version (Deregister queue name) h = let long = name_long name h.1 in (omega arith, omega (arith, long.1))
+body_fits version (Begin unit) h = (omega arith, omega arith)
+body_fits version (Enqueue unit queue priority by payload) h = let long = who_long by h.3 in
+    (omega arith, omega (arith, long, h.4, length-append (who by) payload))
+body_fits version (Dequeue unit queue by) h = let long = who_long by h.2 in (omega arith, omega (arith, long))
+body_fits version (Commit unit) h = (omega arith, omega arith)
+body_fits version (Abort unit) h = (omega arith, omega arith)
+body_fits version (Checkpoint bytes) h = (omega arith, omega (arith, h))
+body_fits version (Kill queue element) h = (omega arith, omega arith)
+
+pub one_record : (version : Version) (r s : Record) (body : List ℕ) → Spells version r body → Spells version s body
+    → r ≡ s
+one_record version r s body a b = spells_one (reads_record version) r s a.0 b.0 (sym a.1 ∙ b.1)
+
+pub one_body : (version : Version) (r : Record) (a b : List ℕ) → Spells version r a → Spells version r b
+    → (a ≡ b) × IsBodyLength (length a)
+one_body version r a b h k =
+    (h.1 ∙ sym k.1, subst (λ (x : List ℕ). IsBodyLength (length x)) (sym h.1) (body_fits version r h.0))

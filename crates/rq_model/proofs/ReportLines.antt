@@ -21,7 +21,7 @@ use Rattle.rq_model.specs.Reports.{hex_of, payload_text, error_text, element_tex
 use Rattle.rq_model.specs.Reports.{queue_line, element_line, kind_text, last_text, registrant_line, queue_text}
 use Rattle.rq_model.specs.WorkedLogs.{in_order, queues_made, text_made}
 use Rattle.rq_model.specs.Fates.{has_id}
-use Rattle.rq_model.specs.FateReports.{begins_with, lines_that_begin}
+use Rattle.rq_model.specs.FateLaws.{begins_with, lines_that_begin}
 use Rattle.rq_model.proofs.Lists.{by_cases, each_append, each_filter}
 
 -- Bytes that end no line.

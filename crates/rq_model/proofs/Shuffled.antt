@@ -1,31 +1,95 @@
 -- What returns to a queue at an ABORT and what arrives there can be put in in any order.
-use Rattle.std.proofs.Common.{◌≡◌, ◌≢◌, inl, inr, ℕ, ◌+◌, ◌<◌, ◌≤◌, Bool, true, false, cond, List, [], ◌∷◌, ◌++◌, map}
-use Rattle.std.proofs.Common.{refl, sym, ap, subst, ◌∙◌, arith}
-use Rattle.std.specs.Prelude.{◌==◌, ◌&&◌, not, IsPermutation}
-use Rattle.std.specs.List.{AllByRecursion, filter, sum_by}
-use Rattle.std.proofs.lemmas.Bool.{eqb-true, eqb-false, false_from_ne_true, false≢true, lt-ltb, ltb-true, eq-eqb}
-use Rattle.std.proofs.lemmas.Bool.{ne_eqb, cases_Bool}
+use Rattle.std.proofs.Common.{◌≡◌, ◌<◌, ⊎_elim, Bool, true, false, not, List, [], ◌∷◌, ◌++◌, sym, ap, ◌∙◌, arith}
+use Rattle.std.proofs.Common.{append_assoc, ◌≢◌, inl, inr, ℕ, ◌+◌, ◌≤◌, cond, map, refl, subst}
+use Rattle.std.specs.Prelude.{nat_lt, ◌==◌, ◌&&◌, IsPermutation}
+use Rattle.std.specs.List.{filter, AllByRecursion, sum_by}
+use Rattle.std.proofs.lemmas.Bool.{ltb-true, ltb-false, not-true, lt-ltb, le-ltb, cases_order, eqb-true, eqb-false}
+use Rattle.std.proofs.lemmas.Bool.{false_from_ne_true, false≢true, eq-eqb, ne_eqb, cases_Bool}
+use Rattle.std.proofs.lemmas.List.{append-nil}
+use Rattle.std.proofs.lemmas.List.Elements.{filter-append, All-from_recursion, recursion_from_All}
 use Rattle.std.proofs.lemmas.List.Sums.{sum_by-cons, sum_by-append}
 use Rattle.std.proofs.lemmas.List.Sorted.{IsPermutation-refl, IsPermutation-sym, IsPermutation-trans}
 use Rattle.std.proofs.lemmas.List.Sorted.{IsPermutation-cons, IsPermutation-middle, IsPermutation-append_left}
 use Rattle.std.proofs.lemmas.List.Sorted.{IsPermutation-append_right, IsPermutation-filter_both, sum_by-IsPermutation}
 use Rattle.std.proofs.lemmas.List.Sorted.{All-permutation}
-use Rattle.std.proofs.lemmas.List.Elements.{All-from_recursion, recursion_from_All}
-use Rattle.rq_model.specs.States.{Mark, Free, Fresh, Held, Element, Definition, State, definition_at, put, id_before}
+use Rattle.rq_model.specs.Records.{Abort}
+use Rattle.rq_model.specs.States.{Element, put, id_before, Mark, Free, Fresh, Held, Definition, State, definition_at}
 use Rattle.rq_model.specs.States.{is_fresh, is_held}
 use Rattle.rq_model.specs.Machine.{leaves, returned, step}
-use Rattle.rq_model.specs.Records.{Abort}
 use Rattle.rq_model.specs.WellFormed.{Ordered, IsIn}
 use Rattle.rq_model.specs.Queues.{Move, elements_at, is_marked, arrivals_of, transfers_at}
 use Rattle.rq_model.specs.Redo.{put_all}
-use Rattle.rq_model.specs.Laws.{IsSound, put_each, left_alone, returning, arriving, AnyOrder}
-use Rattle.rq_model.proofs.Lists.{each_weaker, each_map, each_filter}
+use Rattle.rq_model.specs.Laws.{PutInAnyOrder, IdsDiffer, IsSound, put_each, left_alone, returning, arriving, AnyOrder}
+use Rattle.rq_model.proofs.Lists.{filter_comm, filter_absorb, filter_none, each_passes, each_weaker, each_map}
+use Rattle.rq_model.proofs.Lists.{each_filter}
 use Rattle.rq_model.proofs.Split.{Rising, put_first, put_behind}
+use Rattle.rq_model.proofs.Steps.{abort_apart, returned_id, returned_same, leaves_held, abort_elements}
+use Rattle.rq_model.proofs.Sound.{agree_here, rising_map, gone_id}
 use Rattle.rq_model.proofs.Merged.{ordered_filter}
-use Rattle.rq_model.proofs.WellFormedRuns.{ordered_put}
-use Rattle.rq_model.proofs.Sound.{rising_map, gone_id, agree_here}
-use Rattle.rq_model.proofs.Steps.{returned_id, returned_same, leaves_held, abort_elements}
 use Rattle.rq_model.proofs.Texts.{all_in, same_order}
+use Rattle.rq_model.proofs.WellFormedRuns.{ordered_put}
+
+none_between : (f g : Element → Bool) → ((e : Element) → g e ≡ true → f e ≡ false) → (es : List Element)
+    → filter f (filter g es) ≡ []
+none_between f g h es = filter_none f (filter g es) (each_passes (λ e. f e ≡ false) g h es)
+
+put_two : (a b : Element) (es : List Element) → a.id < b.id
+    → put id_before a (put id_before b es) ≡ put id_before b (put id_before a es)
+put_two a b es l = first ∙ sym second
+  where
+    fa : Element → Bool
+    fa y = id_before y a
+
+    ga : Element → Bool
+    ga y = not (id_before y a)
+
+    fb : Element → Bool
+    fb y = id_before y b
+
+    gb : Element → Bool
+    gb y = not (id_before y b)
+
+    fa_fb : (e : Element) → fa e ≡ true → fb e ≡ true
+    fa_fb e h = lt-ltb e.id b.id (omega (arith, ltb-true e.id a.id h))
+
+    gb_ga : (e : Element) → gb e ≡ true → ga e ≡ true
+    gb_ga e h = ap not (le-ltb e.id a.id (omega (arith, ltb-false e.id b.id (not-true (nat_lt e.id b.id) h))))
+
+    both : List Element
+    both = filter fa es ++ a ∷ (filter ga (filter fb es) ++ b ∷ filter gb es)
+
+    fa_gb : filter fa (filter gb es) ≡ []
+    fa_gb = none_between fa gb
+        (λ e h. le-ltb e.id a.id (omega (arith, ltb-false e.id b.id (not-true (nat_lt e.id b.id) h)))) es
+
+    gb_fa : filter gb (filter fa es) ≡ []
+    gb_fa = none_between gb fa (λ e h. ap not (lt-ltb e.id b.id (omega (arith, ltb-true e.id a.id h)))) es
+
+    low : filter fa (filter fb es) ≡ filter fa es
+    low = filter_absorb fa fb fa_fb es
+
+    high : filter gb (filter ga es) ≡ filter gb es
+    high = filter_absorb gb ga gb_ga es
+
+    first : put id_before a (put id_before b es) ≡ both
+    first = (λ i. filter-append fa (filter fb es) (b ∷ filter gb es) i ++ a
+        ∷ filter-append ga (filter fb es) (b ∷ filter gb es) i) ∙ grind arith
+        ∙ (λ i. (low i ++ fa_gb i) ++ a ∷ (filter ga (filter fb es) ++ b ∷ (filter_comm ga gb es ∙ high) i))
+        ∙ ap (λ xs. xs ++ a ∷ (filter ga (filter fb es) ++ b ∷ filter gb es)) (append-nil (filter fa es))
+
+    second : put id_before b (put id_before a es) ≡ both
+    second = (λ i. filter-append fb (filter fa es) (a ∷ filter ga es) i ++ b
+        ∷ filter-append gb (filter fa es) (a ∷ filter ga es) i) ∙ grind arith
+        ∙ (λ i. ((filter_comm fb fa es ∙ low) i ++ a ∷ filter_comm fb ga es i) ++ b ∷ (gb_fa i ++ high i))
+        ∙ append_assoc _ _ (b ∷ filter gb es)
+
+pub put_in_any_order : PutInAnyOrder
+put_in_any_order a b es apart = ⊎_elim (λ (e : a.id ≡ b.id). absurd (apart e))
+    (λ x. ⊎_elim (λ (l : a.id < b.id). put_two a b es l) (λ (l : b.id < a.id). sym (put_two b a es l)) x)
+    (cases_order a.id b.id)
+
+pub ids_differ : IdsDiffer
+ids_differ s u q sound = abort_apart _ s u q (agree_here s q sound) sound.rising
 
 -- how many elements have the id
 one_of : ℕ → Element → ℕ

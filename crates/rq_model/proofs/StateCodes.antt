@@ -11,7 +11,7 @@ use Rattle.std.specs.Str.{bytes_eq}
 use Rattle.rq_model.specs.WellFormed.{Ordered, unit_is_open, IsElement, IsLast, IsRegistrant, IsNote}
 use Rattle.rq_model.specs.WellFormed.{AreDefinitions, IsWellFormed}
 use Rattle.rq_model.specs.StateSpelling.{FitsDefinition, FitsRegistrant, FitsElement, FitsNote, Fits, SpellsState}
-use Rattle.rq_model.specs.StateReading.{AreFew}
+use Rattle.rq_model.specs.Reading.{AreFew}
 use Rattle.rq_model.proofs.Lists.{each_weaker, each_both}
 use Rattle.rq_bytes.proofs.Together.{reads_alone, spells_one}
 use Rattle.rq_model.proofs.StateReaders.{IsDefinitionSpelled, IsWideLast}

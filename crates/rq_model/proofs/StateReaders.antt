@@ -16,10 +16,10 @@ use Rattle.rq_model.specs.States.{Mark, Free, Fresh, Held, Kind, Enqueued, Deque
 use Rattle.rq_model.specs.States.{Registrant, State}
 use Rattle.rq_model.specs.StateSpelling.{name_bytes, element_number, kind_byte, definition_bytes, last_bytes}
 use Rattle.rq_model.specs.StateSpelling.{registrant_bytes, mark_bytes, element_bytes, note_bytes, state_bytes}
-use Rattle.rq_model.specs.StateReading.{name_read, id_from, id_read, always, kind_read, mark_read, operation_read}
-use Rattle.rq_model.specs.StateReading.{last_from, last_read, definition_from, definition_read, registrant_from}
-use Rattle.rq_model.specs.StateReading.{registrant_read, element_from, element_read, note_from, note_read, state_from}
-use Rattle.rq_model.specs.StateReading.{state_read}
+use Rattle.rq_model.specs.Reading.{name_read, id_from, id_read, always, kind_read, mark_read, operation_read}
+use Rattle.rq_model.specs.Reading.{last_from, last_read, definition_from, definition_read, registrant_from}
+use Rattle.rq_model.specs.Reading.{registrant_read, element_from, element_read, note_from, note_read, state_from}
+use Rattle.rq_model.specs.Reading.{state_read}
 use Rattle.rq_model.proofs.RecordReaders.{name_long}
 
 -- What has a spelling: each number in its width, each name a name.

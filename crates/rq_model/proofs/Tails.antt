@@ -1,22 +1,54 @@
--- The tail of a log is the frames of records that may follow, and a crash leaves some of them.
-use Rattle.std.proofs.Common.{◌≡◌, ℕ, ◌<◌, ◌^◌, true, List, [], ◌∷◌, length, map, take, sym, ap, subst, ◌∙◌, arith}
-use Rattle.std.specs.List.{AllByRecursion}
+-- The tail of a log is the frames of records that may follow, and a crash leaves some of them: the final state is
+-- the same.
+use Rattle.std.proofs.Common.{◌≡◌, ℕ, zero, suc, ◌<◌, true, cond, not, ◌||◌, List, [], ◌∷◌, take, refl, ap, ◌∙◌, subst}
+use Rattle.std.proofs.Common.{arith, ◌^◌, length, map, sym}
+use Rattle.std.specs.Prelude.{◌==◌}
+use Rattle.std.specs.List.{list_any, AllByRecursion}
+use Rattle.std.proofs.lemmas.Bool.{eq-eqb, ne_eqb}
 use Rattle.std.proofs.Math.Seq.{take-length}
-use Rattle.rq_model.specs.Records.{Record, Abort, Version}
+use Rattle.rq_model.specs.Records.{Abort, Record, Version}
 use Rattle.rq_model.specs.Spelling.{IsRecord}
 use Rattle.rq_model.specs.Frames.{start, frames_of, last_of}
 use Rattle.rq_model.specs.States.{empty}
-use Rattle.rq_model.specs.Machine.{all_lawful, run, aborts, final}
+use Rattle.rq_model.specs.Machine.{is_open, all_lawful, closed_units, step, run, aborts, final}
+use Rattle.rq_model.specs.WellFormed.{Ordered}
 use Rattle.rq_model.specs.Fronts.{Restarted, restarted}
-use Rattle.rq_model.specs.LogLaws.{CrashInTheTail}
+use Rattle.rq_model.specs.Laws.{CrashIsHarmless}
+use Rattle.rq_model.specs.Closing.{CrashInTheTail}
 use Rattle.rq_model.specs.Appending.{MayFollow}
-use Rattle.rq_model.proofs.Lists.{each_weaker}
-use Rattle.rq_model.proofs.Kept.{runs_are_well_formed, empty_is_well_formed}
-use Rattle.rq_model.proofs.Widths.{runs_fit, empty_fits}
-use Rattle.rq_model.proofs.Crash.{crash_is_harmless}
+use Rattle.rq_model.proofs.Lists.{filter_all, each_weaker}
+use Rattle.rq_model.proofs.Kept.{step_kept, runs_are_well_formed, empty_is_well_formed}
 use Rattle.rq_model.proofs.Longest.{one_front, front_ends}
+use Rattle.rq_model.proofs.Widths.{runs_fit, empty_fits}
 use Rattle.rq_model.proofs.Restarts.{run_join}
 use Rattle.rq_model.proofs.Appended.{front_follows, crash_while_appending}
+
+-- the first open unit goes, the others stay
+pub first_closed : (u : ℕ) (us : List ℕ) → Ordered (λ a b. a < b) (u ∷ us) → closed_units u (u ∷ us) ≡ us
+first_closed u us h = ap (λ b. cond (not b) (u ∷ closed_units u us) (closed_units u us)) (eq-eqb u u refl)
+    ∙ filter_all (λ v. not (v == u)) us (each_weaker _ _ (λ v l. ap not (ne_eqb v u (λ e. omega arith))) us h.0)
+
+first_open : (u : ℕ) (us : List ℕ) → list_any (λ v. v == u) (u ∷ us) ≡ true
+first_open u us = ap (λ b. b || list_any (λ v. v == u) us) (eq-eqb u u refl)
+
+pub crash_is_harmless : CrashIsHarmless
+crash_is_harmless version s zero h = (refl, refl)
+crash_is_harmless version s (suc k) h =
+    at s.units refl (λ u o. crash_is_harmless version (step s (Abort u)) k (step_kept version s (Abort u) o h))
+  where
+    at : (us : List ℕ) → s.units ≡ us
+        → ((u : ℕ) → is_open s u ≡ true
+        → (all_lawful version (step s (Abort u)) (take k (aborts (step s (Abort u)))) ≡ true)
+        × (final (run (step s (Abort u)) (take k (aborts (step s (Abort u))))) ≡ final (step s (Abort u))))
+        → (all_lawful version s (take (suc k) (aborts s)) ≡ true) × (final (run s (take (suc k) (aborts s))) ≡ final s)
+    at [] e rest = grind arith
+    at (u ∷ us) e rest =
+        let o = ap (list_any (λ v. v == u)) e ∙ first_open u us in
+        let left = ap (closed_units u) e ∙ first_closed u us (subst (Ordered (λ a b. a < b)) e h.units_rise) in
+        let r = rest u o in (
+          grind arith,
+          grind arith,
+        )
 
 abort_records : (version : Version) (us : List ℕ) → AllByRecursion (λ u. u < 2 ^ 64) us
     → AllByRecursion (IsRecord version) (map Abort us)

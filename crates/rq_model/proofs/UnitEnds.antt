@@ -13,8 +13,8 @@ use Rattle.rq_model.specs.Machine.{step, marked, leaves, moved, returned, commit
 use Rattle.rq_model.specs.Queues.{Part, Move, Transfer, part_of, is_marked, is_engaged, transfers_at, arrivals_of}
 use Rattle.rq_model.specs.Queues.{moves_of}
 use Rattle.rq_model.specs.Redo.{act, sent, receive, put_all}
-use Rattle.rq_model.specs.Ready.{AreNew}
-use Rattle.rq_model.specs.UnitEnds.{leaving, coming, going, aborted_part, UnitEndsByParts}
+use Rattle.rq_model.specs.Redo.{AreNew}
+use Rattle.rq_model.specs.StepLaws.{leaving, coming, going, aborted_part, UnitEndsByParts}
 use Rattle.rq_model.proofs.Lists.{by_cases, filter_all, filter_none, filter_same, filter_comm, filter_map_as, map_all}
 use Rattle.rq_model.proofs.Lists.{each_weaker, each_map, each_of, each_passes}
 use Rattle.rq_model.proofs.Merged.{ordered_filter}

@@ -19,7 +19,7 @@ use Rattle.rq_model.specs.Fronts.{Ends, Form, IsFront, IsWhy, restarted}
 use Rattle.rq_model.specs.Reports.{IsReport}
 use Rattle.rq_model.specs.Checkpoints.{TrueAt}
 use Rattle.rq_model.specs.WorkedLogs.{text_made, one_element_log, best_first_log}
-use Rattle.rq_model.specs.WorkedEnds.{WorkedEnds, behind, false_log}
+use Rattle.rq_model.specs.WorkedLogs.{WorkedEnds, behind, false_log}
 use Rattle.rq_model.proofs.Runs.{frame_long, frame_reads, length-sha256}
 use Rattle.rq_model.proofs.Longest.{front_stops, one_front}
 use Rattle.rq_model.proofs.WorkedReports.{size, log_size, is_who, is_record, all_pass, front_says, log_says}

@@ -24,12 +24,12 @@ use Rattle.rq_model.specs.WorkedLogs.{place_not_commit_log, deregister_log, befo
 use Rattle.rq_model.specs.WorkedLogs.{checkpoint_cut_log, error_of_error_log, kill_log, WorkedLogs, WorkedBytes}
 use Rattle.rq_model.specs.WorkedLogs.{WorkedCheckpoint}
 use Rattle.rq_model.proofs.Runs.{frame_long, frame_reads, right_at}
-use Rattle.rq_model.proofs.Bodies.{body_fits}
+use Rattle.rq_model.proofs.RecordReaders.{body_fits}
 use Rattle.rq_model.proofs.Longest.{front_stops, frames_of_join}
 use Rattle.rq_model.proofs.Restarts.{each_cut, header_long}
 use Rattle.rq_model.proofs.FromCheckpoints.{true_is_same}
 use Rattle.rq_model.proofs.Kept.{runs_are_well_formed, empty_is_well_formed}
-use Rattle.rq_model.proofs.Crash.{crash_is_harmless}
+use Rattle.rq_model.proofs.Tails.{crash_is_harmless}
 use Rattle.rq_model.proofs.Listed.{is_text}
 
 pub worked_bytes : WorkedBytes

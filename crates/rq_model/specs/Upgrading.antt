@@ -1,11 +1,18 @@
 -- An upgraded log, and what it says about the log that was upgraded.
 use Rattle.std.specs.Prelude.{◌≡◌, ◌↔◌, ℕ, List, []}
 use Rattle.rq_model.specs.Records.{Record, Version, Two}
-use Rattle.rq_model.specs.Frames.{Whole, AreBytes}
+use Rattle.rq_model.specs.Frames.{log_of, Whole, AreBytes}
 use Rattle.rq_model.specs.Fronts.{Ends, IsFront, Restarted, IsRestart}
 use Rattle.rq_model.specs.Checkpoints.{HasCheckpoint, TrueAt, Audited, IsAudit, IsRestartAt}
-use Rattle.rq_model.specs.Tails.{IsUpgraded}
-use Rattle.rq_model.specs.LogLaws.{HasReport}
+use Rattle.rq_model.specs.Closing.{HasReport}
+
+-- The front of b, chained anew after the header of version 2
+pub record IsUpgraded (b upgraded : List ℕ) : Type 0 where
+  pub version : Version
+  pub records : List Record
+  pub rest : List ℕ
+  pub front : IsFront b version records rest
+  pub bytes : upgraded ≡ log_of Two records
 
 -- what a restart of an upgraded log returns: the same, and all of it is front
 abbrev pub when_upgraded : Restarted → Restarted

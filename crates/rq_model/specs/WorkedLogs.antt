@@ -1,19 +1,23 @@
--- Worked logs, as records, and their reports.
+-- Worked logs, as records, and their reports; a true and a false checkpoint, a tail and an upgraded
+-- log.
 use Prim.Native.String.{String}
 use Rattle.std.specs.Prelude.{◌≡◌, ◌+◌, ℕ, List, [], ◌∷◌, ◌++◌, Option, Some, None, filter, take}
-use Rattle.std.specs.Prelude.{length, replicate, codes}
+use Rattle.std.specs.Prelude.{length, replicate, codes, drop}
 use Rattle.std.specs.List.{flat_map}
 use Rattle.rq_model.specs.Records.{By, Record, Define, Register, Deregister, Begin, Enqueue}
 use Rattle.rq_model.specs.Records.{Dequeue, Commit, Abort, Checkpoint, Kill, Version, One, Two}
 use Rattle.rq_model.specs.Records.{no_queue}
 use Rattle.rq_model.specs.Spelling.{body_of}
-use Rattle.rq_model.specs.Frames.{log_of}
+use Rattle.rq_model.specs.Frames.{log_of, digest, frame, start, header, last_of, body_in, digest_in}
+use Rattle.rq_model.specs.Frames.{HasFrame}
 use Rattle.rq_model.specs.States.{Element, Definition, State, empty, put}
 use Rattle.rq_model.specs.Machine.{is_free_at, comes_first, run}
 use Rattle.rq_model.specs.StateSpelling.{state_bytes}
 use Rattle.rq_model.specs.Fronts.{Restarted}
 use Rattle.rq_model.specs.Reports.{front_line, units_line, queue_text, IsReport}
-use Rattle.rq_model.specs.Checkpoints.{IsReportAt}
+use Rattle.rq_model.specs.Checkpoints.{IsReportAt, TrueAt, IsCheckpointAt}
+use Rattle.rq_model.specs.Closing.{IsTail}
+use Rattle.rq_model.specs.Upgrading.{IsUpgraded}
 
 -- The text of what a restart returns, made by putting the elements in order.
 
@@ -242,3 +246,40 @@ pub record WorkedCheckpoint : Type 0 where
   pub b : IsReportAt (log_of One checkpoint_cut_log) 447
       (lines ("front 9 records, 679 of 679 bytes, whole" ∷ "units 1 committed, 0 aborted, 1 cut off"
       ∷ "queue 0 jobs limit 0 error -" ∷ "e 3 from 0 priority 5 attempts 1 61" ∷ "r ann none" ∷ []))
+
+-- the 32 bytes before the frame that follows this many records of the log with one element
+abbrev pub behind : ℕ → List ℕ
+behind count = last_of (start One) (take count one_element_log)
+
+abbrev pub false_log : List Record
+false_log = Checkpoint (1 ∷ []) ∷ []
+
+pub record WorkedEnds : Type 0 where
+  pub form : IsReport (header One ++ (frame (start One) (0x0a ∷ []) ++ []))
+      (lines ("front 0 records, 40 of 77 bytes, form" ∷ nothing_done ∷ []))
+  pub cut : IsReport
+      (log_of One (take 3 one_element_log) ++ take 44 (frame (behind 3) (body_of (Commit 1))))
+      (lines ("front 3 records, 192 of 236 bytes, cut"
+      ∷ "units 0 committed, 0 aborted, 1 cut off" ∷ "queue 0 jobs limit 0 error -" ∷ []))
+  pub bad_length : (after : List ℕ) → length after ≡ 41
+      → IsReport (log_of One (take 3 one_element_log) ++ 0 ∷ 0 ∷ 0 ∷ 0 ∷ after)
+      (lines ("front 3 records, 192 of 237 bytes, length"
+      ∷ "units 0 committed, 0 aborted, 1 cut off" ∷ "queue 0 jobs limit 0 error -" ∷ []))
+  pub chain : (changed : List ℕ) → length changed ≡ 105 → HasFrame changed
+      → (digest_in changed ≡ digest (behind 2) (body_in changed) → ⊥)
+      → IsReport (log_of One (take 2 one_element_log) ++ changed)
+      (lines ("front 2 records, 132 of 237 bytes, chain"
+      ∷ "units 0 committed, 0 aborted, 1 cut off" ∷ "queue 0 jobs limit 0 error -" ∷ []))
+  pub closed : Says One (take 8 best_first_log ++ Abort 2 ∷ [])
+      ("front 9 records, 505 of 505 bytes, whole" ∷ "units 1 committed, 1 aborted, 0 cut off"
+      ∷ "queue 0 jobs limit 0 error -" ∷ "e 3 from 0 priority 9 attempts 1 62"
+      ∷ "e 4 from 0 priority 9 attempts 0 63" ∷ "e 2 from 0 priority 1 attempts 0 61" ∷ [])
+  pub true_at : TrueAt (log_of One checkpoint_log) 447
+  pub false_at : TrueAt (log_of One false_log) 40 → ⊥
+  pub in_the_header : (b kept : List ℕ) → IsCheckpointAt b 39 kept → ⊥
+  pub kind_9 : (b kept : List ℕ) (offset : ℕ) → IsCheckpointAt b offset kept
+      → take 1 (body_in (drop offset b)) ≡ 9 ∷ []
+  pub tail : IsTail (log_of One (take 8 best_first_log))
+      (frame (last_of (start One) (take 8 best_first_log)) (8 ∷ 0 ∷ 0 ∷ 0 ∷ 0 ∷ 0 ∷ 0 ∷ 0 ∷ 2 ∷ [])
+      ++ [])
+  pub upgraded : IsUpgraded (log_of One one_element_log) (log_of Two one_element_log)

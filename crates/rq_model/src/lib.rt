@@ -9,47 +9,40 @@ ghost use Rattle.rq_model.specs.LogLaws.{LogEnds, FrontStops, OneLongest, OneWhy
 ghost use Rattle.rq_model.specs.LogLaws.{OneRestart, OneText, OneReport, FrontHasReport};
 ghost use Rattle.rq_model.specs.LogLaws.{EveryLogHasReport, OneVersion, RecordIsWider, UsedIsFront};
 ghost use Rattle.rq_model.specs.LogLaws.{FrontsAreSpelt, OneRestartAt, TrueIsSame, TrueSaysTheSame};
-ghost use Rattle.rq_model.specs.LogLaws.{OneAudit, CrashInTheTail, CrashSaysTheSame};
-ghost use Rattle.rq_model.specs.Closing.{OneClosed, ClosedFront, ClosedStands};
+ghost use Rattle.rq_model.specs.LogLaws.{OneAudit, EveryCheckpointHasReport};
+ghost use Rattle.rq_model.specs.Closing.{CrashInTheTail, CrashSaysTheSame, OneClosed, ClosedFront};
+ghost use Rattle.rq_model.specs.Closing.{ClosedStands};
 ghost use Rattle.rq_model.specs.Upgrading.{UpgradeIsSame};
 ghost use Rattle.rq_model.specs.FateLaws.{OneFate, OneRequest, CommittedHasOneFate};
 ghost use Rattle.rq_model.specs.FateLaws.{OthersAreUntaken, AllAsEnqueued, OneRecord, AllAreFree};
 ghost use Rattle.rq_model.specs.FateLaws.{BoundedTries, AttemptsAreTries, TakesAreTries, RunsEnd};
 ghost use Rattle.rq_model.specs.FateLaws.{HowFar, WhoIsRegistered, CountIsNone, CountIsOne};
-ghost use Rattle.rq_model.specs.FateLaws.{OutcomeIsAhead};
-ghost use Rattle.rq_model.specs.FateReports.{RestartAccounts, BeginningAccounts, ClosedAccounts};
-ghost use Rattle.rq_model.specs.FateReports.{CheckpointAccounts, ReportAccounts};
-ghost use Rattle.rq_model.specs.FateReports.{BeginningReportAccounts, CheckpointReportAccounts};
+ghost use Rattle.rq_model.specs.FateLaws.{OutcomeIsAhead, RestartAccounts, BeginningAccounts};
+ghost use Rattle.rq_model.specs.FateLaws.{ClosedAccounts, CheckpointAccounts, ReportAccounts};
+ghost use Rattle.rq_model.specs.FateLaws.{BeginningReportAccounts, CheckpointReportAccounts};
 ghost use Rattle.rq_model.specs.WorkedLogs.{WorkedBytes, WorkedLogs, UnlawfulLogs};
-ghost use Rattle.rq_model.specs.WorkedLogs.{WorkedCheckpoint};
+ghost use Rattle.rq_model.specs.WorkedLogs.{WorkedCheckpoint, WorkedEnds};
 ghost use Rattle.rq_model.specs.WorkedMachine.{WorkedLaw, WorkedSteps, WorkedOrders, WorkedQueues};
 ghost use Rattle.rq_model.specs.WorkedMachine.{WorkedRedo};
 ghost use Rattle.rq_model.specs.WorkedFates.{WorkedRequests, WorkedTries, WorkedClients};
 ghost use Rattle.rq_model.specs.WorkedFormats.{WorkedNames, WorkedBodies, WorkedWidths};
 ghost use Rattle.rq_model.specs.WorkedFormats.{WorkedFrames, AllRests, WorkedStates, WorkedMembers};
 ghost use Rattle.rq_model.specs.WorkedFormats.{WorkedLines};
-ghost use Rattle.rq_model.specs.WorkedEnds.{WorkedEnds};
-ghost use Rattle.rq_model.specs.Ready.{RedoGoesWell, GoesOn};
-ghost use Rattle.rq_model.specs.Chosen.{ChosenProjection, ChosenGoesWell};
-ghost use Rattle.rq_model.specs.StepLaws.{StepByParts, MidwayPart};
-ghost use Rattle.rq_model.specs.UnitEnds.{UnitEndsByParts};
+ghost use Rattle.rq_model.specs.Redo.{RedoGoesWell, GoesOn};
+ghost use Rattle.rq_model.specs.StepLaws.{ChosenProjection, ChosenGoesWell, StepByParts};
+ghost use Rattle.rq_model.specs.StepLaws.{MidwayPart, UnitEndsByParts};
 ghost use Rattle.rq_model.specs.Laws.{Projection, ArrivalsAreMerged, LawfulnessLooksAt};
 ghost use Rattle.rq_model.specs.Laws.{PartsDecide, IdsDiffer, PutInAnyOrder, AnyOrder};
 ghost use Rattle.rq_model.specs.Laws.{QueueIsDecided, TouchingIsExact, LawfulFrontIsLongest};
 ghost use Rattle.rq_model.specs.Laws.{WellFormedIsSound, RunsAreWellFormed, EmptyIsWellFormed};
 ghost use Rattle.rq_model.specs.Laws.{NumbersAfter, VersionOneIsOneDeep, VersionTwoIsWider};
-ghost use Rattle.rq_model.specs.Laws.{RedoSteps, CrashIsHarmless};
-ghost use Rattle.rq_model.specs.MoveLaws.{MovesRise, ArrivalsRise};
+ghost use Rattle.rq_model.specs.Laws.{RedoSteps, CrashIsHarmless, MovesRise, ArrivalsRise};
 ghost use Rattle.rq_model.specs.Appending.{CrashInFrames, CrashWhileAppending, AppendedIsFront};
 ghost use Rattle.rq_model.specs.Appending.{WrittenStays, CheckpointIsTrue, CheckpointSaysTheSame};
-ghost use Rattle.rq_model.specs.Growing.{FrontGrows, FrontStays, AlongIsFront, WindowGoesOn};
-ghost use Rattle.rq_model.specs.Carrying.{TrueHasFront, CrashWhileCarriedGrows};
-ghost use Rattle.rq_model.specs.Continuing.{MovesOn, GapIsLoud, LaterSaysTheSame, FilesJoin};
-ghost use Rattle.rq_model.specs.Continuing.{StartsAnew, FrontGoesOn, AnewJoins, IsCarriedGap};
-
-mod checkpoints;
-
-pub use checkpoints::every_checkpoint_has_report;
+ghost use Rattle.rq_model.specs.Appending.{FrontGrows, FrontStays, AlongIsFront, WindowGoesOn};
+ghost use Rattle.rq_model.specs.Carrying.{TrueHasFront, CrashWhileCarriedGrows, MovesOn, GapIsLoud};
+ghost use Rattle.rq_model.specs.Carrying.{LaterSaysTheSame, FilesJoin, StartsAnew, FrontGoesOn};
+ghost use Rattle.rq_model.specs.Carrying.{AnewJoins, IsCarriedGap};
 
 /// A body spells at most one record, a record has one body, and the bytes of a state spell no other
 /// state.
@@ -134,6 +127,12 @@ pub fn one_front()
 /// Every string of bytes that has a header and is no longer than a log may be has a report.
 pub fn every_log_has_report()
     ensures { EveryLogHasReport }
+{}
+
+/// From every checkpoint of a log that spells a state there is a report; `one_report` says that
+/// there is one restart.
+pub fn every_checkpoint_has_report()
+    ensures { EveryCheckpointHasReport }
 {}
 
 /// There is one restart, one text, one report; one restart from each checkpoint; one audit.

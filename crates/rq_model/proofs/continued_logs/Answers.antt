@@ -1,6 +1,6 @@
-use Rattle.rq_model.proofs.Continued.{moves_on, gap_is_loud}
-use Rattle.rq_model.proofs.Later.{later_says_the_same}
-use Rattle.rq_model.proofs.Joined.{files_join}
+use Rattle.rq_model.proofs.Carried.{moves_on, gap_is_loud}
+use Rattle.rq_model.proofs.Carried.{later_says_the_same}
+use Rattle.rq_model.proofs.Carried.{files_join}
 use Rattle.rq_model.proofs.continued_logs.Goals as goal
 
 pub returns : goal.returns

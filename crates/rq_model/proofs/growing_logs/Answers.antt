@@ -1,4 +1,4 @@
-use Rattle.rq_model.proofs.Grown.{front_grows, front_stays}
+use Rattle.rq_model.proofs.Appended.{front_grows, front_stays}
 use Rattle.rq_model.proofs.growing_logs.Goals as goal
 
 pub returns : goal.returns

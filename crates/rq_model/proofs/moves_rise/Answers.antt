@@ -1,4 +1,4 @@
-use Rattle.rq_model.proofs.Rising.{moves_rise, arrivals_rise}
+use Rattle.rq_model.proofs.WellFormedRuns.{moves_rise, arrivals_rise}
 use Rattle.rq_model.proofs.moves_rise.Goals as goal
 
 pub returns : goal.returns

@@ -1,11 +1,99 @@
--- How a state is read: its spelling from left to right.
-use Rattle.std.specs.Prelude.{ℕ, ◌<◌, ◌^◌, List, length, Option, Some, None, ◌==◌}
+-- How a record and a state are read: what spells them, from left to right.
+use Rattle.std.specs.Prelude.{ℕ, List, length, Option, Some, None, Bool, nat_le, ◌==◌, ◌<◌, ◌^◌}
 use Rattle.std.specs.Prelude.{if◌then◌else◌, ⊤}
-use Rattle.rq_bytes.specs.Readers.{Reader, byte, number, nothing, ◌then◌, sized, made, tested}
-use Rattle.rq_bytes.specs.Readers.{tagged, case, no_case, counted_members}
+use Rattle.rq_bytes.specs.Readers.{Reader, byte, number, piece, all, ◌then◌, made, tested, alone}
+use Rattle.rq_bytes.specs.Readers.{tagged, case, no_case, nothing, sized, counted_members}
+use Rattle.rq_model.specs.Records.{By, Record, Define, Register, Deregister, Begin, Enqueue}
+use Rattle.rq_model.specs.Records.{Dequeue, Commit, Abort, Checkpoint, Kill, Version, One, Two}
 use Rattle.rq_model.specs.Spelling.{is_name}
 use Rattle.rq_model.specs.States.{Mark, Free, Fresh, Held, Kind, Enqueued, Dequeued, Element, Last}
 use Rattle.rq_model.specs.States.{Note, Definition, Registrant, State}
+
+-- a name, to the end
+unfoldable pub name_left : Reader (List ℕ)
+name_left = tested is_name all
+
+-- at most this many bytes, to the end
+unfoldable pub at_most : ℕ → Reader (List ℕ)
+at_most limit = tested (λ bytes. nat_le (length bytes) limit) all
+
+abbrev pub is_zero : ℕ → Bool
+is_zero n = n == 0
+
+abbrev pub nobody : ℕ → Option By
+nobody tag = None
+
+abbrev pub somebody : List ℕ × ℕ → Option By
+somebody x = Some (record { name = x.0; tag = x.1 })
+
+-- after the byte 0 nobody, with the tag 0; after another byte a name of that many bytes, and a tag
+abbrev pub who_behind : ℕ → Reader (Option By)
+who_behind = case 0 (made nobody (tested is_zero (number 8)))
+    (λ n. made somebody (tested is_name (piece n) then number 8))
+
+unfoldable pub who_read : Reader (Option By)
+who_read = tagged who_behind
+
+-- The fields of each kind of record, to the end.
+
+unfoldable pub define_read : Reader (ℕ × (ℕ × List ℕ))
+define_read = number 2 then number 4 then name_left
+
+-- of a REGISTER or DEREGISTER
+unfoldable pub registration_read : Reader (ℕ × List ℕ)
+registration_read = number 4 then name_left
+
+-- of a BEGIN, COMMIT or ABORT
+unfoldable pub unit_read : Reader ℕ
+unit_read = alone (number 8)
+
+unfoldable pub enqueue_read : Reader (ℕ × (ℕ × (ℕ × (Option By × List ℕ))))
+enqueue_read = number 8 then number 4 then byte then who_read then at_most 65535
+
+unfoldable pub dequeue_read : Reader (ℕ × (ℕ × Option By))
+dequeue_read = alone (number 8 then number 4 then who_read)
+
+unfoldable pub checkpoint_read : Reader (List ℕ)
+checkpoint_read = at_most 268435455
+
+-- only in version 2
+unfoldable pub kill_read : Version → Reader (ℕ × ℕ)
+kill_read One bytes = None
+kill_read Two bytes = alone (number 4 then number 8) bytes
+
+-- The record of these fields.
+
+abbrev pub define_from : ℕ × (ℕ × List ℕ) → Record
+define_from x = Define x.0 x.1.0 x.1.1
+
+abbrev pub register_from : ℕ × List ℕ → Record
+register_from x = Register x.0 x.1
+
+abbrev pub deregister_from : ℕ × List ℕ → Record
+deregister_from x = Deregister x.0 x.1
+
+abbrev pub enqueue_from : ℕ × (ℕ × (ℕ × (Option By × List ℕ))) → Record
+enqueue_from x = Enqueue x.0 x.1.0 x.1.1.0 x.1.1.1.0 x.1.1.1.1
+
+abbrev pub dequeue_from : ℕ × (ℕ × Option By) → Record
+dequeue_from x = Dequeue x.0 x.1.0 x.1.1
+
+abbrev pub kill_from : ℕ × ℕ → Record
+kill_from x = Kill x.0 x.1
+
+-- the record after its kind
+unfoldable pub record_behind : Version → ℕ → Reader Record
+record_behind version =
+    case 1 (made define_from define_read) (case 2 (made register_from registration_read)
+    (case 3 (made deregister_from registration_read) (case 4 (made Begin unit_read)
+    (case 5 (made enqueue_from enqueue_read) (case 6 (made dequeue_from dequeue_read)
+    (case 7 (made Commit unit_read) (case 8 (made Abort unit_read)
+    (case 9 (made Checkpoint checkpoint_read)
+    (case 10 (made kill_from (kill_read version)) no_case)))))))))
+
+-- the record that a body of the version spells
+unfoldable pub record_read : Version → Reader Record
+record_read version = tagged (record_behind version)
 
 -- What members are made of.
 
