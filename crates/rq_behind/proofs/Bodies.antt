@@ -4,7 +4,7 @@ use Rattle.std.specs.Prelude.{is_some, IsTrue, ◌↔◌}
 use Rattle.rq_bytes.specs.Reads.{IsBytes}
 use Rattle.rq_bytes.proofs.Together.{spelled_by, read_again}
 use Rattle.rq_model.specs.Records.{Record, Version}
-use Rattle.rq_model.specs.RecordReading.{record_read}
+use Rattle.rq_model.specs.Reading.{record_read}
 use Rattle.rq_model.proofs.RecordReaders.{reads_record}
 use Rattle.rq_behind.specs.Runs.{SpellsSome}
 

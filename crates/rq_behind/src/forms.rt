@@ -2,8 +2,8 @@
 
 ghost use Rattle.std.specs.Prelude.{◌≡◌, ◌↔◌, IsTrue, option_map, is_some};
 ghost use Rattle.rq_bytes.specs.Readers.{after_of};
-ghost use Rattle.rq_model.specs.RecordReading.{name_left, who_read, at_most, enqueue_read};
-ghost use Rattle.rq_model.specs.RecordReading.{dequeue_read, kill_read, record_behind, record_read};
+ghost use Rattle.rq_model.specs.Reading.{name_left, who_read, at_most, enqueue_read};
+ghost use Rattle.rq_model.specs.Reading.{dequeue_read, kill_read, record_behind, record_read};
 ghost use Rattle.rq_record.specs.Views.{version_of};
 ghost use Rattle.rq_behind.specs.Runs.{SpellsSome};
 
@@ -15,7 +15,7 @@ const PAYLOAD: usize = 65_535;
 
 const CHECKPOINT: usize = 268_435_455;
 
-#[tactic(auto, unfolding(rq_model::specs::RecordReading::name_left))]
+#[tactic(auto, unfolding(rq_model::specs::Reading::name_left))]
 fn name(bytes: Cursor<'_>) -> Option<()>
     ensures { is_some result ≡ is_some (name_left bytes.entry) }
 {
@@ -23,7 +23,7 @@ fn name(bytes: Cursor<'_>) -> Option<()>
     Some(())
 }
 
-#[tactic(auto, unfolding(rq_model::specs::RecordReading::who_read))]
+#[tactic(auto, unfolding(rq_model::specs::Reading::who_read))]
 fn who(bytes: &mut Cursor<'_>) -> Option<()>
     ensures { option_map (λ x. bytes.new) result ≡ after_of (who_read bytes.old) }
 {
@@ -40,7 +40,7 @@ fn who(bytes: &mut Cursor<'_>) -> Option<()>
     }
 }
 
-#[tactic(auto, unfolding(rq_model::specs::RecordReading::at_most))]
+#[tactic(auto, unfolding(rq_model::specs::Reading::at_most))]
 fn at_most(limit: usize, bytes: Cursor<'_>) -> Option<()>
     ensures { is_some result ≡ is_some (at_most limit bytes.entry) }
 {
@@ -51,7 +51,7 @@ fn at_most(limit: usize, bytes: Cursor<'_>) -> Option<()>
     }
 }
 
-#[tactic(auto, unfolding(rq_model::specs::RecordReading::enqueue_read))]
+#[tactic(auto, unfolding(rq_model::specs::Reading::enqueue_read))]
 fn enqueue(mut bytes: Cursor<'_>) -> Option<()>
     ensures { is_some result ≡ is_some (enqueue_read bytes.entry) }
 {
@@ -62,7 +62,7 @@ fn enqueue(mut bytes: Cursor<'_>) -> Option<()>
     at_most(PAYLOAD, bytes)
 }
 
-#[tactic(auto, unfolding(rq_model::specs::RecordReading::dequeue_read))]
+#[tactic(auto, unfolding(rq_model::specs::Reading::dequeue_read))]
 fn dequeue(mut bytes: Cursor<'_>) -> Option<()>
     ensures { is_some result ≡ is_some (dequeue_read bytes.entry) }
 {
@@ -72,7 +72,7 @@ fn dequeue(mut bytes: Cursor<'_>) -> Option<()>
     bytes.end()
 }
 
-#[tactic(auto, unfolding(rq_model::specs::RecordReading::kill_read))]
+#[tactic(auto, unfolding(rq_model::specs::Reading::kill_read))]
 fn kill(version: Version, mut bytes: Cursor<'_>) -> Option<()>
     ensures { is_some result ≡ is_some (kill_read (version_of version) bytes.entry) }
 {
@@ -84,7 +84,7 @@ fn kill(version: Version, mut bytes: Cursor<'_>) -> Option<()>
     bytes.end()
 }
 
-#[tactic(auto, unfolding(rq_model::specs::RecordReading::record_behind, rq_model::specs::RecordReading::define_read, rq_model::specs::RecordReading::registration_read, rq_model::specs::RecordReading::unit_read, rq_model::specs::RecordReading::checkpoint_read,))]
+#[tactic(auto, unfolding(rq_model::specs::Reading::record_behind, rq_model::specs::Reading::define_read, rq_model::specs::Reading::registration_read, rq_model::specs::Reading::unit_read, rq_model::specs::Reading::checkpoint_read,))]
 fn fields(version: Version, kind: u8, mut bytes: Cursor<'_>) -> Option<()>
     ensures { is_some result ≡ is_some (record_behind (version_of version) kind bytes.entry) }
 {
@@ -110,7 +110,7 @@ fn fields(version: Version, kind: u8, mut bytes: Cursor<'_>) -> Option<()>
     }
 }
 
-#[tactic(auto, unfolding(rq_model::specs::RecordReading::record_read))]
+#[tactic(auto, unfolding(rq_model::specs::Reading::record_read))]
 fn record(version: Version, body: &[u8]) -> Option<()>
     ensures { is_some result ≡ is_some (record_read (version_of version) body.now) }
 {

@@ -21,7 +21,7 @@ pub use Rattle.rq_exchange.specs.declared.outboxes.Target.{Target}
 pub use Rattle.rq_model.proofs.Lists.{by_cases, each_weaker, filter_none, map_same}
 pub use Rattle.rq_model.specs.Laws.{AreAfter, AreSources, merged, move_before}
 pub use Rattle.rq_model.specs.Machine.{all_lawful, lawful_front, run}
-pub use Rattle.rq_model.specs.MoveLaws.{Rise, earlier}
+pub use Rattle.rq_model.specs.Laws.{Rise, earlier}
 pub use Rattle.rq_model.specs.Queues.{Move, Op, Part, arrivals, defined_by, moves, part_of, touches, touching}
 pub use Rattle.rq_model.specs.Queues.{touching_from, with_definitions}
 pub use Rattle.rq_model.specs.Records.{Begin, Record, Two}

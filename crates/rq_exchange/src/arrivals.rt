@@ -3,7 +3,7 @@
 ghost use Rattle.std.specs.Prelude.{◌≡◌, ⊤, map, flat_map, All, IfOk, IfErr, IsPermutation};
 ghost use Rattle.std.specs.List.Sorted.{IsSortedBy};
 ghost use Rattle.rq_record.specs.declared.fault.Fault.TheVariants.{Resources};
-ghost use Rattle.rq_model.specs.MoveLaws.{earlier};
+ghost use Rattle.rq_model.specs.Laws.{earlier};
 
 use crate::outboxes::Outbox;
 use itertools::{Itertools, MergePredicate};

@@ -1,7 +1,7 @@
 //! Where the records of a log begin, and behind which state.
 
 ghost use Rattle.std.specs.Prelude.{◌≡◌, IfErr, IfSome, drop, take};
-ghost use Rattle.rq_model.specs.Continuing.{carried_gap};
+ghost use Rattle.rq_model.specs.Carrying.{carried_gap};
 ghost use Rattle.rq_found.specs.Walks.{StandFrom, front_at};
 ghost use Rattle.rq_record.specs.declared.fault.Fault.TheVariants.{Resources};
 

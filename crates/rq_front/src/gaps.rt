@@ -1,7 +1,7 @@
 //! The gap of a log that was carried on into a file of its own.
 
 ghost use Rattle.std.specs.Prelude.{◌≡◌, true, take, drop};
-ghost use Rattle.rq_model.specs.Continuing as continuing;
+ghost use Rattle.rq_model.specs.Carrying as continuing;
 
 use crate::HEADER_LEN;
 use crate::headers::version;

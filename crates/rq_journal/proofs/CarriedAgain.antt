@@ -10,7 +10,7 @@ use Rattle.rq_model.specs.States.{State, empty}
 use Rattle.rq_model.specs.Machine.{run}
 use Rattle.rq_model.specs.StateSpelling.{state_bytes, SpellsState}
 use Rattle.rq_model.specs.Appending.{MayFollow}
-use Rattle.rq_model.specs.Continuing.{carried_gap, StartsAnew, GapIsLoud, IsCarriedGap, FilesJoin}
+use Rattle.rq_model.specs.Carrying.{carried_gap, StartsAnew, GapIsLoud, IsCarriedGap, FilesJoin}
 use Rattle.rq_model.proofs.Runs.{last_at_end}
 use Rattle.rq_model.proofs.Longest.{last_of_join}
 use Rattle.rq_model.proofs.Restarts.{both_follow, run_join, spelt_after}

@@ -12,7 +12,7 @@ use Rattle.rq_model.specs.States.{State, empty}
 use Rattle.rq_model.specs.Machine.{run}
 use Rattle.rq_model.specs.StateSpelling.{state_bytes, SpellsState}
 use Rattle.rq_model.specs.Fronts.{IsFront, IsRestart, Ends, restarted}
-use Rattle.rq_model.specs.Continuing.{begun_anew, carried_gap, StartsAnew, GapIsLoud, IsCarriedGap, AnewJoins}
+use Rattle.rq_model.specs.Carrying.{begun_anew, carried_gap, StartsAnew, GapIsLoud, IsCarriedGap, AnewJoins}
 use Rattle.rq_model.proofs.Runs.{frame_long}
 use Rattle.rq_model.proofs.Longest.{log_ends}
 use Rattle.rq_model.proofs.Restarts.{header_long}

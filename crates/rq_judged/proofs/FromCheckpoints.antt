@@ -11,7 +11,7 @@ use Rattle.rq_model.specs.Machine.{is_lawful, run}
 use Rattle.rq_model.specs.Fronts.{Begins, IsWhy, Why, Ends, Form, Law}
 use Rattle.rq_model.specs.Checkpoints.{IsCheckpointAt}
 use Rattle.rq_model.specs.Carrying.{IsFrontAt}
-use Rattle.rq_model.proofs.Bodies.{body_fits, one_record}
+use Rattle.rq_model.proofs.RecordReaders.{body_fits, one_record}
 use Rattle.rq_model.proofs.Runs.{frame_reads, no_right}
 use Rattle.rq_record.specs.Views.{version_of}
 use Rattle.rq_front.specs.Chains.{bodies_at, rest_of}

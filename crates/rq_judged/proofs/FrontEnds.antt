@@ -9,7 +9,7 @@ use Rattle.rq_model.specs.Spelling.{Spells}
 use Rattle.rq_model.specs.States.{State, empty}
 use Rattle.rq_model.specs.Machine.{is_lawful, run}
 use Rattle.rq_model.specs.Fronts.{IsFront, restarted}
-use Rattle.rq_model.proofs.Bodies.{one_record}
+use Rattle.rq_model.proofs.RecordReaders.{one_record}
 use Rattle.rq_model.proofs.Longest.{front_whole}
 use Rattle.rq_model.proofs.Restarts.{header_long}
 use Rattle.rq_catalog.specs.declared.rules.Rule.{Rule}

@@ -11,7 +11,7 @@ use Rattle.rq_model.specs.Records.{Record, Version, One, Two}
 use Rattle.rq_model.specs.Spelling.{body_of, IsRecord, Spells}
 use Rattle.rq_model.specs.Frames.{digest, header, start, frames_of, log_of, stated, body_in}
 use Rattle.rq_model.specs.Fronts.{IsFront, IsRestart, Restarted}
-use Rattle.rq_model.proofs.Bodies.{body_fits, one_record}
+use Rattle.rq_model.proofs.RecordReaders.{body_fits, one_record}
 use Rattle.rq_model.proofs.Lists.{each_append}
 use Rattle.rq_model.proofs.Runs.{frame_reads}
 use Rattle.rq_model.proofs.Longest.{front_whole, used_is_front, used_long}

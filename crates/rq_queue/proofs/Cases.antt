@@ -13,7 +13,7 @@ use Rattle.rq_model.specs.Machine.{run}
 use Rattle.rq_model.specs.Queues.{part_of, moves}
 use Rattle.rq_model.specs.Redo.{redone, all_sent}
 use Rattle.rq_model.specs.Laws.{Projection}
-use Rattle.rq_model.specs.Ready.{GoesWell, RedoGoesWell}
+use Rattle.rq_model.specs.Redo.{GoesWell, RedoGoesWell}
 use Rattle.rq_model.proofs.WellFormedRuns.{sound}
 use Rattle.rq_queue.specs.Case.{IsCase, AreRising}
 

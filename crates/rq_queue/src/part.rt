@@ -6,7 +6,7 @@ ghost use Rattle.std.specs.List.{AllByRecursion, flat_map};
 ghost use Rattle.std.specs.List.Sorted.{IsPermutation};
 ghost use Rattle.rq_model.specs.Machine as machine;
 ghost use Rattle.rq_model.specs.Queues as queues;
-ghost use Rattle.rq_model.specs.Ready.{IsReady};
+ghost use Rattle.rq_model.specs.Redo.{IsReady};
 ghost use Rattle.rq_model.specs.Records as records;
 ghost use Rattle.rq_model.specs.Redo as redo_words;
 ghost use Rattle.rq_model.specs.StateSpelling.{registrant_bytes};

@@ -4,7 +4,7 @@ ghost use Rattle.std.specs.Prelude.{◌≡◌, ◌≤◌, ◌<◌, ◌-◌, ◌^
 ghost use Rattle.std.specs.Prelude.{IfOk, IfErr};
 ghost use Rattle.std.specs.List.{AllByRecursion};
 ghost use Rattle.rq_model.specs.Queues as queues;
-ghost use Rattle.rq_model.specs.Ready.{GoesWell};
+ghost use Rattle.rq_model.specs.Redo.{GoesWell};
 ghost use Rattle.rq_model.specs.Redo as redo_words;
 ghost use Rattle.rq_record.specs.declared.fault.Fault.TheVariants.{Resources};
 ghost use Rattle.rq_queue.specs.Case.{AreRising, HasCase, Redoes};

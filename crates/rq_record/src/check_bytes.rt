@@ -1,7 +1,7 @@
 //! The bytes of a checkpoint record.
 
 ghost use Rattle.std.specs.Prelude.{◌≡◌, ◌≤◌, ◌↔◌, [], length, IsSome, IfSome, IfOk, IfErr};
-ghost use Rattle.rq_model.specs.RecordReading.{at_most};
+ghost use Rattle.rq_model.specs.Reading.{at_most};
 ghost use Rattle.rq_record.specs.LogParts.{EndsAt};
 ghost use Rattle.rq_record.specs.Reading.{KeepsRead};
 ghost use Rattle.rq_record.specs.declared.fault.Fault.TheVariants.{Resources};
@@ -65,7 +65,7 @@ impl CheckBytes {
 
     /// The last bytes before an end in a log: a part of it if that is shared, else a copy. `Form` if
     /// there are more than 268,435,455, which is found before memory is asked for.
-    #[tactic(auto, unfolding(rq_model::specs::RecordReading::at_most))]
+    #[tactic(auto, unfolding(rq_model::specs::Reading::at_most))]
     pub(crate) fn before(alloc: Global, at: &LogEnd<'_>, bytes: &[u8]) -> Result<CheckBytes, Fault>
         requires { EndsAt at.now.log.now at.now.end bytes.now }
         ensures { KeepsRead (λ p. p) result (at_most 268435455 bytes.now) }

@@ -1,7 +1,7 @@
 //! A payload in 24 bytes: as a record and an element keep it.
 
 ghost use Rattle.std.specs.Prelude.{◌≡◌, ◌<◌, ◌≤◌, ◌↔◌, length, IsSome, IfSome, IfOk, IfErr};
-ghost use Rattle.rq_model.specs.RecordReading.{at_most};
+ghost use Rattle.rq_model.specs.Reading.{at_most};
 ghost use Rattle.rq_record.specs.KeptPayloads.{bytes_of};
 ghost use Rattle.rq_record.specs.LogParts.{EndsAt};
 ghost use Rattle.rq_record.specs.Reading.{KeepsRead};
@@ -104,7 +104,7 @@ impl KeptPayload {
 
     /// The same for the last bytes before an end in a log: if that is shared, a long payload is a
     /// part of it. `Form` if there are more than 65,535.
-    #[tactic(auto, unfolding(rq_model::specs::RecordReading::at_most))]
+    #[tactic(auto, unfolding(rq_model::specs::Reading::at_most))]
     pub(crate) fn before(alloc: Global, at: &LogEnd<'_>, bytes: &[u8]) -> Result<KeptPayload, Fault>
         requires { EndsAt at.now.log.now at.now.end bytes.now }
         ensures { KeepsRead (λ p. p) result (at_most 65535 bytes.now) }

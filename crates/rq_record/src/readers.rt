@@ -5,10 +5,10 @@
 ghost use Rattle.std.specs.Prelude.{◌≡◌, ◌+◌, ◌≤◌, [], length, slice_range, option_map};
 ghost use Rattle.rq_bytes.specs.Readers.{made};
 ghost use Rattle.rq_model.specs.Records.{One};
-ghost use Rattle.rq_model.specs.RecordReading.{name_left, who_read, define_from, define_read};
-ghost use Rattle.rq_model.specs.RecordReading.{registration_read, unit_read, enqueue_from};
-ghost use Rattle.rq_model.specs.RecordReading.{enqueue_read, dequeue_from, dequeue_read, kill_from};
-ghost use Rattle.rq_model.specs.RecordReading.{kill_read, record_behind, record_read};
+ghost use Rattle.rq_model.specs.Reading.{name_left, who_read, define_from, define_read};
+ghost use Rattle.rq_model.specs.Reading.{registration_read, unit_read, enqueue_from};
+ghost use Rattle.rq_model.specs.Reading.{enqueue_read, dequeue_from, dequeue_read, kill_from};
+ghost use Rattle.rq_model.specs.Reading.{kill_read, record_behind, record_read};
 ghost use Rattle.rq_record.specs.LogParts.{EndsAt, IsLeftTo};
 ghost use Rattle.rq_record.specs.Reading.{KeepsRead, Decodes};
 ghost use Rattle.rq_record.specs.Views.{record_of, version_of};
@@ -26,7 +26,7 @@ use crate::version::Version;
 use rq_bytes::Cursor;
 use std::alloc::Global;
 
-#[tactic(auto, unfolding(rq_model::specs::RecordReading::name_left))]
+#[tactic(auto, unfolding(rq_model::specs::Reading::name_left))]
 fn name_left(alloc: Global, bytes: Cursor<'_>) -> Result<KeptName, Fault>
     ensures { KeepsRead (λ n. n) result (name_left bytes.entry) }
 {
@@ -36,7 +36,7 @@ fn name_left(alloc: Global, bytes: Cursor<'_>) -> Result<KeptName, Fault>
     }
 }
 
-#[tactic(auto, unfolding(rq_model::specs::RecordReading::who_read))]
+#[tactic(auto, unfolding(rq_model::specs::Reading::who_read))]
 fn who<'a>(bytes: &mut Cursor<'a>) -> Option<Option<LentBy<'a>>>
     ensures { option_map (λ x. (x, bytes.new)) result ≡ who_read bytes.old }
 {
@@ -53,7 +53,7 @@ fn who<'a>(bytes: &mut Cursor<'a>) -> Option<Option<LentBy<'a>>>
     }
 }
 
-#[tactic(auto, unfolding(rq_model::specs::RecordReading::define_read))]
+#[tactic(auto, unfolding(rq_model::specs::Reading::define_read))]
 fn define(alloc: Global, mut bytes: Cursor<'_>) -> Result<KeptRecord, Fault>
     ensures { KeepsRead record_of result (made define_from define_read bytes.entry) }
 {
@@ -67,7 +67,7 @@ fn define(alloc: Global, mut bytes: Cursor<'_>) -> Result<KeptRecord, Fault>
     })
 }
 
-#[tactic(auto, unfolding(rq_model::specs::RecordReading::registration_read))]
+#[tactic(auto, unfolding(rq_model::specs::Reading::registration_read))]
 fn registration(alloc: Global, mut bytes: Cursor<'_>) -> Result<(QueueNo, KeptName), Fault>
     ensures { KeepsRead (λ r. (r.0.0, r.1)) result (registration_read bytes.entry) }
 {
@@ -76,7 +76,7 @@ fn registration(alloc: Global, mut bytes: Cursor<'_>) -> Result<(QueueNo, KeptNa
     Ok((QueueNo(queue), name))
 }
 
-#[tactic(auto, unfolding(rq_model::specs::RecordReading::unit_read))]
+#[tactic(auto, unfolding(rq_model::specs::Reading::unit_read))]
 fn unit(mut bytes: Cursor<'_>) -> Option<UnitNo>
     ensures { option_map (λ u. (u.0, [])) result ≡ unit_read bytes.entry }
 {
@@ -85,7 +85,7 @@ fn unit(mut bytes: Cursor<'_>) -> Option<UnitNo>
     Some(UnitNo(unit))
 }
 
-#[tactic(auto, unfolding(rq_model::specs::RecordReading::enqueue_read))]
+#[tactic(auto, unfolding(rq_model::specs::Reading::enqueue_read))]
 fn enqueue(alloc: Global, at: &LogEnd<'_>, mut bytes: Cursor<'_>) -> Result<KeptRecord, Fault>
     requires { IsLeftTo at.now.log.now at.now.end bytes }
     ensures { KeepsRead record_of result (made enqueue_from enqueue_read bytes.entry) }
@@ -104,7 +104,7 @@ fn enqueue(alloc: Global, at: &LogEnd<'_>, mut bytes: Cursor<'_>) -> Result<Kept
     })
 }
 
-#[tactic(auto, unfolding(rq_model::specs::RecordReading::dequeue_read))]
+#[tactic(auto, unfolding(rq_model::specs::Reading::dequeue_read))]
 fn dequeue(alloc: Global, mut bytes: Cursor<'_>) -> Result<KeptRecord, Fault>
     ensures { KeepsRead record_of result (made dequeue_from dequeue_read bytes.entry) }
 {
@@ -119,7 +119,7 @@ fn dequeue(alloc: Global, mut bytes: Cursor<'_>) -> Result<KeptRecord, Fault>
     })
 }
 
-#[tactic(auto, unfolding(rq_model::specs::RecordReading::kill_read))]
+#[tactic(auto, unfolding(rq_model::specs::Reading::kill_read))]
 fn kill(version: Version, mut bytes: Cursor<'_>) -> Result<KeptRecord, Fault>
     ensures { KeepsRead record_of result
         (made kill_from (kill_read (version_of version)) bytes.entry) }
@@ -136,7 +136,7 @@ fn kill(version: Version, mut bytes: Cursor<'_>) -> Result<KeptRecord, Fault>
     })
 }
 
-#[tactic(auto, unfolding(rq_model::specs::RecordReading::record_behind, rq_model::specs::RecordReading::checkpoint_read,))]
+#[tactic(auto, unfolding(rq_model::specs::Reading::record_behind, rq_model::specs::Reading::checkpoint_read,))]
 fn of_kind(
     alloc: Global,
     version: Version,
@@ -176,7 +176,7 @@ fn of_kind(
     }
 }
 
-#[tactic(auto, unfolding(rq_model::specs::RecordReading::record_read))]
+#[tactic(auto, unfolding(rq_model::specs::Reading::record_read))]
 fn read(alloc: Global, version: Version, at: &LogEnd<'_>, body: &[u8]) -> Result<KeptRecord, Fault>
     requires { EndsAt at.now.log.now at.now.end body.now }
     ensures { KeepsRead record_of result (record_read (version_of version) body.now) }

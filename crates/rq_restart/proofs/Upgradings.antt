@@ -14,8 +14,8 @@ use Rattle.rq_model.specs.Frames.{before, stated, body_in, HasFrame, HasHeader, 
 use Rattle.rq_model.specs.LogLaws.{LogEnds}
 use Rattle.rq_model.specs.States.{empty}
 use Rattle.rq_model.specs.Fronts.{IsFront, Why}
-use Rattle.rq_model.specs.Tails.{IsUpgraded}
-use Rattle.rq_model.proofs.Bodies.{body_fits}
+use Rattle.rq_model.specs.Upgrading.{IsUpgraded}
+use Rattle.rq_model.proofs.RecordReaders.{body_fits}
 use Rattle.rq_model.proofs.Runs.{frame_reads, length-sha256, right_at}
 use Rattle.rq_model.proofs.Lists.{each_map}
 use Rattle.rq_model.proofs.Restarts.{header_long}

@@ -5,7 +5,7 @@ use Rattle.std.specs.Global.{Vec}
 use Rattle.rq_model.specs.Records.{Record}
 use Rattle.rq_model.specs.Frames.{log_limit, HasFrame, body_in, stated}
 use Rattle.rq_model.specs.Fronts.{IsFront}
-use Rattle.rq_model.specs.Tails.{IsUpgraded}
+use Rattle.rq_model.specs.Upgrading.{IsUpgraded}
 use Rattle.rq_record.specs.Views.{version_of}
 use Rattle.rq_record.specs.declared.fault.Fault.{Fault}
 use Rattle.rq_front.specs.Chains.{Refused, IsLog}

@@ -8,8 +8,8 @@ use Rattle.std.proofs.lemmas.Bool.{lt-ltb, eq-eqb}
 use Rattle.rq_model.specs.States.{Element}
 use Rattle.rq_model.specs.Queues.{Part, Move}
 use Rattle.rq_model.specs.Redo.{receive}
-use Rattle.rq_model.specs.Ready.{AreNew}
-use Rattle.rq_model.specs.UnitEnds.{coming}
+use Rattle.rq_model.specs.Redo.{AreNew}
+use Rattle.rq_model.specs.StepLaws.{coming}
 use Rattle.rq_model.proofs.Lists.{by_cases}
 use Rattle.rq_standing.specs.Parts.{part_at, Received, CanArrive, HaveArrived}
 

@@ -10,9 +10,9 @@ use Rattle.rq_model.specs.WellFormed.{IsWellFormed, IsElement}
 use Rattle.rq_model.specs.Machine.{step, leaves, moved}
 use Rattle.rq_model.specs.Queues.{Part, Move, part_of, is_engaged, moves_of, transfers_at}
 use Rattle.rq_model.specs.Redo.{act, sent, receive}
-use Rattle.rq_model.specs.Ready.{AreNew}
+use Rattle.rq_model.specs.Redo.{AreNew}
 use Rattle.rq_model.specs.StepLaws.{StepByParts}
-use Rattle.rq_model.specs.UnitEnds.{coming, aborted_part, UnitEndsByParts}
+use Rattle.rq_model.specs.StepLaws.{coming, aborted_part, UnitEndsByParts}
 use Rattle.rq_model.proofs.Lists.{by_cases, filter_none, each_weaker, each_filter}
 use Rattle.rq_standing.specs.Parts.{ArePartsOf, part_at, Ended, Send, Sends, Room, CanArrive, HaveArrived}
 

@@ -12,7 +12,7 @@ use Rattle.rq_model.specs.States.{Element}
 use Rattle.rq_model.specs.Machine.{returned}
 use Rattle.rq_model.specs.Queues.{Part, Move, Transfer, moves_of}
 use Rattle.rq_model.specs.Redo.{act, sent}
-use Rattle.rq_model.specs.UnitEnds.{coming, going, UnitEndsByParts}
+use Rattle.rq_model.specs.StepLaws.{coming, going, UnitEndsByParts}
 use Rattle.rq_model.proofs.Lists.{by_cases, each_map, each_filter, each_of, each_weaker, filter_none}
 use Rattle.rq_standing.specs.Parts.{part_at, Ended, Send, Sends, Room}
 

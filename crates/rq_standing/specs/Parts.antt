@@ -6,8 +6,8 @@ use Rattle.rq_model.specs.Records.{Record, Abort}
 use Rattle.rq_model.specs.States.{State, Element, no_definition}
 use Rattle.rq_model.specs.Queues.{Part, Move, Transfer, part_of, moves_of}
 use Rattle.rq_model.specs.Redo.{act, sent, receive}
-use Rattle.rq_model.specs.Ready.{AreNew}
-use Rattle.rq_model.specs.UnitEnds.{coming, going}
+use Rattle.rq_model.specs.Redo.{AreNew}
+use Rattle.rq_model.specs.StepLaws.{coming, going}
 
 -- stands where no queue has the number
 abbrev pub no_part : Part

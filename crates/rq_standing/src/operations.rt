@@ -3,7 +3,7 @@
 ghost use Rattle.std.specs.Prelude.{◌≡◌, ◌<◌, ◌++◌, ◌∷◌, [], length, option_map, IfOk, OnOk, IfErr};
 ghost use Rattle.std.specs.List.{AllByRecursion};
 ghost use Rattle.rq_model.specs.Machine as machine;
-ghost use Rattle.rq_model.specs.Ready.{IsReady};
+ghost use Rattle.rq_model.specs.Redo.{IsReady};
 ghost use Rattle.rq_model.specs.Records as records;
 ghost use Rattle.rq_model.specs.States as states;
 ghost use Rattle.rq_record.specs.declared.fault.Fault.TheVariants.{Resources};

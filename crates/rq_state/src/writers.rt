@@ -2,7 +2,7 @@
 
 ghost use Rattle.std.specs.Prelude.{◌≤◌, ◌++◌};
 ghost use Rattle.std.specs.Int.{w64, to_be_bytes};
-ghost use Rattle.rq_model.specs.StateReading.{AreFew};
+ghost use Rattle.rq_model.specs.Reading.{AreFew};
 ghost use Rattle.rq_model.specs.StateSpelling.{counted, registrant_bytes, element_bytes};
 ghost use Rattle.rq_model.specs.StateSpelling.{note_bytes, state_bytes};
 ghost use Rattle.rq_model.specs.WellFormed.{IsWellFormed};

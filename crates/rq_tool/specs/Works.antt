@@ -4,7 +4,7 @@ use Rattle.std.specs.List.{flat_map}
 use Rattle.std.specs.Fmt.{decimal}
 use Rattle.rq_model.specs.Frames.{log_limit}
 use Rattle.rq_model.specs.Closing.{IsClosed, StandsFor}
-use Rattle.rq_model.specs.Tails.{IsUpgraded}
+use Rattle.rq_model.specs.Upgrading.{IsUpgraded}
 use Rattle.rq_model.specs.Upgrading.{SaysTheSame}
 use Rattle.rq_model.specs.Reports.{IsReport}
 use Rattle.rq_model.specs.Checkpoints.{Audited, IsAudit, IsReportAt, TrueAt}

@@ -2,8 +2,8 @@
 
 ghost use Rattle.std.specs.Prelude.{◌≡◌, [], option_map};
 ghost use Rattle.rq_bytes.specs.Readers.{number, members, counted_members, after_of};
-ghost use Rattle.rq_model.specs.StateReading.{definition_read, registrant_read, element_read};
-ghost use Rattle.rq_model.specs.StateReading.{note_read};
+ghost use Rattle.rq_model.specs.Reading.{definition_read, registrant_read, element_read};
+ghost use Rattle.rq_model.specs.Reading.{note_read};
 ghost use Rattle.rq_state.specs.Reading.{passed, form_read};
 
 use crate::kept_element::KeptElement;

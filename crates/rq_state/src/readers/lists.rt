@@ -5,8 +5,8 @@ ghost use Rattle.rq_state.specs.Views.{unit_of};
 ghost use Rattle.rq_state.specs.Inside.{state_of};
 ghost use Rattle.rq_state.specs.Reading.{GivesFromCheckpoint};
 ghost use Rattle.rq_bytes.specs.Readers.{number, members, counted_members, alone};
-ghost use Rattle.rq_model.specs.StateReading.{definition_read, registrant_read, element_read};
-ghost use Rattle.rq_model.specs.StateReading.{note_read, state_read};
+ghost use Rattle.rq_model.specs.Reading.{definition_read, registrant_read, element_read};
+ghost use Rattle.rq_model.specs.Reading.{note_read, state_read};
 
 use crate::fields::KeptFields;
 use crate::kept_element::KeptElement;
@@ -66,7 +66,7 @@ fn take_all_units(alloc: Global, bytes: &mut Cursor<'_>) -> Result<Vec<UnitNo>, 
     take_units(alloc, count, bytes)
 }
 
-#[tactic(auto, unfolding(rq_model::specs::StateReading::state_read))]
+#[tactic(auto, unfolding(rq_model::specs::Reading::state_read))]
 fn take_fields(alloc: Global, bytes: &mut Cursor<'_>) -> Result<KeptFields, Fault>
     ensures { GivesFromCheckpoint (λ x. (state_of x, bytes.new)) result
         (state_read bytes.old) }

@@ -2,10 +2,10 @@
 //! specified, and nobody reads on.
 
 ghost use Rattle.std.specs.Prelude.{◌≡◌, ◌≤◌, ℕ, List, Option, length, option_map, IfSome, Some};
-ghost use Rattle.rq_model.specs.StateReading.{name_read, definition_read, id_from, id_read};
-ghost use Rattle.rq_model.specs.StateReading.{kind_read, operation_read, last_from, last_read};
-ghost use Rattle.rq_model.specs.StateReading.{registrant_read, mark_read, element_from};
-ghost use Rattle.rq_model.specs.StateReading.{element_read, note_read};
+ghost use Rattle.rq_model.specs.Reading.{name_read, definition_read, id_from, id_read};
+ghost use Rattle.rq_model.specs.Reading.{kind_read, operation_read, last_from, last_read};
+ghost use Rattle.rq_model.specs.Reading.{registrant_read, mark_read, element_from};
+ghost use Rattle.rq_model.specs.Reading.{element_read, note_read};
 ghost use Rattle.rq_bytes.specs.Readers.{number, made};
 ghost use Rattle.rq_state.specs.Views.{mark_of, kind_of, id_of, unit_of};
 ghost use Rattle.rq_state.specs.Reading.{GivesFromCheckpoint, passed};
@@ -17,7 +17,7 @@ use rq_bytes::Cursor;
 use rq_record::{ElemId, Fault, KeptPayload, Name, QueueNo, UnitNo};
 use std::alloc::Global;
 
-#[tactic(auto, unfolding(rq_model::specs::StateReading::name_read))]
+#[tactic(auto, unfolding(rq_model::specs::Reading::name_read))]
 fn take_name(bytes: &mut Cursor<'_>) -> Option<Name>
     ensures { option_map (λ x. (x, bytes.new)) result ≡ name_read bytes.old }
 {
@@ -25,7 +25,7 @@ fn take_name(bytes: &mut Cursor<'_>) -> Option<Name>
     Name::new(name)
 }
 
-#[tactic(auto, unfolding(rq_model::specs::StateReading::definition_read))]
+#[tactic(auto, unfolding(rq_model::specs::Reading::definition_read))]
 pub(crate) fn take_definition(bytes: &mut Cursor<'_>) -> Option<Definition>
     ensures { option_map (λ x. (x, bytes.new)) result ≡ definition_read bytes.old }
 {
@@ -46,7 +46,7 @@ pub(crate) fn take_unit(bytes: &mut Cursor<'_>) -> Option<UnitNo>
     Some(UnitNo(unit))
 }
 
-#[tactic(auto, unfolding(rq_model::specs::StateReading::kind_read))]
+#[tactic(auto, unfolding(rq_model::specs::Reading::kind_read))]
 fn take_kind(bytes: &mut Cursor<'_>) -> Option<OpKind>
     ensures { option_map (λ x. (kind_of x, bytes.new)) result ≡ kind_read bytes.old }
 {
@@ -63,7 +63,7 @@ fn id_from(n: u64) -> Option<ElemId>
     if n == u64::MAX { None } else { Some(ElemId(n)) }
 }
 
-#[tactic(auto, unfolding(rq_model::specs::StateReading::id_read))]
+#[tactic(auto, unfolding(rq_model::specs::Reading::id_read))]
 fn take_id(bytes: &mut Cursor<'_>) -> Option<Option<ElemId>>
     ensures { option_map (λ x. (id_of x, bytes.new)) result ≡ id_read bytes.old }
 {
@@ -71,7 +71,7 @@ fn take_id(bytes: &mut Cursor<'_>) -> Option<Option<ElemId>>
     Some(id_from(n))
 }
 
-#[tactic(auto, unfolding(rq_model::specs::StateReading::operation_read))]
+#[tactic(auto, unfolding(rq_model::specs::Reading::operation_read))]
 fn take_operation(kind: OpKind, bytes: &mut Cursor<'_>) -> Option<Last>
     ensures { option_map (λ x. (Some x, bytes.new)) result
         ≡ made (last_from (kind_of kind)) operation_read bytes.old }
@@ -87,7 +87,7 @@ fn take_operation(kind: OpKind, bytes: &mut Cursor<'_>) -> Option<Last>
     })
 }
 
-#[tactic(auto, unfolding(rq_model::specs::StateReading::last_read))]
+#[tactic(auto, unfolding(rq_model::specs::Reading::last_read))]
 fn take_last(bytes: &mut Cursor<'_>) -> Option<Option<Last>>
     ensures { option_map (λ x. (x, bytes.new)) result ≡ last_read bytes.old }
 {
@@ -105,7 +105,7 @@ fn take_last(bytes: &mut Cursor<'_>) -> Option<Option<Last>>
     }
 }
 
-#[tactic(auto, unfolding(rq_model::specs::StateReading::registrant_read))]
+#[tactic(auto, unfolding(rq_model::specs::Reading::registrant_read))]
 fn take_registrant(bytes: &mut Cursor<'_>) -> Option<Registrant>
     ensures { option_map (λ x. (x, bytes.new)) result ≡ registrant_read bytes.old }
 {
@@ -127,7 +127,7 @@ fn take_kept_registrant(alloc: Global, bytes: &mut Cursor<'_>) -> Result<KeptReg
     Ok(kept)
 }
 
-#[tactic(auto, unfolding(rq_model::specs::StateReading::mark_read))]
+#[tactic(auto, unfolding(rq_model::specs::Reading::mark_read))]
 fn take_mark(bytes: &mut Cursor<'_>) -> Option<Mark>
     ensures { option_map (λ x. (mark_of x, bytes.new)) result ≡ mark_read bytes.old }
 {
@@ -146,7 +146,7 @@ fn take_mark(bytes: &mut Cursor<'_>) -> Option<Mark>
 }
 
 /// The fields of an element, whose payload is not copied.
-#[tactic(auto, unfolding(rq_model::specs::StateReading::element_read))]
+#[tactic(auto, unfolding(rq_model::specs::Reading::element_read))]
 pub(crate) fn element_fields<'a>(
     bytes: &mut Cursor<'a>,
 ) -> Option<(u64, u32, u32, u8, u64, Mark, &'a [u8])>
@@ -196,7 +196,7 @@ pub(crate) fn take_element(alloc: Global, bytes: &mut Cursor<'_>) -> Result<Kept
     })
 }
 
-#[tactic(auto, unfolding(rq_model::specs::StateReading::note_read))]
+#[tactic(auto, unfolding(rq_model::specs::Reading::note_read))]
 pub(crate) fn take_note(bytes: &mut Cursor<'_>) -> Option<Note>
     ensures { option_map (λ x. (x, bytes.new)) result ≡ note_read bytes.old }
 {

@@ -1,7 +1,7 @@
 use Rattle.std.proofs.Common.{◌≡◌, ◌≤◌, ◌-◌, ◌++◌, List, length, drop}
 use Rattle.std.specs.List.{AllByRecursion}
 use Rattle.rq_model.specs.Queues as queues
-use Rattle.rq_model.specs.Ready.{GoesWell}
+use Rattle.rq_model.specs.Redo.{GoesWell}
 use Rattle.rq_model.specs.Redo as redo_words
 use Rattle.rq_queue.proofs.queue_redo.catch_up.Given as goal
 

@@ -1,5 +1,5 @@
 use Rattle.std.proofs.Common.{◌≡◌, ◌≤◌, ◌++◌, length, drop, reverse}
-use Rattle.rq_model.specs.Ready.{GoesWell}
+use Rattle.rq_model.specs.Redo.{GoesWell}
 use Rattle.rq_model.specs.Redo as redo_words
 use Rattle.rq_queue.specs.Case.{AreRising}
 use Rattle.rq_queue.proofs.queue_redo.redo_in_order.Given as goal

@@ -1,7 +1,7 @@
 use Rattle.std.proofs.Common.{◌≡◌, ℕ, List, Some, rules, subst, sym}
 use Rattle.rq_bytes.specs.Readers.{byte, number}
 use Rattle.rq_bytes.proofs.Single.{reads_byte, reads_u32, reads_u64}
-use Rattle.rq_model.specs.RecordReading.{who_read}
+use Rattle.rq_model.specs.Reading.{who_read}
 use Rattle.rq_model.proofs.RecordReaders.{reads_who}
 use Rattle.rq_record.specs.LogParts.{EndsAt}
 use Rattle.rq_record.proofs.Parts.{left_at}
