@@ -44,7 +44,7 @@ WORDS = {
 }
 SIGNS = {"+": "-", "-": "+", "/": "%", "%": "/", "<": "≤", "≤": "<", "≡": "≢", "≢": "≡", "&&": "||", "||": "&&", "×": "⊎", "⊎": "×", "↔": "×"}
 TOKEN = re.compile(r'"(?:[^"\\]|\\.)*"|0x[0-9a-f]+|[A-Za-z_][A-Za-z0-9_\'-]*|\d+|&&|\|\||==|\+\+|[-+/%<≤≡≢×⊎↔]')
-LAWS = ("Laws", "LogLaws", "MoveLaws", "Ready", "Closing", "Upgrading")
+LAWS = ("Laws", "LogLaws", "Redo", "Closing", "Upgrading")
 HOMES = {
     "Rattle.std.specs.List": ("list_any", "list_all"), "Rattle.std.specs.Int": ("w16", "w32", "w64"),
     "Rattle.rq_model.specs.Records": ("One", "Two", "Commit", "Abort", "Register", "Deregister"),
