@@ -1,3 +1,2 @@
 pub mod Single
 pub mod Together
-pub mod Members

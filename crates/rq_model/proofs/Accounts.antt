@@ -23,7 +23,7 @@ use Rattle.rq_model.proofs.Lists.{each_weaker, each_append, each_both}
 use Rattle.rq_model.proofs.Kept.{runs_are_well_formed, empty_is_well_formed}
 use Rattle.rq_model.proofs.Widths.{runs_fit, empty_fits}
 use Rattle.rq_model.proofs.Texts.{one_text}
-use Rattle.rq_model.proofs.Listed.{is_text}
+use Rattle.rq_model.proofs.Texts.{is_text}
 use Rattle.rq_model.proofs.Restarts.{frames_many}
 use Rattle.rq_model.proofs.Tails.{aborts_follow, crash_in_the_tail}
 use Rattle.rq_model.proofs.FromCheckpoints.{true_says_the_same, one_restart_at, true_back, true_is_same}

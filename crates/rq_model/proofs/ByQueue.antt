@@ -14,7 +14,7 @@ use Rattle.rq_model.specs.Queues.{Part, defined_by, Op, touches, touching_from, 
 use Rattle.rq_model.specs.Queues.{moves_of, arrivals_of, moves, arrivals}
 use Rattle.rq_model.specs.Redo.{act, sent, receive, put_all, before as before_place, from as from_place, redone}
 use Rattle.rq_model.specs.Redo.{all_sent}
-use Rattle.rq_model.specs.Laws.{IsSound, Projection, RedoSteps}
+use Rattle.rq_model.specs.Laws.{IsSound, Projection, QueueIsDecided, RedoSteps}
 use Rattle.rq_model.proofs.Lists.{by_cases, filter_all, filter_none, each_weaker, each_of, each_append, each_map}
 use Rattle.rq_model.proofs.Lists.{each_filter}
 use Rattle.rq_model.proofs.Steps.{core, Knows, known_by, step_part, step_moves}
@@ -224,3 +224,11 @@ redo_steps = record {
   acts = λ p op ops ms h. (first_op true op.place op.does p ops ms h, first_sent true op.place op.does p ops ms h);
   ends = λ p m ms. (refl, refl);
 }
+
+pub queue_is_decided : QueueIsDecided
+queue_is_decided v w s t rs us queue sound_s sound_t lawful_s lawful_t part touch arrive =
+    let a = projection v s rs queue sound_s lawful_s in
+    let b = projection w t us queue sound_t lawful_t in (
+      sym a.0 ∙ (λ i. redone (part i) (touch i) (arrive i)) ∙ b.0,
+      sym a.1 ∙ (λ i. all_sent (part i) (touch i) (arrive i)) ∙ b.1,
+    )

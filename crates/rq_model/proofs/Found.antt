@@ -27,7 +27,7 @@ use Rattle.rq_model.proofs.Runs.{frame_at, frame_long, frames_assoc}
 use Rattle.rq_model.proofs.Longest.{front_stops}
 use Rattle.rq_model.proofs.Restarts.{header_long}
 use Rattle.rq_model.proofs.Tails.{crash_in_the_tail}
-use Rattle.rq_model.proofs.Listed.{is_text}
+use Rattle.rq_model.proofs.Texts.{is_text}
 
 -- a body is read as the record that it spells, or spells none
 abbrev SpellsOrNot : Version → List ℕ → Type 0

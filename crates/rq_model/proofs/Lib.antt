@@ -1,16 +1,14 @@
-pub mod WorkedReports
 pub mod WorkedEdges
-pub mod WorkedEnding
+pub mod WorkedReports
 pub mod Lists
 pub mod Parts
 pub mod Split
 pub mod Steps
 pub mod Sound
-pub mod Decided
 pub mod Merged
 pub mod Kept
 pub mod Shuffled
-pub mod LawfulFronts
+pub mod Decided
 pub mod Touching
 pub mod Numbers
 pub mod Depth
@@ -19,7 +17,6 @@ pub mod StateReaders
 pub mod RecordReaders
 pub mod Runs
 pub mod Longest
-pub mod Texts
 pub mod Widths
 pub mod StateCodes
 pub mod Restarts
@@ -28,7 +25,7 @@ pub mod Tails
 pub mod Found
 pub mod Upgraded
 pub mod Closed
-pub mod Listed
+pub mod Texts
 pub mod WellFormedRuns
 pub mod Apart
 pub mod GoesWell

@@ -7,7 +7,7 @@ use Rattle.rq_model.specs.States.{Registrant, State}
 use Rattle.rq_model.specs.StateSpelling.{state_bytes, FitsRegistrant, Fits}
 use Rattle.rq_model.specs.StateSpelling.{SpellsState}
 use Rattle.rq_bytes.specs.Readers.{alone, after_of}
-use Rattle.rq_bytes.specs.Reads.{IsBytes}
+use Rattle.rq_bytes.specs.Readers.{IsBytes}
 use Rattle.rq_bytes.proofs.Together.{reads_alone, spelled_by, read_again}
 use Rattle.rq_model.specs.Reading.{state_read}
 use Rattle.rq_model.proofs.Lists.{each_weaker}

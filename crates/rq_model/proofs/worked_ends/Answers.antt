@@ -1,4 +1,4 @@
-use Rattle.rq_model.proofs.WorkedEnding.{ended}
+use Rattle.rq_model.proofs.WorkedReports.{ended}
 use Rattle.rq_model.proofs.worked_ends.Goals as goal
 
 pub returns : goal.returns
