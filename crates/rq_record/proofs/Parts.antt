@@ -2,29 +2,11 @@
 use Rattle.std.proofs.Common.{◌≡◌, ℕ, ◌+◌, ◌-◌, ◌≤◌, List, [], ◌++◌, length, take, drop, Some, sym, ap, ◌∙◌}
 use Rattle.std.proofs.Common.{append_assoc, arith}
 use Rattle.std.specs.Prelude.{slice_range}
-use Rattle.std.proofs.lemmas.List.{append-nil, take_at, drop_at, take-append-drop, length-append, length-take}
+use Rattle.std.proofs.lemmas.List.{append-nil, take-append-drop, length-append, length-take}
 use Rattle.std.proofs.lemmas.List.{length-drop}
 use Rattle.rq_bytes.specs.Readers.{Reader}
-use Rattle.rq_bytes.specs.Reads.{Reads}
-use Rattle.rq_record.specs.LogParts.{EndsAt, IsLeftTo, IsPartOf}
-
--- the last bytes before an end are a part of the log
-pub part_at : (log bytes : List ℕ) (end start : ℕ) → EndsAt log end bytes → start + length bytes ≡ end
-    → IsPartOf log start bytes
-part_at log bytes end start h is =
-    let here : length h.before ≡ start = omega (arith, is, h.there) in
-    let from : drop start log ≡ bytes ++ h.behind =
-    ap (drop start) h.whole ∙ drop_at h.before (bytes ++ h.behind) start here in
-    let size : length bytes ≡ start + length bytes - start = omega arith in (
-      omega (
-        arith,
-        here,
-        ap length h.whole,
-        length-append h.before (bytes ++ h.behind),
-        length-append bytes h.behind,
-      ),
-      ap (take (start + length bytes - start)) from ∙ take_at bytes h.behind (start + length bytes - start) size,
-    )
+use Rattle.rq_bytes.specs.Readers.{Reads}
+use Rattle.rq_record.specs.LogParts.{EndsAt, IsLeftTo}
 
 -- a piece of the log ends where it ends
 pub piece_at : (log : List ℕ) (start len : ℕ) → start + len ≤ length log

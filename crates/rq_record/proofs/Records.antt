@@ -1,7 +1,7 @@
 -- A result that keeps what is read from a body decodes the body.
 use Rattle.std.proofs.Common.{◌≡◌, ℕ, List, [], Option, Some, None, refl}
 use Rattle.std.specs.Prelude.{Result, Ok, Err, IsSome}
-use Rattle.rq_bytes.specs.Reads.{IsBytes}
+use Rattle.rq_bytes.specs.Readers.{IsBytes}
 use Rattle.rq_bytes.proofs.Together.{spelled_by, read_again}
 use Rattle.rq_model.specs.Records.{Record, Version}
 use Rattle.rq_model.specs.Spelling.{Spells}

@@ -1,10 +1,7 @@
 pub mod Faults
-pub mod Kept
 pub mod Padding
-pub mod PaddingLaws
 pub mod LogParts
-pub mod KeptPayloads
-pub mod KeptChecks
+pub mod Kept
 pub mod Views
 pub mod Reading
 pub mod Writing

@@ -1,6 +1,6 @@
 -- Parts of a log.
 use Rattle.std.specs.Prelude.{ℕ, ◌+◌, ◌≤◌, ◌≡◌, List, ◌++◌, length, slice_range}
-use Rattle.rq_bytes.specs.Reads.{IsBytes}
+use Rattle.rq_bytes.specs.Readers.{IsBytes}
 
 -- from this byte on, the log has those bytes
 abbrev pub IsPartOf : List ℕ → ℕ → List ℕ → Type 0

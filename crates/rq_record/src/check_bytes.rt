@@ -34,7 +34,7 @@ enum Kept {
 
 impl Model for CheckBytes {
     ghost use Rattle.std.specs.Prelude.{ℕ, List};
-    ghost use Rattle.rq_record.specs.KeptChecks.{check_bytes_of, FitsCheck};
+    ghost use Rattle.rq_record.specs.Kept.{check_bytes_of, FitsCheck};
 
     ghost Value = { List ℕ };
 

@@ -58,7 +58,7 @@ impl KeptBy {
             None => Ok(KeptBy { somebody: None }),
             Some(by) => {
                 let somebody = Somebody {
-                    name: KeptName::of_lent(alloc, by.name)?,
+                    name: KeptName::of_checked(alloc, by.name)?,
                     tag: by.tag,
                 };
                 Ok(KeptBy {

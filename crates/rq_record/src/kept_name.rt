@@ -10,7 +10,7 @@ ghost use Rattle.rq_model.specs.Spelling.{is_name};
 ghost use Rattle.rq_record.specs.declared.fault.Fault.TheVariants.{Resources};
 
 use crate::fault::Fault;
-use crate::name::{LentName, Name, padded, text_of};
+use crate::name::{Name, padded, text_of};
 use std::alloc::Global;
 use std::cmp::Ordering;
 use std::marker::Model;
@@ -46,16 +46,17 @@ impl KeptName {
         ensures refused { IfErr result (λ e. e ≡ Resources) }
         ensures short { length name.now ≤ 14 → IsOk result }
     {
-        KeptName::of_lent(alloc, name.lent())
+        KeptName::of_checked(alloc, name.bytes())
     }
 
-    /// The same for a name that is lent.
-    pub(crate) fn of_lent(alloc: Global, name: LentName<'_>) -> Result<KeptName, Fault>
-        ensures kept { IfOk result (λ n. n ≡ name.entry) }
+    /// The same for bytes that are known to be a name: what is read is kept straight from where it
+    /// lies, without a copy into the 65 bytes of a `Name`.
+    pub(crate) fn of_checked(alloc: Global, bytes: &[u8]) -> Result<KeptName, Fault>
+        requires { IsTrue (is_name bytes.now) }
+        ensures kept { IfOk result (λ n. n ≡ bytes.now) }
         ensures refused { IfErr result (λ e. e ≡ Resources) }
-        ensures short { length name.entry ≤ 14 → IsOk result }
+        ensures short { length bytes.now ≤ 14 → IsOk result }
     {
-        let bytes = name.bytes();
         let form = if bytes.len() <= 14 {
             Form::Short {
                 len: bytes.len() as u8,

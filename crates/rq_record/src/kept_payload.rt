@@ -2,13 +2,14 @@
 
 ghost use Rattle.std.specs.Prelude.{◌≡◌, ◌<◌, ◌≤◌, ◌↔◌, length, IsSome, IfSome, IfOk, IfErr};
 ghost use Rattle.rq_model.specs.Reading.{at_most};
-ghost use Rattle.rq_record.specs.KeptPayloads.{bytes_of};
+ghost use Rattle.rq_record.specs.Kept.{bytes_of};
 ghost use Rattle.rq_record.specs.LogParts.{EndsAt};
 ghost use Rattle.rq_record.specs.Reading.{KeepsRead};
 ghost use Rattle.rq_record.specs.declared.fault.Fault.TheVariants.{Resources};
 
 use crate::fault::Fault;
 use crate::log_bytes::LogEnd;
+use crate::name::padded;
 use crate::payload::Payload;
 use std::alloc::Global;
 use std::marker::Model;
@@ -38,7 +39,7 @@ enum Bytes {
 
 impl Model for KeptPayload {
     ghost use Rattle.std.specs.Prelude.{ℕ, List};
-    ghost use Rattle.rq_record.specs.KeptPayloads.{bytes_of, FitsPayload};
+    ghost use Rattle.rq_record.specs.Kept.{bytes_of, FitsPayload};
 
     ghost Value = { List ℕ };
 
@@ -47,36 +48,25 @@ impl Model for KeptPayload {
     ghost invariant = { λ p. FitsPayload p.bytes };
 }
 
-fn inline(bytes: &[u8]) -> KeptPayload
-    requires { length bytes.now ≤ 22 }
-    ensures { result ≡ bytes.now }
-{
-    let mut array = [0; 22];
-    array[..bytes.len()].copy_from_slice(bytes);
-    KeptPayload {
-        bytes: Bytes::Inline {
-            array,
-            len: bytes.len() as u8,
-        },
-    }
-}
-
 // Keeps these bytes, which are no more than a payload may have.
 fn kept(alloc: Global, bytes: &[u8]) -> Result<KeptPayload, Fault>
     requires { length bytes.now ≤ 65535 }
     ensures kept { IfOk result (λ p. p ≡ bytes.now) }
     ensures refused { IfErr result (λ e. (e ≡ Resources) × (22 < length bytes.now)) }
 {
-    if bytes.len() <= 22 {
-        return Ok(inline(bytes));
-    }
-    Ok(KeptPayload {
-        bytes: Bytes::Part {
+    let bytes = if bytes.len() <= 22 {
+        Bytes::Inline {
+            array: padded(bytes),
+            len: bytes.len() as u8,
+        }
+    } else {
+        Bytes::Part {
             whole: ArcSlice::from_slice(alloc, bytes)?,
             start: 0,
             len: bytes.len() as u16,
-        },
-    })
+        }
+    };
+    Ok(KeptPayload { bytes })
 }
 
 impl KeptPayload {

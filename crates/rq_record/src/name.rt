@@ -39,7 +39,7 @@ impl Model for Name {
 
     ghost inverse = { λ v. record { bytes = v ++ replicate (64 - length v) 0; len = length v } };
 
-    ghost use Rattle.rq_record.specs.PaddingLaws.{inside_again};
+    ghost use Rattle.rq_record.specs.Padding.{inside_again};
 
     ghost inverse_ok = { inside_again };
 }
@@ -56,7 +56,7 @@ fn are_name_chars(bytes: &[u8]) -> bool
     bytes.iter().all(|b| is_name_char(*b))
 }
 
-fn is_name_bytes(bytes: &[u8]) -> bool
+pub(crate) fn is_name_bytes(bytes: &[u8]) -> bool
     ensures { result ≡ is_name bytes.now }
 {
     1 <= bytes.len() && bytes.len() <= 64 && are_name_chars(bytes)
@@ -116,54 +116,6 @@ impl Name {
         ensures { result.now ≡ self.now }
     {
         text_of(self.bytes())
-    }
-
-    /// The same name, lent.
-    pub(crate) fn lent(&self) -> LentName<'_>
-        ensures { result ≡ self.now }
-    {
-        LentName {
-            bytes: self.bytes(),
-        }
-    }
-}
-
-/// A name where its bytes lie. What is read is kept straight from here, without a copy into the 65
-/// bytes of a `Name`.
-#[derive(Drop)]
-pub(crate) struct LentName<'a> {
-    bytes: &'a [u8],
-}
-
-impl<'a> Model for LentName<'a> {
-    ghost use Rattle.std.specs.Prelude.{ℕ, List, IsTrue};
-    ghost use Rattle.rq_model.specs.Spelling.{is_name};
-
-    ghost Value = { List ℕ };
-
-    ghost view = { λ n. n.bytes.now };
-
-    ghost invariant = { λ n. IsTrue (is_name n.bytes.now) };
-}
-
-impl<'a> LentName<'a> {
-    /// The name with these bytes; none if they are not a name.
-    pub(crate) fn new(bytes: &'a [u8]) -> Option<LentName<'a>>
-        ensures { result ≡ (if is_name bytes.now then Some bytes.now else None) }
-    {
-        if is_name_bytes(bytes) {
-            Some(LentName { bytes })
-        } else {
-            None
-        }
-    }
-
-    /// The bytes of the name, 1 to 64, and that they are a name.
-    pub(crate) fn bytes(self) -> &'a [u8]
-        ensures bytes { result.now ≡ self.entry }
-        ensures name { IsTrue (is_name self.entry) }
-    {
-        self.bytes
     }
 }
 

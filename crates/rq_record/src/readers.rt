@@ -20,7 +20,7 @@ use crate::kept_name::KeptName;
 use crate::kept_payload::KeptPayload;
 use crate::kept_record::KeptRecord;
 use crate::log_bytes::{LogBytes, LogEnd};
-use crate::name::LentName;
+use crate::name::is_name_bytes;
 use crate::record::{ElemId, LentBy, QueueNo, Record, UnitNo};
 use crate::version::Version;
 use rq_bytes::Cursor;
@@ -30,9 +30,11 @@ use std::alloc::Global;
 fn name_left(alloc: Global, bytes: Cursor<'_>) -> Result<KeptName, Fault>
     ensures { KeepsRead (λ n. n) result (name_left bytes.entry) }
 {
-    match LentName::new(bytes.rest()) {
-        Some(name) => KeptName::of_lent(alloc, name),
-        None => Err(Fault::Form),
+    let name = bytes.rest();
+    if is_name_bytes(name) {
+        KeptName::of_checked(alloc, name)
+    } else {
+        Err(Fault::Form)
     }
 }
 
@@ -46,7 +48,10 @@ fn who<'a>(bytes: &mut Cursor<'a>) -> Option<Option<LentBy<'a>>>
             if tag == 0 { Some(None) } else { None }
         }
         size => {
-            let name = LentName::new(bytes.piece(size as usize)?)?;
+            let name = bytes.piece(size as usize)?;
+            if !is_name_bytes(name) {
+                return None;
+            }
             let tag = bytes.u64()?;
             Some(Some(LentBy { name, tag }))
         }

@@ -3,7 +3,7 @@
 ghost use Rattle.std.specs.Prelude.{◌≡◌};
 
 use crate::check_bytes::CheckBytes;
-use crate::name::{LentName, Name};
+use crate::name::Name;
 use crate::payload::Payload;
 use std::marker::Model;
 
@@ -52,7 +52,7 @@ impl By {
         ensures { result ≡ self.now }
     {
         LentBy {
-            name: self.name.lent(),
+            name: self.name.bytes(),
             tag: self.tag,
         }
     }
@@ -61,16 +61,20 @@ impl By {
 /// A `By` whose name is where its bytes lie.
 #[derive(Drop)]
 pub(crate) struct LentBy<'a> {
-    pub(crate) name: LentName<'a>,
+    pub(crate) name: &'a [u8],
     pub(crate) tag: u64,
 }
 
 impl<'a> Model for LentBy<'a> {
+    ghost use Rattle.std.specs.Prelude.{IsTrue};
     ghost use Rattle.rq_model.specs.Records as model;
+    ghost use Rattle.rq_model.specs.Spelling.{is_name};
 
     ghost Value = { model.By };
 
-    ghost view = { λ b. record { name = b.name; tag = b.tag } };
+    ghost view = { λ b. record { name = b.name.now; tag = b.tag } };
+
+    ghost invariant = { λ b. IsTrue (is_name b.name.now) };
 }
 
 /// A record of the log, as a caller makes it and takes it apart.

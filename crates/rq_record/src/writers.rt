@@ -8,11 +8,10 @@ ghost use Rattle.rq_model.specs.Spelling.{who, IsWho, body_of, is_name, IsRecord
 ghost use Rattle.rq_record.specs.Views.{record_of};
 ghost use Rattle.rq_record.specs.Writing.{Puts, Appends, HasKind};
 
-use crate::check_bytes::CheckBytes;
 use crate::fault::Fault;
 use crate::name::Name;
 use crate::payload::Payload;
-use crate::record::{By, ElemId, QueueNo, Record, UnitNo};
+use crate::record::{By, QueueNo, Record, UnitNo};
 use rq_bytes::{put, put_u8, put_u16, put_u32, put_u64};
 
 fn put_who(out: &mut Vec<u8>, by: &Option<By>) -> Result<(), Fault>
@@ -31,18 +30,6 @@ fn put_who(out: &mut Vec<u8>, by: &Option<By>) -> Result<(), Fault>
             put_u64(out, by.tag)?;
         }
     }
-    Ok(())
-}
-
-fn put_define(out: &mut Vec<u8>, limit: u16, error: QueueNo, name: &Name) -> Result<(), Fault>
-    ensures bytes { Puts out.old.items out.new.items
-        (body_of (model.Define limit error.0 name.now)) result }
-    ensures fits { OnOk result (IsRecord Two (model.Define limit error.0 name.now)) }
-{
-    put_u8(out, 1)?;
-    put_u16(out, limit)?;
-    put_u32(out, error.0)?;
-    put(out, name.bytes())?;
     Ok(())
 }
 
@@ -107,32 +94,18 @@ fn put_dequeue(
     Ok(())
 }
 
-fn put_checkpoint(out: &mut Vec<u8>, bytes: &CheckBytes) -> Result<(), Fault>
-    ensures bytes { Puts out.old.items out.new.items (body_of (model.Checkpoint bytes.now)) result }
-    ensures fits { OnOk result (IsRecord Two (model.Checkpoint bytes.now)) }
-{
-    put_u8(out, 9)?;
-    put(out, bytes.bytes())?;
-    Ok(())
-}
-
-fn put_kill(out: &mut Vec<u8>, queue: QueueNo, element: ElemId) -> Result<(), Fault>
-    ensures bytes { Puts out.old.items out.new.items
-        (body_of (model.Kill queue.0 element.0)) result }
-    ensures fits { OnOk result (IsRecord Two (model.Kill queue.0 element.0)) }
-{
-    put_u8(out, 10)?;
-    put_u32(out, queue.0)?;
-    put_u64(out, element.0)?;
-    Ok(())
-}
-
 fn put_body(out: &mut Vec<u8>, r: &Record) -> Result<(), Fault>
     ensures bytes { Puts out.old.items out.new.items (body_of (record_of r.now)) result }
     ensures fits { OnOk result (IsRecord Two (record_of r.now)) }
 {
     match r {
-        Record::Define { limit, error, name } => put_define(out, *limit, *error, name),
+        Record::Define { limit, error, name } => {
+            put_u8(out, 1)?;
+            put_u16(out, *limit)?;
+            put_u32(out, error.0)?;
+            put(out, name.bytes())?;
+            Ok(())
+        }
         Record::Register { queue, name } => put_registration(out, 2, *queue, name),
         Record::Deregister { queue, name } => put_registration(out, 3, *queue, name),
         Record::Begin { unit } => put_unit(out, 4, *unit),
@@ -146,8 +119,17 @@ fn put_body(out: &mut Vec<u8>, r: &Record) -> Result<(), Fault>
         Record::Dequeue { unit, queue, by } => put_dequeue(out, *unit, *queue, by),
         Record::Commit { unit } => put_unit(out, 7, *unit),
         Record::Abort { unit } => put_unit(out, 8, *unit),
-        Record::Checkpoint { bytes } => put_checkpoint(out, bytes),
-        Record::Kill { queue, element } => put_kill(out, *queue, *element),
+        Record::Checkpoint { bytes } => {
+            put_u8(out, 9)?;
+            put(out, bytes.bytes())?;
+            Ok(())
+        }
+        Record::Kill { queue, element } => {
+            put_u8(out, 10)?;
+            put_u32(out, queue.0)?;
+            put_u64(out, element.0)?;
+            Ok(())
+        }
     }
 }
 
