@@ -7,7 +7,7 @@ use Rattle.std.specs.Int.{w32, rotate_right}
 use Rattle.std.proofs.Math.ListN.{get_or-map}
 use Rattle.std.proofs.lemmas.Simd.{get_or-zip2, get_or-replicate, length-zip2, length-replicate}
 use Rattle.std.proofs.lemmas.List.{map-set, get_or-set_same, get_or-set_other, length-map}
-use Rattle.rq_lanes.specs.Columns.{word_in, window}
+use Rattle.rq_lanes.specs.Messages.{word_in, window}
 
 -- an operator on each lane and one number
 pub with_each : (f : ℕ → ℕ → ℕ) (n k : ℕ) (xs : List ℕ) (j : ℕ) → length xs ≡ n → j < n

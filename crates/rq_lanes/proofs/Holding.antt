@@ -6,7 +6,7 @@ use Rattle.std.proofs.lemmas.List.{get_or-set_same, get_or-set_other, length-set
 use Rattle.std.proofs.lemmas.List.Elements.{All-append, All-cons, All-nil}
 use Rattle.std.proofs.lemmas.Bool.{cases_lt, cases_eq}
 use Rattle.sha2.specs.Sha256.{digest_bytes, hash_after, initial_hash_256, padded_message, sha256}
-use Rattle.rq_lanes.specs.Columns.{lane}
+use Rattle.rq_lanes.specs.Messages.{lane}
 use Rattle.rq_lanes.specs.Messages.{Fills, AccountsFor, IsInLane, HasDigestBehind, HasTakenIn, block_at, held, text}
 use Rattle.rq_lanes.specs.declared.lanes.Message.{Message}
 use Rattle.rq_lanes.specs.declared.lanes.Lane.{Lane}

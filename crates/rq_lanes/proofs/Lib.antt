@@ -1,5 +1,4 @@
 mod ChMaj
 pub mod Columns
-mod Tails
 pub mod Blocks
 pub mod Holding

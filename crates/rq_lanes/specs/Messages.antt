@@ -1,11 +1,25 @@
--- Messages in some bytes, each with its digest after it, and the lanes that take them in.
-use Rattle.std.specs.Prelude.{◌≡◌, ◌⊎◌, ℕ, ◌+◌, ◌-◌, ◌*◌, ◌/◌, ◌%◌, ◌≤◌, ◌<◌, ◌++◌, true, false}
-use Rattle.std.specs.Prelude.{List, [], length, take, drop, get_or, slice_range, All}
+-- Messages in some bytes, each with its digest after it, and the lanes that take them in: rows of
+-- words side by side, of which column j has the words of lane j.
+use Rattle.std.specs.Prelude.{ℕ, List, [], ◌∷◌, map, slice_index, slice_index_or, ◌≡◌, ◌⊎◌, ◌+◌}
+use Rattle.std.specs.Prelude.{◌-◌, ◌*◌, ◌/◌, ◌%◌, ◌≤◌, ◌<◌, ◌++◌, true, false, length, take, drop}
+use Rattle.std.specs.Prelude.{get_or, slice_range, All}
 use Rattle.sha2.specs.Sha256.{hash_after, initial_hash_256, padded_message, padding, sha256}
-use Rattle.rq_lanes.specs.Columns.{lane}
 use Rattle.rq_lanes.specs.declared.lanes.Message.{Message}
 use Rattle.rq_lanes.specs.declared.lanes.Lane.{Lane}
 use Rattle.rq_lanes.specs.declared.lanes.Lanes.{Lanes}
+
+-- the word of lane j in row k
+abbrev pub word_in : List (List ℕ) → ℕ → ℕ → ℕ
+word_in rows k j = slice_index (slice_index_or rows k []) j
+
+-- the eight words of lane j
+abbrev pub lane : ℕ → List (List ℕ) → List ℕ
+lane j rows = word_in rows 0 j ∷ word_in rows 1 j ∷ word_in rows 2 j ∷ word_in rows 3 j
+    ∷ word_in rows 4 j ∷ word_in rows 5 j ∷ word_in rows 6 j ∷ word_in rows 7 j ∷ []
+
+-- all words of lane j
+abbrev pub window : ℕ → List (List ℕ) → List ℕ
+window j rows = map (λ row. slice_index row j) rows
 
 -- the bytes of a message
 abbrev pub text : List ℕ → Message → List ℕ

@@ -1,6 +1,6 @@
 use Rattle.std.proofs.Common.{◌≡◌, ◌*◌, length, take}
 use Rattle.sha2.specs.Sha256.{digest_bytes}
-use Rattle.rq_lanes.specs.Columns.{lane}
+use Rattle.rq_lanes.specs.Messages.{lane}
 use Rattle.rq_lanes.proofs.digest.digest_of.Given as goal
 
 abbrev pub invariant-words : goal.invariant-words

@@ -1,6 +1,6 @@
 use Rattle.std.proofs.Common.{◌≡◌, ◌≢◌, ℕ, ◌<◌, length, slice_index}
 use Rattle.sha2.specs.Sha256.{initial_hash_256}
-use Rattle.rq_lanes.specs.Columns.{word_in}
+use Rattle.rq_lanes.specs.Messages.{word_in}
 use Rattle.rq_lanes.proofs.digest.reset_lane.Given as goal
 
 abbrev pub invariant-rows : goal.invariant-rows

@@ -1,6 +1,6 @@
 use Rattle.std.proofs.Common.{◌≡◌, ℕ, [], ◌<◌, length, slice_index, slice_index_or, ◌*◌}
 use Rattle.sha2.specs.Sha256.{IsRoundsAt, word_at}
-use Rattle.rq_lanes.specs.Columns.{lane, window}
+use Rattle.rq_lanes.specs.Messages.{lane, window}
 use Rattle.rq_lanes.proofs.lane_blocks.compress.Given as goal
 
 abbrev pub invariant-load : goal.invariant-load

@@ -1,6 +1,6 @@
 use Rattle.std.proofs.Common.{refl, sym}
 use Rattle.sha2.proofs.Schedule256.{rounds_first}
-use Rattle.rq_lanes.specs.Columns.{lane, window as window_of}
+use Rattle.rq_lanes.specs.Messages.{lane, window as window_of}
 use Rattle.rq_lanes.proofs.Columns.{window-lane}
 use Rattle.rq_lanes.proofs.lane_blocks.first_step.Goals as goal
 

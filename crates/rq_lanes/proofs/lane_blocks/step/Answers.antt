@@ -1,7 +1,7 @@
 use Rattle.std.proofs.Common.{◌≡◌, ◌+◌, ◌*◌, ◌/◌, ◌%◌, ◌∙◌, ap, arith, refl}
 use Rattle.sha2.specs.Sha256.{window_word}
 use Rattle.sha2.proofs.Schedule256.{rounds_window, window_word_place}
-use Rattle.rq_lanes.specs.Columns.{lane, window}
+use Rattle.rq_lanes.specs.Messages.{lane, window}
 use Rattle.rq_lanes.proofs.lane_blocks.step.Goals as goal
 
 pub returns : goal.returns

@@ -1,5 +1,5 @@
 use Rattle.std.proofs.Common.{arith, refl, ◌∙◌}
-use Rattle.rq_lanes.proofs.Tails.{tail_is}
+use Rattle.rq_lanes.proofs.Blocks.{tail_is}
 use Rattle.rq_lanes.proofs.tail.last_blocks.Goals as goal
 
 pub returns : goal.returns

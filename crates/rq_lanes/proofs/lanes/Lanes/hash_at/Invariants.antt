@@ -1,5 +1,5 @@
 use Rattle.std.proofs.Common.{ℕ, ◌<◌, ◌≤◌}
-use Rattle.rq_lanes.specs.Columns.{lane}
+use Rattle.rq_lanes.specs.Messages.{lane}
 use Rattle.rq_lanes.specs.Messages.{HasTakenIn, held}
 use Rattle.rq_lanes.proofs.lanes.Lanes.hash_at.Given as goal
 
