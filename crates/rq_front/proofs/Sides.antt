@@ -14,7 +14,7 @@ use Rattle.rq_front.specs.Walks.{IsRight, IsSpanOf, has_turn, message_of}
 use Rattle.rq_front.specs.declared.digests.Turn.{Turn}
 use Rattle.rq_front.specs.declared.digests.Turn.TheVariants.{First, Second}
 use Rattle.rq_front.specs.declared.spans.Span.{Span}
-use Rattle.rq_bytes.specs.Reads.{IsBytes}
+use Rattle.rq_bytes.specs.Readers.{IsBytes}
 use Rattle.rq_front.proofs.Framing.{right_exactly}
 
 -- if the lanes find the digest right, it is right

@@ -12,7 +12,7 @@ use Rattle.rq_model.proofs.Runs.{frame_long}
 use Rattle.rq_front.specs.Chains.{body_at, bodies_at, spans_from}
 use Rattle.rq_front.specs.Walks.{IsWalk, IsRight, IsSpanOf}
 use Rattle.rq_front.specs.declared.spans.Span.{Span}
-use Rattle.rq_bytes.specs.Reads.{IsBytes}
+use Rattle.rq_bytes.specs.Readers.{IsBytes}
 use Rattle.rq_bytes.proofs.Single.{IsBytes-drop}
 
 -- one more span

@@ -1,6 +1,7 @@
--- A walk along the lengths of a log, before any digest is checked.
-use Rattle.std.specs.Prelude.{◌≡◌, ℕ, ◌+◌, ◌*◌, ◌-◌, ◌≤◌, ◌<◌, Bool, not, nat_le, List}
-use Rattle.std.specs.Prelude.{[], ◌∷◌, length, take, drop, All}
+-- A walk along the lengths of a log, before any digest is checked, and its spans in pieces, for
+-- several threads.
+use Rattle.std.specs.Prelude.{◌≡◌, ℕ, ◌+◌, ◌*◌, ◌-◌, ◌≤◌, ◌<◌, Bool, not, nat_le, List, [], ◌∷◌}
+use Rattle.std.specs.Prelude.{length, take, drop, All, slice_range}
 use Rattle.std.specs.List.{HoldsAt}
 use Rattle.rq_model.specs.Frames.{HasFrame, HasRightFrame, IsFrameRun, IsRest, stated, before}
 use Rattle.rq_lanes.specs.declared.lanes.Message.{Message}
@@ -9,6 +10,7 @@ use Rattle.rq_front.specs.declared.digests.Turn.TheVariants.{First, Second}
 use Rattle.rq_front.specs.declared.spans.Span.{Span}
 use Rattle.rq_front.specs.declared.spans.Chain.{Chain}
 use Rattle.rq_front.specs.declared.spans.Walk.{Walk}
+use Rattle.rq_front.specs.declared.digests.Piece.{Piece}
 use Rattle.rq_front.specs.Chains.{bodies_at, rest_of, spans_from}
 
 -- frames follow one after the other from an offset to an end, whatever their digests, with bodies
@@ -69,3 +71,12 @@ pub record IsChecked (b : List ℕ) (from : ℕ) (w : Walk) (c : Chain) : Type 0
   pub inside : All (λ s. s.start + s.len ≤ length b) c.spans.items
   pub few : from + 37 * length c.spans.items ≤ length b
   pub front : c.spans.items ≡ take (length c.spans.items) (spans_of w)
+
+-- the spans of a piece
+abbrev pub spans_in : List Span → Piece → List Span
+spans_in spans p = slice_range spans p.from p.to
+
+-- the pieces are side by side from an index to an end
+abbrev pub AreSideBySide : ℕ → List Piece → ℕ → Type 0
+AreSideBySide at [] end = end ≡ at
+AreSideBySide at (p ∷ ps) end = (p.from ≡ at) × (p.from ≤ p.to) × AreSideBySide p.to ps end

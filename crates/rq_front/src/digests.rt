@@ -6,7 +6,7 @@ ghost use Rattle.rq_model.specs.Frames.{HasFrame, HasRightFrame, before, stated}
 ghost use Rattle.rq_front.specs.Walks.{HasFirstWrong, IsFirstWrong, IsRight, IsSpanOf, has_turn};
 ghost use Rattle.rq_front.specs.Walks.{message_at, message_of};
 ghost use Rattle.rq_lanes.specs.Messages.{AccountsFor};
-ghost use Rattle.rq_front.specs.Pieces.{AreSideBySide, spans_in};
+ghost use Rattle.rq_front.specs.Walks.{AreSideBySide, spans_in};
 
 use crate::{FRAME_LEN, Span};
 use rayon::prelude::*;

@@ -1,7 +1,7 @@
 use Rattle.std.proofs.Common.{◌++◌, [], List, map, arith}
 use Rattle.std.specs.List.{filter}
 use Rattle.rq_lanes.specs.declared.lanes.Message.{Message}
-use Rattle.rq_bytes.specs.Reads.{IsBytes}
+use Rattle.rq_bytes.specs.Readers.{IsBytes}
 use Rattle.rq_front.proofs.Sides.{both_turns_right}
 use Rattle.rq_front.specs.Walks.{has_turn, message_of}
 use Rattle.rq_front.specs.declared.digests.Turn.TheVariants.{First, Second}

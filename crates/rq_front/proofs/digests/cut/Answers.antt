@@ -1,6 +1,6 @@
 use Rattle.std.proofs.Common.{◌+◌, List, refl, sym, subst, arith}
 use Rattle.rq_front.proofs.InPieces.{side_more}
-use Rattle.rq_front.specs.Pieces.{AreSideBySide}
+use Rattle.rq_front.specs.Walks.{AreSideBySide}
 use Rattle.rq_front.specs.declared.digests.Piece.{Piece}
 use Rattle.rq_front.proofs.digests.cut.Goals as goal
 

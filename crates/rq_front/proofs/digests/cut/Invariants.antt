@@ -1,5 +1,5 @@
 use Rattle.std.proofs.Common.{◌≤◌, ◌-◌, length}
-use Rattle.rq_front.specs.Pieces.{AreSideBySide}
+use Rattle.rq_front.specs.Walks.{AreSideBySide}
 use Rattle.rq_front.proofs.digests.cut.Given as goal
 
 abbrev pub invariant-pieces : goal.invariant-pieces

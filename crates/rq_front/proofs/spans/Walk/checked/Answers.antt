@@ -4,7 +4,7 @@ use Rattle.std.proofs.lemmas.List.{take_all, length-take}
 use Rattle.std.proofs.lemmas.List.Elements.{All-from_recursion}
 use Rattle.rq_model.specs.Frames as model
 use Rattle.rq_model.specs.LogLaws.{RightIsFrame, RunStops}
-use Rattle.rq_bytes.specs.Reads.{IsBytes}
+use Rattle.rq_bytes.specs.Readers.{IsBytes}
 use Rattle.rq_front.proofs.Walks.{Found, found, walk_spans, walk_cut, IsCut}
 use Rattle.rq_front.specs.Chains.{rest_of}
 use Rattle.rq_front.specs.Walks.{IsWalk, IsRight, IsSpanOf, IsFirstWrong}
