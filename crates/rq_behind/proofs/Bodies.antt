@@ -1,7 +1,7 @@
 -- A body is read as a record if it spells one, and else is not.
 use Rattle.std.proofs.Common.{◌≡◌, ℕ, List, Option, Some, None, refl}
 use Rattle.std.specs.Prelude.{is_some, IsTrue, ◌↔◌}
-use Rattle.rq_bytes.specs.Reads.{IsBytes}
+use Rattle.rq_bytes.specs.Readers.{IsBytes}
 use Rattle.rq_bytes.proofs.Together.{spelled_by, read_again}
 use Rattle.rq_model.specs.Records.{Record, Version}
 use Rattle.rq_model.specs.Reading.{record_read}

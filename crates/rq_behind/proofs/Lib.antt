@@ -1,4 +1,3 @@
 mod Sound
 mod Bodies
-mod Ends
 mod Seeking

@@ -1,13 +1,21 @@
--- Looking for the next right frame, place by place.
-use Rattle.std.proofs.Common.{◌≡◌, ℕ, ◌+◌, ◌<◌, ◌≤◌, List, length, drop, Option, Some, None, sym, subst, arith, below_more}
-use Rattle.std.specs.Prelude.{MatchOption}
+-- Looking for the next right frame, place by place: where a frame ends, another stands or the bytes end.
+use Rattle.std.proofs.Common.{◌≡◌, ℕ, List, Bool, length, sym, subst, inl, inr, ◌∙◌, ◌+◌, ◌<◌, ◌≤◌, drop, Option, Some}
+use Rattle.std.proofs.Common.{None, arith, below_more}
+use Rattle.std.specs.Prelude.{IsTrue, ◌↔◌, MatchOption}
 use Rattle.rq_model.specs.Records.{Version}
 use Rattle.rq_model.specs.Frames.{HasFrame}
-use Rattle.rq_behind.specs.Runs.{BeginsRun, frame_end}
-use Rattle.rq_behind.specs.Behind.{HasNoRunBefore, IsFirstRun, LeadsFrom, LeadsTo}
-use Rattle.rq_behind.specs.Places.{IsPlaceAt, IsRunPlace}
 use Rattle.rq_behind.specs.declared.places.SearchEnd.{SearchEnd}
 use Rattle.rq_behind.specs.declared.places.SearchEnd.TheVariants.{At, Nowhere, GaveUp}
+use Rattle.rq_behind.specs.Runs.{EndsOr, frame_end, BeginsRun}
+use Rattle.rq_behind.specs.Behind.{HasNoRunBefore, IsFirstRun, LeadsFrom, LeadsTo, IsPlaceAt, IsRunPlace}
+
+-- where the bytes do not end, what stands there decides
+pub stands_there : {Q : Type 0} (P : ℕ → Type 0) (b : List ℕ) (at next : ℕ) (t : Bool) → Q → next ≡ frame_end b at
+    → (next ≡ length b → ⊥) → IsTrue t ↔ P next → IsTrue t ↔ (Q × EndsOr P b at)
+stands_there {Q} P b at next t q e apart decides = (
+  λ true. (q, inr (subst P e (decides.0 true))),
+  λ both. elim both.1 [ inl h ↦ absurd (apart (e ∙ h)) | inr h ↦ decides.1 (subst P (sym e) h) ],
+)
 
 -- no run begins at one place more
 pub none_more : (version : Version) (b : List ℕ) (from at : ℕ) → HasNoRunBefore version b from at

@@ -4,7 +4,7 @@ ghost use Rattle.std.specs.Prelude.{◌≡◌, ◌≤◌, ℕ, length, MatchOpti
 ghost use Rattle.rq_record.specs.Views.{version_of};
 ghost use Rattle.rq_behind.specs.Runs.{BeginsRun};
 ghost use Rattle.rq_behind.specs.Behind.{LeadsFrom, LeadsTo};
-ghost use Rattle.rq_behind.specs.Places.{IsNextPlace, IsPlaceAt, IsRunPlace};
+ghost use Rattle.rq_behind.specs.Behind.{IsNextPlace, IsPlaceAt, IsRunPlace};
 
 use crate::frames::{judge, length_at};
 use crate::runs::{judge_run, looks_like_run};

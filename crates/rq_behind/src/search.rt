@@ -30,10 +30,6 @@ pub struct Found {
     pub gave_up: Option<usize>,
 }
 
-fn budget_of(count: usize) -> usize {
-    count.saturating_mul(TIMES).saturating_add(MORE)
-}
-
 // The body of the frame at an offset.
 fn span_at(bytes: &[u8], at: usize) -> Span
     requires within { at ≤ length bytes.now }
@@ -70,7 +66,9 @@ pub fn behind(
     ensures rest { IfOk result (λ f. from + (f.unfit + frame_bytes f.spans.items)
         ≡ looked_to bytes.now f.gave_up) }
 {
-    let mut budget = budget_of(bytes.len() - from);
+    let mut budget = (bytes.len() - from)
+        .saturating_mul(TIMES)
+        .saturating_add(MORE);
     let mut spans = Vec::new(alloc);
     let mut at = from;
     let mut unfit = 0;

@@ -1,6 +1,6 @@
 use Rattle.rq_record.specs.Views.{version_of}
 use Rattle.rq_behind.specs.Runs.{LooksRight}
-use Rattle.rq_behind.proofs.Ends.{stands_there}
+use Rattle.rq_behind.proofs.Seeking.{stands_there}
 use Rattle.rq_behind.proofs.runs.are_two_likely.Goals as goal
 
 pub returns-else-third-bytes : goal.returns-else-third-bytes
