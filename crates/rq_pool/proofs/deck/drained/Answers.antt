@@ -1,7 +1,7 @@
 use Rattle.std.proofs.Common.{◌∷◌, [], ◌++◌, length, ap, arith}
 use Rattle.rq_pool.proofs.Words.{worker_view, length-append}
 use Rattle.rq_pool.proofs.Rules.{length_sum}
-use Rattle.rq_pool.proofs.settle.drained.Goals as goal
+use Rattle.rq_pool.proofs.deck.drained.Goals as goal
 
 pub returns-clause-room : goal.returns-clause-room
 returns-clause-room c = let inv = c.loop-x.invariant in (
