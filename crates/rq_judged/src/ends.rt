@@ -1,4 +1,4 @@
-//! Where the front of a log ends, and which rule ends it.
+//! Where the front of a log ends, why, and which rule ends it.
 
 ghost use Rattle.std.specs.Prelude.{◌≡◌, ℕ, false, is_some, List, length, drop, IfOk, IfErr};
 ghost use Rattle.rq_model.specs.Records as records;
@@ -15,13 +15,29 @@ ghost use Rattle.rq_judged.specs.Views.{why_of};
 use crate::checkpoint::begin_at;
 use crate::frames::body_at;
 use crate::judged::{JudgedFront, judged_behind, judged_front};
-use crate::why::Why;
 use rq_catalog::{Judge, Rule};
 use rq_plan::Plan;
 use rq_record::{Fault, KeptRecord, decode_kept};
 use std::alloc::Global;
 use std::marker::Sync;
 use std::thread::Threads;
+
+/// Why the front of a log ends: what stands behind it.
+#[derive(Clone, Copy, PartialEq, Eq, Debug)]
+pub enum Why {
+    /// Nothing.
+    Whole,
+    /// Fewer bytes than a length has, or than its frame has.
+    Cut,
+    /// A length that no body has.
+    Length,
+    /// A frame whose digest is wrong.
+    Chain,
+    /// A frame whose body no record spells.
+    Form,
+    /// A record that is not lawful there.
+    Law,
+}
 
 /// Where the front of a log ends, and why: numbers of its restart.
 #[derive(Clone, Copy, PartialEq, Eq, Debug)]

@@ -11,8 +11,8 @@ ghost use Rattle.rq_catalog.specs.Judges.{KeepsStanding, StandsIn};
 ghost use Rattle.rq_judged.specs.Views.{why_of};
 ghost use Rattle.rq_judged.specs.Passes.{AreJudged, HasPassedSome, IsVerdict, StopsIn, stays};
 
+use crate::ends::Why;
 use crate::front::end_of;
-use crate::why::Why;
 use rq_catalog::Judge;
 use rq_front::{HEADER_LEN, Span, chain};
 use rq_record::{Fault, Version, decode_kept};

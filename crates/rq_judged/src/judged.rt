@@ -6,11 +6,10 @@ ghost use Rattle.rq_judged.specs.Checkpoints.{IsBegun};
 ghost use Rattle.rq_judged.specs.JudgedFronts.{IsJudgedBehind, JudgesFront, JudgesFrontAt};
 
 use crate::checkpoint::{Begun, begin_at};
-use crate::frames::before;
+use crate::ends::Why;
+use crate::frames::{before, grain_of};
 use crate::front::end_of;
 use crate::front_pass::{PassSoFar, judge_each};
-use crate::grain::grain_of;
-use crate::why::Why;
 use rq_catalog::Judge;
 use rq_front::log_version;
 use rq_plan::Plan;

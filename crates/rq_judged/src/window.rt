@@ -12,11 +12,11 @@ ghost use Rattle.rq_judged.specs.Windows.{AreFramed, IsFed, IsFedSome, IsStopped
 ghost use Rattle.rq_judged.specs.Windows.{IsStoppedFront, KeepsFed, Origin, RefusesPiece, HasEnd};
 ghost use Rattle.rq_judged.specs.Windows.{log_origin};
 
+use crate::ends::Why;
 use crate::frames::before;
 use crate::front::why_of;
 use crate::front_pass::{Verdict, judge_one, stays};
 use crate::judged::JudgedFront;
-use crate::why::Why;
 use rq_catalog::Judge;
 use rq_front::{HEADER_LEN, LOG_LIMIT, Span, chain};
 use rq_record::{Fault, Version};

@@ -41,14 +41,13 @@ pub struct Keeper {
 
 impl Model for Keeper {
     ghost use Rattle.std.specs.Prelude.{map, IfSome};
-    ghost use Rattle.rq_restart.specs.Keepers.{KeptState};
+    ghost use Rattle.rq_restart.specs.Keepers.{IsPosition, KeptState};
 
     ghost Value = { KeptState };
 
     ghost use Rattle.rq_model.specs.Machine.{run};
     ghost use Rattle.rq_record.specs.Views.{record_of, version_of};
     ghost use Rattle.rq_standing.specs.Stands.{Stands};
-    ghost use Rattle.rq_restart.specs.Pieces.{IsPosition};
 
     ghost view = { λ k. record {
       version = version_of k.version;

@@ -8,7 +8,7 @@ ghost use Rattle.rq_record.specs.Views.{record_of, version_of};
 ghost use Rattle.rq_record.specs.declared.fault.Fault.TheVariants.{Resources};
 ghost use Rattle.rq_standing.specs.Stands.{Stands};
 ghost use Rattle.rq_exchange.specs.Gathering.{ComesTo};
-ghost use Rattle.rq_restart.specs.Pieces.{IsPosition};
+ghost use Rattle.rq_restart.specs.Keepers.{IsPosition};
 
 use crate::pieces::take_each;
 use rq_exchange::front_redone;

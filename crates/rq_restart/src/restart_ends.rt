@@ -11,8 +11,8 @@ ghost use Rattle.rq_state.specs.Views.{unit_of};
 ghost use Rattle.rq_catalog.specs.Analyses.{IsAnalysis, open_in};
 ghost use Rattle.rq_exchange.specs.Agendas.{IsAgenda};
 ghost use Rattle.rq_judged.specs.Views.{why_of};
-ghost use Rattle.rq_restart.specs.Cleared.{first_cleared};
-ghost use Rattle.rq_restart.specs.FoundFronts.{IsFoundFrom};
+ghost use Rattle.rq_restart.specs.Restarts.{first_cleared};
+ghost use Rattle.rq_restart.specs.RedoneFronts.{IsFoundFrom};
 
 use crate::restarted::Restarted;
 use crate::restarts::FoundFront;

@@ -5,7 +5,7 @@ ghost use Rattle.rq_model.specs.States as states;
 ghost use Rattle.rq_record.specs.declared.fault.Fault.TheVariants.{Resources};
 ghost use Rattle.rq_queue.specs.Pouring.{HasPoured};
 ghost use Rattle.rq_standing.specs.Parts.{ArePartsOf};
-ghost use Rattle.rq_standing.specs.Standings.{HoldsState};
+ghost use Rattle.rq_standing.specs.Stands.{HoldsState};
 
 use crate::queues::Queues;
 use rq_queue::Part;

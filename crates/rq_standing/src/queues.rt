@@ -8,14 +8,12 @@ ghost use Rattle.rq_record.specs.Views.{record_of};
 ghost use Rattle.rq_record.specs.declared.fault.Fault.TheVariants.{Resources};
 ghost use Rattle.rq_state.specs.Views.{id_of};
 ghost use Rattle.rq_standing.specs.Parts.{Acted};
-ghost use Rattle.rq_standing.specs.Standings.{HoldsState, May, MaySome, Moved, MovesBy, TakesElement};
-ghost use Rattle.rq_standing.specs.Standings.{queue_named, unit_named};
+ghost use Rattle.rq_standing.specs.Stands.{HoldsState, May, MaySome, Moved, MovesBy, TakesElement};
+ghost use Rattle.rq_standing.specs.Stands.{queue_named, unit_named};
 
 use crate::open_units::OpenUnits;
-use crate::operations::{act_on, dequeue_on};
-use crate::received_moves::receive_all;
+use crate::parts::{abort_all, act_on, commit_all, dequeue_on, receive_all};
 use crate::start::{open_units_of, parts_of};
-use crate::unit_ends::{abort_all, commit_all};
 use rq_queue::{KeptOp, Part};
 use rq_record::{ElemId, Fault, KeptBy, KeptRecord, QueueNo, UnitNo};
 use rq_state::{Definition, copied_definitions};

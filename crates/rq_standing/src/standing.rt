@@ -12,10 +12,19 @@ ghost use Rattle.rq_standing.specs.Spelled.{least_bytes};
 ghost use Rattle.rq_standing.specs.Stands.{Stands, IsTakenAs, state_with};
 
 use crate::queues::Queues;
-use crate::taken::Taken;
-use rq_catalog::Judge;
-use rq_record::{Fault, KeptRecord, Version};
+use rq_catalog::{Judge, Rule};
+use rq_record::{ElemId, Fault, KeptRecord, Version};
 use std::alloc::Global;
+
+/// What became of a record.
+#[derive(Clone, Copy)]
+pub enum Taken {
+    /// It is not lawful: it breaks this rule. Nothing was done.
+    Unlawful(Rule),
+    /// It was done. A DEQUEUE took the element of this id, or found none that it could take. Other
+    /// records take none.
+    Done(Option<ElemId>),
+}
 
 /// The queues as they stand, which go along with records in place. It says of each record whether
 /// it is lawful, and does it if it is. That costs the members that the record touches, times a

@@ -7,7 +7,7 @@ use Rattle.rq_record.specs.Views.{version_of}
 use Rattle.rq_judged.specs.declared.window.WindowPass.{WindowPass}
 use Rattle.rq_judged.specs.GrowingFronts.{RefusesMore}
 use Rattle.rq_judged.specs.Windows.{IsFed, log_origin}
-use Rattle.rq_judged.proofs.Headers.{first_forty, forty_again, refuses, two_parts}
+use Rattle.rq_judged.proofs.Pieces.{first_forty, forty_again, refuses, two_parts}
 use Rattle.rq_judged.proofs.growing_front.begun.Goals as goal
 
 pub returns-in_default-clause-refused : goal.returns-in_default-clause-refused

@@ -1,7 +1,7 @@
 use Rattle.std.proofs.Common.{◌≡◌, ◌<◌, ◌+◌, ◌∷◌, [], List, length, length-append, sym, ap, subst, ◌∙◌}
 use Rattle.rq_model.specs.Queues.{Part, part_of}
 use Rattle.rq_standing.specs.Parts.{part_at}
-use Rattle.rq_standing.proofs.Defining.{one_part_more}
+use Rattle.rq_standing.proofs.Together.{one_part_more}
 use Rattle.rq_standing.proofs.start.parts_of.Goals as goal
 
 pub loop-queue-preserved : goal.loop-queue-preserved

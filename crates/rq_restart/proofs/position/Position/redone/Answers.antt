@@ -4,7 +4,7 @@ use Rattle.rq_model.specs.States.{State}
 use Rattle.rq_record.specs.Views.{record_of, version_of}
 use Rattle.rq_restart.specs.declared.position.Position.{Position}
 use Rattle.rq_exchange.specs.Gathering.{ComesTo}
-use Rattle.rq_restart.specs.Pieces.{IsPosition}
+use Rattle.rq_restart.specs.Keepers.{IsPosition}
 use Rattle.rq_restart.proofs.position.Position.redone.Goals as goal
 
 pub returns-in_ok-state-in-Queues-clause-redone : goal.returns-in_ok-state-in-Queues-clause-redone

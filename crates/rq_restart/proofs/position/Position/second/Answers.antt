@@ -6,7 +6,7 @@ use Rattle.rq_record.specs.Views.{version_of}
 use Rattle.rq_standing.specs.Stands.{Stands}
 use Rattle.rq_standing.specs.declared.standing.Standing.{Standing}
 use Rattle.rq_restart.specs.declared.position.Position.{Position}
-use Rattle.rq_restart.specs.Pieces.{IsPosition}
+use Rattle.rq_restart.specs.Keepers.{IsPosition}
 use Rattle.rq_restart.proofs.position.Position.second.Goals as goal
 
 pub returns-in_ok-state-in-Queues-clause-stands : goal.returns-in_ok-state-in-Queues-clause-stands

@@ -10,7 +10,7 @@ use Rattle.rq_state.specs.Laws.{HasSame}
 use Rattle.rq_state.specs.Orders.{state_in_order, place_before}
 use Rattle.rq_queue.proofs.Gathered.{members, is_same}
 use Rattle.rq_standing.specs.Parts.{ArePartsOf}
-use Rattle.rq_standing.specs.Standings.{HoldsState}
+use Rattle.rq_standing.specs.Stands.{HoldsState}
 use Rattle.rq_standing.proofs.queues.Queues.state.Goals as goal
 use Rattle.rq_standing.proofs.queues.Queues.state.Goals.{In_ok-fields}
 
