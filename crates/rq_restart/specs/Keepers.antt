@@ -6,8 +6,8 @@ use Rattle.rq_model.specs.States.{State}
 use Rattle.rq_model.specs.Machine.{is_lawful, lawful_front, run, step, all_lawful}
 use Rattle.rq_standing.specs.Stands.{Stands}
 use Rattle.rq_standing.specs.declared.standing.Standing.{Standing}
-use Rattle.rq_restart.specs.declared.position.Position.{Position}
-use Rattle.rq_restart.specs.declared.position.Position.TheVariants.{Told, Queues}
+use Rattle.rq_restart.specs.declared.keeper.Position.{Position}
+use Rattle.rq_restart.specs.declared.keeper.Position.TheVariants.{Told, Queues}
 use Rattle.rq_record.specs.declared.fault.Fault.{Fault}
 use Rattle.rq_record.specs.declared.fault.Fault.TheVariants.{Resources, TooLong}
 

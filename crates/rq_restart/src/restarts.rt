@@ -3,8 +3,7 @@
 ghost use Rattle.rq_restart.specs.RedoneFronts.{FindsFront, FindsFrontAt};
 ghost use Rattle.rq_restart.specs.Restarts.{Restarts, RestartsAt};
 
-use crate::restart_ends::finish;
-use crate::restarted::Restarted;
+use crate::restart_ends::{Restarted, finish};
 use rq_front::{log_version, walk};
 use rq_judged::{Front, begin_at, front_of, front_of_walk};
 use rq_plan::{Gate, Plan};

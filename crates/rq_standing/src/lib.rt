@@ -2,13 +2,12 @@
 //! judged and done, at the cost of the members that it touches.
 #![tactic(auto)]
 
-mod gathered;
 mod open_units;
 mod parts;
 mod queues;
 mod spelled;
 mod standing;
-mod start;
+mod states;
 
 pub use open_units::OpenUnits;
 pub use queues::Queues;

@@ -1,5 +1,5 @@
-//! What is done to the parts of queues, each at the index that is its number: an operation of one of them,
-//! the end of a unit in those that it named, and what arrives.
+//! What is done to the parts of queues, each at the index that is its number: an operation of one of
+//! them, the end of a unit in those that it named, and what arrives.
 
 ghost use Rattle.std.specs.Prelude.{◌≡◌, ◌<◌, ◌++◌, ◌∷◌, [], length, option_map, IfOk, OnOk, IfErr};
 ghost use Rattle.std.specs.Prelude.{ℕ, List, cond, nat_lt, ◌≢◌};

@@ -13,7 +13,7 @@ ghost use Rattle.rq_standing.specs.Stands.{queue_named, unit_named};
 
 use crate::open_units::OpenUnits;
 use crate::parts::{abort_all, act_on, commit_all, dequeue_on, receive_all};
-use crate::start::{open_units_of, parts_of};
+use crate::states::{open_units_of, parts_of};
 use rq_queue::{KeptOp, Part};
 use rq_record::{ElemId, Fault, KeptBy, KeptRecord, QueueNo, UnitNo};
 use rq_state::{Definition, copied_definitions};

@@ -4,7 +4,7 @@ use Rattle.std.proofs.lemmas.List.{map-append}
 use Rattle.rq_record.specs.declared.record.UnitNo.{UnitNo}
 use Rattle.rq_state.specs.Views.{unit_of}
 use Rattle.rq_standing.proofs.Units.{one_begun}
-use Rattle.rq_standing.proofs.start.begin_all.Goals as goal
+use Rattle.rq_standing.proofs.states.begin_all.Goals as goal
 
 one_more : (us : List UnitNo) (i : ℕ) (u : UnitNo) → i < length us
     → map unit_of (take (i + 1) us) ≡ map unit_of (take i us) ++ (get_or us i u).0 ∷ []

@@ -5,9 +5,9 @@ use Rattle.rq_model.specs.States.{State}
 use Rattle.rq_record.specs.Views.{version_of}
 use Rattle.rq_standing.specs.Stands.{Stands}
 use Rattle.rq_standing.specs.declared.standing.Standing.{Standing}
-use Rattle.rq_restart.specs.declared.position.Position.{Position}
+use Rattle.rq_restart.specs.declared.keeper.Position.{Position}
 use Rattle.rq_restart.specs.Keepers.{IsPosition}
-use Rattle.rq_restart.proofs.position.Position.second.Goals as goal
+use Rattle.rq_restart.proofs.keeper.Position.second.Goals as goal
 
 pub returns-in_ok-state-in-Queues-clause-stands : goal.returns-in_ok-state-in-Queues-clause-stands
 returns-in_ok-state-in-Queues-clause-stands c =

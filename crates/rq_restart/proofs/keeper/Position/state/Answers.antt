@@ -4,9 +4,9 @@ use Rattle.rq_model.specs.Records.{Version}
 use Rattle.rq_model.specs.States.{State}
 use Rattle.rq_record.specs.Views.{version_of}
 use Rattle.rq_standing.specs.Stands.{Stands}
-use Rattle.rq_restart.specs.declared.position.Position.{Position}
+use Rattle.rq_restart.specs.declared.keeper.Position.{Position}
 use Rattle.rq_restart.specs.Keepers.{IsPosition}
-use Rattle.rq_restart.proofs.position.Position.state.Goals as goal
+use Rattle.rq_restart.proofs.keeper.Position.state.Goals as goal
 
 pub returns-in_ok-standing-in-Told-clause-state : goal.returns-in_ok-standing-in-Told-clause-state
 returns-in_ok-standing-in-Told-clause-state c =

@@ -4,7 +4,7 @@ use Rattle.rq_model.specs.Queues.{part_of}
 use Rattle.rq_queue.specs.Pouring.{HasPoured}
 use Rattle.rq_queue.proofs.Gathered.{poured_more}
 use Rattle.rq_standing.specs.Parts.{no_part}
-use Rattle.rq_standing.proofs.gathered.pour_all.Goals as goal
+use Rattle.rq_standing.proofs.states.pour_all.Goals as goal
 
 pub loop-part-preserved : goal.loop-part-preserved
 loop-part-preserved c = λ t size are.

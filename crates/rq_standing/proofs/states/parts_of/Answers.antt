@@ -2,7 +2,7 @@ use Rattle.std.proofs.Common.{◌≡◌, ◌<◌, ◌+◌, ◌∷◌, [], List, 
 use Rattle.rq_model.specs.Queues.{Part, part_of}
 use Rattle.rq_standing.specs.Parts.{part_at}
 use Rattle.rq_standing.proofs.Together.{one_part_more}
-use Rattle.rq_standing.proofs.start.parts_of.Goals as goal
+use Rattle.rq_standing.proofs.states.parts_of.Goals as goal
 
 pub loop-queue-preserved : goal.loop-queue-preserved
 loop-queue-preserved c =

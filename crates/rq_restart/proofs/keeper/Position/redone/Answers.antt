@@ -2,10 +2,10 @@ use Rattle.std.proofs.Common.{ℕ, map, subst}
 use Rattle.std.proofs.lemmas.Result.{IfOk-weaker}
 use Rattle.rq_model.specs.States.{State}
 use Rattle.rq_record.specs.Views.{record_of, version_of}
-use Rattle.rq_restart.specs.declared.position.Position.{Position}
+use Rattle.rq_restart.specs.declared.keeper.Position.{Position}
 use Rattle.rq_exchange.specs.Gathering.{ComesTo}
 use Rattle.rq_restart.specs.Keepers.{IsPosition}
-use Rattle.rq_restart.proofs.position.Position.redone.Goals as goal
+use Rattle.rq_restart.proofs.keeper.Position.redone.Goals as goal
 
 pub returns-in_ok-state-in-Queues-clause-redone : goal.returns-in_ok-state-in-Queues-clause-redone
 returns-in_ok-state-in-Queues-clause-redone g c =

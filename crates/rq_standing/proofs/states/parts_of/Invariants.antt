@@ -1,7 +1,7 @@
 use Rattle.std.proofs.Common.{◌≡◌, ◌<◌, ℕ, length}
 use Rattle.rq_model.specs.Queues.{part_of}
 use Rattle.rq_standing.specs.Parts.{part_at}
-use Rattle.rq_standing.proofs.start.parts_of.Given as goal
+use Rattle.rq_standing.proofs.states.parts_of.Given as goal
 
 abbrev pub invariant-loop-queue : goal.invariant-loop-queue
 invariant-loop-queue l = record {

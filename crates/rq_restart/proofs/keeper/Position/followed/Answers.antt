@@ -4,7 +4,7 @@ use Rattle.rq_model.specs.Machine.{run}
 use Rattle.rq_record.specs.Views.{record_of, version_of}
 use Rattle.rq_catalog.proofs.Runs.{front_whole}
 use Rattle.rq_standing.specs.Stands.{Stands}
-use Rattle.rq_restart.proofs.position.Position.followed.Goals as goal
+use Rattle.rq_restart.proofs.keeper.Position.followed.Goals as goal
 
 pub returns-clause-stands : goal.returns-clause-stands
 returns-clause-stands c = λ s at lawful.

@@ -4,7 +4,7 @@ use Rattle.rq_model.specs.States.{Element, Note}
 use Rattle.rq_catalog.specs.Members.{is_marked_at, is_noted_at}
 use Rattle.rq_standing.specs.Units.{has_open, engages_in}
 use Rattle.rq_standing.proofs.Units.{all_begun, all_engaged}
-use Rattle.rq_standing.proofs.start.open_units_of.Goals as goal
+use Rattle.rq_standing.proofs.states.open_units_of.Goals as goal
 
 pub returns-clause-units : goal.returns-clause-units
 returns-clause-units c =

@@ -1,4 +1,4 @@
-//! The queues of a state that is there already.
+//! From a state to the queues as they stand, and back: what they hold is made of copies.
 
 ghost use Rattle.std.specs.Prelude.{◌≡◌, ℕ, ◌==◌, ◌||◌, [], None, length, map, IfOk, OnOk, IfErr};
 ghost use Rattle.std.specs.List.{list_any};
@@ -6,12 +6,16 @@ ghost use Rattle.rq_record.specs.declared.fault.Fault.TheVariants.{Resources};
 ghost use Rattle.rq_state.specs.Views.{unit_of};
 ghost use Rattle.rq_standing.specs.Parts.{ArePartsOf};
 ghost use Rattle.rq_standing.specs.Units.{AreUnits, has_open, engages_in};
+ghost use Rattle.rq_model.specs.States as model;
+ghost use Rattle.rq_queue.specs.Pouring.{HasPoured};
+ghost use Rattle.rq_standing.specs.Stands.{HoldsState};
 
 use crate::open_units::OpenUnits;
+use crate::queues::Queues;
 use rq_catalog::{Engaging, engage_by_marks, engage_by_notes};
 use rq_queue::Part;
 use rq_record::{Fault, QueueNo, UnitNo};
-use rq_state::State;
+use rq_state::{KeptFields, State, copied_definitions};
 use std::alloc::Global;
 
 /// The parts of its queues, copied.
@@ -66,4 +70,46 @@ pub(crate) fn open_units_of(alloc: Global, state: &State) -> Result<OpenUnits, F
     engage_by_marks(&mut units, state.elements())?;
     engage_by_notes(&mut units, state.notes())?;
     Ok(units)
+}
+
+// Pours out copies of the part of every queue, in their order.
+fn pour_all(fields: KeptFields, parts: &[Part]) -> Result<KeptFields, Fault>
+    ensures poured { IfOk result (λ f. (t : model.State) →
+        length parts.now ≡ length t.definitions → ArePartsOf t parts.now
+        → HasPoured t (length parts.now) fields f) }
+    ensures refused { IfErr result (λ e. e ≡ Resources) }
+{
+    let mut poured = fields;
+    for part in parts {
+        part.pour_copies(&mut poured)?;
+    }
+    Ok(poured)
+}
+
+impl Queues {
+    /// The state that they hold. Refused only with `Resources`.
+    pub(crate) fn state(&self, alloc: Global) -> Result<State, Fault>
+        requires { (t : model.State) × HoldsState self.now t }
+        ensures state { IfOk result (λ s. (t : model.State) → HoldsState self.now t → s ≡ t) }
+        ensures refused { IfErr result (λ e. e ≡ Resources) }
+    {
+        rq_state::parts_make_the_state();
+        rq_state::any_order_makes_the_state();
+        let definitions = copied_definitions(alloc, &self.definitions)?;
+        let units = self.units.numbers(alloc)?;
+        let bare = KeptFields {
+            next: self.next,
+            greatest: self.greatest,
+            committed: self.committed,
+            aborted: self.aborted,
+            definitions,
+            units,
+            registrants: Vec::new(alloc),
+            elements: Vec::new(alloc),
+            notes: Vec::new(alloc),
+        };
+        let fields = pour_all(bare, &self.parts)?;
+        let state = State::build_kept(alloc, fields)?;
+        Ok(state)
+    }
 }
