@@ -1,6 +1,6 @@
 -- The catalogue of a state agrees with the run of no records.
-use Rattle.std.proofs.Common.{◌≡◌, ℕ, Bool, true, false, ◌&&◌, ◌||◌, List, [], length, Some, None}
-use Rattle.std.proofs.Common.{map, refl, sym, ap, ◌∙◌}
+use Rattle.std.proofs.Common.{◌≡◌, ℕ, Bool, true, false, ◌&&◌, ◌||◌, List, [], length, Some, None, map, refl, sym, ap}
+use Rattle.std.proofs.Common.{◌∙◌}
 use Rattle.std.specs.Prelude.{◌==◌, if◌then◌else◌, option_map}
 use Rattle.std.specs.List.{list_any}
 use Rattle.std.proofs.lemmas.List.{append-nil}
@@ -11,15 +11,13 @@ use Rattle.rq_model.specs.WellFormed.{IsWellFormed}
 use Rattle.rq_model.proofs.Lists.{by_cases}
 use Rattle.rq_record.specs.declared.record.UnitNo.{UnitNo}
 use Rattle.rq_state.specs.Views.{unit_of}
-use Rattle.rq_catalog.specs.declared.outcome.Outcome.TheVariants.{Open}
+use Rattle.rq_catalog.specs.declared.units.Outcome.TheVariants.{Open}
 use Rattle.rq_catalog.specs.declared.catalogue.Catalogue.{Catalogue}
-use Rattle.rq_catalog.specs.Units.{numbers, has_unit, outcome_at, engages_at}
+use Rattle.rq_catalog.specs.Units.{numbers, has_unit, outcome_at, engages_at, outcome_of, is_marked_at, is_noted_at}
 use Rattle.rq_state.specs.Orders.{listed}
 use Rattle.rq_catalog.specs.declared.units.Unit.{Unit}
-use Rattle.rq_catalog.specs.Outcomes.{outcome_of}
 use Rattle.rq_catalog.specs.Catalogues.{Follows}
 use Rattle.rq_catalog.specs.Grounds.{AreGroundsOf}
-use Rattle.rq_catalog.specs.Members.{is_marked_at, is_noted_at}
 
 while_open : (o m n : Bool) → ((o && n) || ((o && m) || false)) ≡ (o && ((m || n) || false))
 while_open true true true = refl

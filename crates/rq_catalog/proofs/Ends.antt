@@ -1,35 +1,47 @@
--- The loop over the records, and its end.
-use Rattle.std.proofs.Common.{◌≡◌, ℕ, suc, zero, ◌+◌, ◌<◌, ◌≤◌, ◌++◌, true, false, List, [], ◌∷◌, length, map, refl}
-use Rattle.std.proofs.Common.{sym, ap, ◌∙◌, subst, arith, take, drop, get_or}
-use Rattle.std.specs.List.{AllByRecursion}
-use Rattle.std.proofs.lemmas.List.{length-map, length-take, map-append}
-use Rattle.std.proofs.Math.Seq.{take-suc}
+-- The loop over the records, and its end: which units are open by their outcomes.
+use Rattle.std.proofs.Common.{◌≡◌, ℕ, Option, Some, None, true, List, refl, sym, ap, ◌∙◌, suc, zero, ◌+◌, ◌<◌, ◌≤◌}
+use Rattle.std.proofs.Common.{◌++◌, false, [], ◌∷◌, length, map, subst, arith, take, drop, get_or}
+use Rattle.std.specs.Prelude.{option_map, ◌^◌, ◌==◌, ◌&&◌, Option}
 use Rattle.rq_model.specs.Records as model
 use Rattle.rq_model.specs.Records.{Version, By}
-use Rattle.rq_model.specs.Laws.{begun}
 use Rattle.rq_model.specs.States.{State}
-use Rattle.rq_model.specs.Machine.{is_lawful, all_lawful, lawful_front, is_defined, is_open, is_known, run, outcome}
+use Rattle.rq_model.specs.Machine.{all_lawful, is_open, run, is_lawful, lawful_front, is_defined, is_known, outcome}
 use Rattle.rq_model.specs.WellFormed.{IsWellFormed}
-use Rattle.rq_record.specs.declared.record.RecordOf.TheVariants.{Begin, Enqueue, Dequeue}
-use Rattle.rq_record.specs.declared.record.RecordOf.TheVariants.{Commit, Abort}
-use Rattle.rq_record.specs.Views.{Record, record_of}
+use Rattle.rq_catalog.specs.declared.units.Outcome.{Outcome}
+use Rattle.rq_catalog.specs.declared.units.Outcome.TheVariants.{Committed, Aborted, Open}
 use Rattle.rq_catalog.specs.declared.catalogue.Catalogue.{Catalogue}
+use Rattle.rq_catalog.specs.Units.{is_open_in, outcome_of, outcome_at, numbers, has_unit}
+use Rattle.rq_catalog.specs.Catalogues.{Follows, HasRoom, KnowsUnit, Takes}
+use Rattle.rq_catalog.proofs.Runs.{is_open_outcome, open_by_outcome, lawful_push, front_stops, front_whole}
+use Rattle.rq_catalog.proofs.Runs.{lawful_throughout}
+use Rattle.std.specs.List.{AllByRecursion, filter, list_any}
+use Rattle.std.proofs.lemmas.List.{length-map, length-take, map-append}
+use Rattle.std.proofs.Math.Seq.{take-suc}
+use Rattle.rq_model.specs.Laws.{begun}
+use Rattle.rq_record.specs.declared.record.RecordOf.TheVariants.{Begin, Enqueue, Dequeue, Commit, Abort}
+use Rattle.rq_record.specs.Views.{Record, record_of}
 use Rattle.rq_catalog.specs.Lists.{numbered}
 use Rattle.rq_state.specs.Orders.{listed}
-use Rattle.rq_catalog.specs.Units.{numbers, has_unit, outcome_at}
-use Rattle.rq_catalog.specs.Catalogues.{Follows, HasRoom, KnowsUnit, Takes}
 use Rattle.rq_catalog.specs.Analyses.{IsAnalysis}
-use Rattle.rq_catalog.proofs.Runs.{lawful_push, front_stops, front_whole, lawful_throughout}
-use Rattle.rq_catalog.proofs.Opened.{open_here}
 use Rattle.rq_catalog.proofs.Seen.{open_again, open_seen, seen_below}
 use Rattle.rq_model.proofs.Lists.{filter_same, each_of, each_weaker}
 use Rattle.rq_model.proofs.Kept.{runs_are_well_formed}
 use Rattle.rq_model.proofs.Numbers.{numbers_after}
-use Rattle.std.specs.Prelude.{◌^◌, ◌==◌, ◌&&◌, Option}
 use Rattle.std.proofs.lemmas.Bool.{and_parts, ltb-true}
-use Rattle.rq_catalog.specs.Outcomes.{is_open_in}
-use Rattle.std.specs.List.{filter, list_any}
 use Rattle.rq_catalog.proofs.Keep.{follows_step, places_below}
+
+open_as : (o : Option Outcome) → is_open_in o ≡ is_open_outcome (option_map outcome_of o)
+open_as None = refl
+open_as (Some Open) = refl
+open_as (Some (Committed place)) = refl
+open_as (Some (Aborted place)) = refl
+
+pub open_here : (version : Version) (c : Catalogue) (s : State) (xs : List model.Record) → Follows c s xs
+    → IsWellFormed s → all_lawful version s xs ≡ true → (u : ℕ)
+    → is_open_in (outcome_at c.units u) ≡ is_open (run s xs) u
+open_here version c s xs f well lawful u =
+    open_as (outcome_at c.units u) ∙ ap is_open_outcome (f.outcomes u)
+    ∙ sym (open_by_outcome version s xs u well lawful)
 
 abbrev pub upto : ℕ → List Record → List model.Record
 upto n rs = map record_of (take n rs)

@@ -12,13 +12,11 @@ ghost use Rattle.rq_record.specs.declared.record.RecordOf.TheVariants.{Abort};
 ghost use Rattle.rq_state.specs.Orders.{listed};
 ghost use Rattle.rq_catalog.specs.Catalogues.{HasRoom, KnowsUnit, Takes};
 ghost use Rattle.rq_catalog.specs.Grounds.{AreGroundsOf};
-ghost use Rattle.rq_catalog.specs.Outcomes.{is_open_in};
-ghost use Rattle.rq_catalog.specs.Units.{numbers, has_unit, outcome_at, engages_at};
+ghost use Rattle.rq_catalog.specs.Units.{is_open_in, numbers, has_unit, outcome_at, engages_at};
 
 use crate::grounds::Grounds;
 use crate::lists::{touch, touch_all};
-use crate::outcome::Outcome;
-use crate::units::Units;
+use crate::units::{Outcome, Units};
 use rq_record::{Fault, KeptRecord, UnitNo, Version};
 use std::alloc::Global;
 

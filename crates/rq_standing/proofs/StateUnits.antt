@@ -10,7 +10,7 @@ use Rattle.rq_model.specs.Machine.{is_open}
 use Rattle.rq_model.specs.Queues.{is_engaged}
 use Rattle.rq_model.specs.StepLaws.{StepByParts}
 use Rattle.rq_model.proofs.Lists.{by_cases}
-use Rattle.rq_catalog.specs.Members.{is_marked_at, is_noted_at}
+use Rattle.rq_catalog.specs.Units.{is_marked_at, is_noted_at}
 use Rattle.rq_standing.specs.Units.{AreUnits, has_open, engages_in}
 use Rattle.rq_standing.proofs.Units.{any_both, same_number}
 use Rattle.rq_standing.specs.declared.open_units.OpenUnits.{OpenUnits}

@@ -1,4 +1,4 @@
-use Rattle.rq_catalog.proofs.Once.{next_queue}
+use Rattle.rq_catalog.proofs.Tables.{next_queue}
 use Rattle.std.proofs.Common.{arith, ◌∙◌}
 use Rattle.rq_catalog.proofs.lists.touch_all.Goals as goal
 
