@@ -5,7 +5,6 @@ pub mod Knowing
 pub mod Engaged
 pub mod Seen
 pub mod Keep
-pub mod Begins
 pub mod Ends
 pub mod Aborts
 pub mod Fronts

@@ -5,7 +5,6 @@ mod analysis;
 mod catalogue;
 mod grounds;
 mod judge;
-mod lists;
 mod registrants;
 mod rules;
 mod start;
