@@ -1,7 +1,7 @@
 -- The catalogue of a state agrees with the run of no records; the loop over the records, and its end.
 use Rattle.std.proofs.Common.{◌≡◌, ℕ, Bool, true, false, ◌&&◌, ◌||◌, List, [], length, Some, None, map, refl, sym, ap}
 use Rattle.std.proofs.Common.{◌∙◌, Option, suc, zero, ◌+◌, ◌<◌, ◌≤◌, ◌++◌, ◌∷◌, subst, arith, take, drop, get_or}
-use Rattle.std.specs.Prelude.{◌==◌, if◌then◌else◌, option_map, ◌^◌, ◌&&◌, Option}
+use Rattle.std.specs.Prelude.{◌==◌, if◌then◌else◌, option_map, ◌^◌}
 use Rattle.std.specs.List.{list_any, AllByRecursion, filter}
 use Rattle.std.proofs.lemmas.List.{append-nil, length-map, length-take, map-append}
 use Rattle.rq_model.specs.States as states
