@@ -22,7 +22,7 @@ use Rattle.rq_model.proofs.Lists.{by_cases, each_weaker}
 use Rattle.rq_standing.specs.Stands.{queue_named, unit_named}
 use Rattle.rq_standing.specs.Units.{AreUnits, has_open, queues_of, engages_in}
 use Rattle.rq_standing.specs.declared.open_units.OpenUnits.{OpenUnits}
-use Rattle.rq_catalog.specs.Members.{is_marked_at, is_noted_at}
+use Rattle.rq_catalog.specs.Units.{is_marked_at, is_noted_at}
 
 or_nothing : (b : Bool) → (b || false) ≡ b
 or_nothing true = refl

@@ -1,7 +1,7 @@
 use Rattle.std.proofs.Common.{◌||◌, ◌&&◌, List, ap, ◌∙◌}
 use Rattle.std.specs.List.{list_any}
 use Rattle.rq_model.specs.States.{Element, Note}
-use Rattle.rq_catalog.specs.Members.{is_marked_at, is_noted_at}
+use Rattle.rq_catalog.specs.Units.{is_marked_at, is_noted_at}
 use Rattle.rq_standing.specs.Units.{has_open, engages_in}
 use Rattle.rq_standing.proofs.Units.{all_begun, all_engaged}
 use Rattle.rq_standing.proofs.states.open_units_of.Goals as goal

@@ -1,7 +1,7 @@
 use Rattle.std.proofs.Common.{arith, ap, ◌∙◌, ◌++◌, ◌∷◌, [], ℕ}
 use Rattle.std.specs.Global.{Vec}
 use Rattle.rq_catalog.proofs.Tables.{touched_push}
-use Rattle.rq_catalog.proofs.lists.touch.Goals as goal
+use Rattle.rq_catalog.proofs.catalogue.touch.Goals as goal
 
 pub returns-in_ok-push-clause-listed : goal.returns-in_ok-push-clause-listed
 returns-in_ok-push-clause-listed c =

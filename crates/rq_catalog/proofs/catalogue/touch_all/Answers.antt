@@ -1,6 +1,6 @@
-use Rattle.rq_catalog.proofs.Once.{next_queue}
+use Rattle.rq_catalog.proofs.Tables.{next_queue}
 use Rattle.std.proofs.Common.{arith, ◌∙◌}
-use Rattle.rq_catalog.proofs.lists.touch_all.Goals as goal
+use Rattle.rq_catalog.proofs.catalogue.touch_all.Goals as goal
 
 pub loop-queue-preserved : goal.loop-queue-preserved
 loop-queue-preserved c = (

@@ -2,7 +2,7 @@ use Rattle.std.proofs.Common.{length, ◌≡◌, ◌&&◌, ◌++◌, ℕ, [], �
 use Rattle.std.specs.Prelude.{◌==◌}
 use Rattle.std.specs.List.{list_any}
 use Rattle.rq_state.specs.Orders.{listed}
-use Rattle.rq_catalog.proofs.lists.touch_all.Given as goal
+use Rattle.rq_catalog.proofs.catalogue.touch_all.Given as goal
 
 abbrev pub invariant-loop-queue : goal.invariant-loop-queue
 invariant-loop-queue l =
