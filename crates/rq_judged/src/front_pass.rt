@@ -1,6 +1,6 @@
 //! A pass over a log that keeps none of its records.
 
-ghost use Rattle.std.specs.Prelude.{◌≡◌, ◌≤◌, ◌+◌, ℕ, List, length, take, All, IfOk, IfErr};
+ghost use Rattle.std.specs.Prelude.{◌≡◌, ◌≤◌, ◌+◌, ℕ, List, length, All, IfOk, IfErr};
 ghost use Rattle.rq_model.specs.Records as records;
 ghost use Rattle.rq_model.specs.Frames.{HasHeader, log_limit};
 ghost use Rattle.rq_model.specs.States as model;
@@ -113,14 +113,6 @@ pub(crate) fn stays(why: Why) -> bool
     !matches!(why, Why::Whole | Why::Cut)
 }
 
-// The first bytes of a log.
-fn first(bytes: &[u8], limit: usize) -> &[u8]
-    requires { limit ≤ length bytes.now }
-    ensures { result.now ≡ take limit bytes.now }
-{
-    &bytes[..limit]
-}
-
 impl PassSoFar {
     /// A pass over a log of this version that stands behind its header.
     pub(crate) fn new(alloc: Global, version: Version) -> PassSoFar
@@ -158,7 +150,7 @@ impl PassSoFar {
         rq_model::frames_are_right();
         rq_model::frames_join();
         rq_model::one_front();
-        let part = first(bytes, limit);
+        let part = &bytes[..limit];
         let found = chain(rt, alloc, part, self.offset, grain)?;
         let reach = judge_each(alloc, &mut self.judge, part, &found.spans)?;
         let (end, why) = end_of(&found, reach.read, reach.lawful);
