@@ -1,4 +1,4 @@
--- Where the front of a log ends, from any offset and state, its start or a checkpoint on; why, and which rule ends it.
+-- Where the front of a log ends, from any offset and state, and why; and which rule ends it.
 use Rattle.std.specs.Prelude.{◌≡◌, ℕ, ◌+◌, ◌-◌, ◌≤◌, nat_lt, Bool, if◌then◌else◌, All, List, length}
 use Rattle.std.specs.Prelude.{drop, Option, Some, None, slice_get, true, false, is_some, Result, Ok}
 use Rattle.std.specs.Prelude.{Err}

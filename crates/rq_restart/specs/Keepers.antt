@@ -1,4 +1,4 @@
--- Records taken up to the first that is not lawful; where a keeper of a state is, and what it has taken.
+-- Records taken up to the first that is not lawful; where a keeper is, and what it has taken.
 use Rattle.std.specs.Prelude.{ℕ, ◌≡◌, Bool, if◌then◌else◌, List, length, ◌+◌, ◌≤◌, ◌<◌, true, ◌++◌}
 use Rattle.std.specs.Prelude.{take, Result, Ok, Err}
 use Rattle.rq_model.specs.Records.{Record, Version}

@@ -1,4 +1,4 @@
--- What a restart of a log answers, and the records without what the first of them spells, if that is a checkpoint.
+-- What a restart of a log answers; and records without what a checkpoint at their start spells.
 use Rattle.std.specs.Prelude.{List, [], ◌∷◌, ◌≡◌, ◌≤◌, ℕ, length, Result, Ok, Err}
 use Rattle.rq_model.specs.Records.{Record, Checkpoint, Version}
 use Rattle.rq_model.specs.Frames.{log_limit}

@@ -1,4 +1,4 @@
--- The queues of a state as they stand, what a record makes of them, and what a standing machine answers.
+-- The queues of a state as they stand, and what a standing machine makes of a record.
 use Rattle.std.specs.Prelude.{ℕ, ◌≡◌, length, Option, Some, None, option_map, true, false}
 use Rattle.rq_model.specs.Records.{Record, Register, Deregister, Enqueue, Dequeue, Kill, Version}
 use Rattle.rq_model.specs.States.{State}
