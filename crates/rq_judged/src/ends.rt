@@ -6,7 +6,6 @@ ghost use Rattle.rq_model.specs.Spelling.{Spells};
 ghost use Rattle.rq_model.specs.States as model;
 ghost use Rattle.rq_model.specs.Machine.{is_lawful};
 ghost use Rattle.rq_model.specs.Fronts.{IsWhy};
-ghost use Rattle.rq_record.specs.Views.{record_of};
 ghost use Rattle.rq_record.specs.declared.fault.Fault.TheVariants.{Resources};
 ghost use Rattle.rq_catalog.specs.Judges.{StandsIn};
 ghost use Rattle.rq_judged.specs.FrontEnds.{FindsEnd, FindsEndAt, is_law};
@@ -17,7 +16,7 @@ use crate::frames::body_at;
 use crate::judged::{JudgedFront, judged_behind, judged_front};
 use rq_catalog::{Judge, Rule};
 use rq_plan::Plan;
-use rq_record::{Fault, KeptRecord, decode_kept};
+use rq_record::{Fault, decode_kept};
 use std::alloc::Global;
 use std::marker::Sync;
 use std::thread::Threads;
@@ -52,25 +51,17 @@ pub struct FrontEnd {
     pub why: Why,
 }
 
-// The rule that a record breaks, which is not lawful there.
-fn broken_rule(judge: &Judge, rec: &KeptRecord) -> Rule
-    requires { (version : records.Version) × (s : model.State) × StandsIn version judge.now s
-        × (is_lawful version s (record_of rec.now) ≡ false) }
-{
-    let Some(rule) = judge.broken(rec) else {
-        unreachable!()
-    };
-    rule
-}
-
-// The same of the record that a body spells.
+// The rule that the record breaks which a body spells, and which is not lawful there.
 fn rule_of(alloc: Global, judge: &Judge, body: &[u8]) -> Result<Rule, Fault>
     requires { (version : records.Version) × (s : model.State) × StandsIn version judge.now s
         × (r : records.Record) × Spells version r body.now × (is_lawful version s r ≡ false) }
     ensures { IfErr result (λ e. e ≡ Resources) }
 {
     match decode_kept(alloc, judge.version(), body) {
-        Ok(record) => Ok(broken_rule(judge, &record)),
+        Ok(record) => match judge.broken(&record) {
+            Some(rule) => Ok(rule),
+            None => unreachable!(),
+        },
         Err(Fault::Form) => unreachable!(),
         Err(fault) => Err(fault),
     }

@@ -171,15 +171,6 @@ pub fn front_of<R: Threads + Sync>(
     Ok(settled(found, known))
 }
 
-// Checks the digests of a walk.
-fn checked<R: Threads + Sync>(rt: &R, bytes: &LogBytes<'_>, walk: Walk, grain: u32) -> Chain
-    requires walk { (from : ℕ) × Walks bytes.now from walk }
-    requires grain { 1 ≤ grain }
-    ensures { (from : ℕ) → Walks bytes.now from walk → IsChecked bytes.now from walk result }
-{
-    walk.checked(rt, bytes.as_slice(), grain)
-}
-
 // Checks the digests of a walk, while another thread puts the records of its bodies together and
 // goes through them.
 fn check_meanwhile<R: Threads + Sync>(
@@ -242,7 +233,7 @@ pub fn front_of_walk<R: Threads + Sync>(
 {
     let grain = grain_of(plan);
     if plan.workers() < 2 || walk.spans().len() <= FEW {
-        let found = checked(rt, bytes, walk, grain);
+        let found = walk.checked(rt, bytes.as_slice(), grain);
         return front_of(rt, alloc, version, bytes, &found, state, plan);
     }
     let workers = plan.workers();

@@ -8,7 +8,7 @@ ghost use Rattle.rq_model.specs.Fronts.{Ends};
 ghost use Rattle.rq_record.specs.Views.{version_of};
 ghost use Rattle.rq_record.specs.declared.fault.Fault.TheVariants.{Resources};
 ghost use Rattle.rq_judged.specs.Views.{why_of};
-ghost use Rattle.rq_judged.specs.Windows.{AreFramed, IsFed, IsFedSome, IsStopped, IsLasting};
+ghost use Rattle.rq_judged.specs.Windows.{AreFramed, IsFed, IsFedSome, IsStopped};
 ghost use Rattle.rq_judged.specs.Windows.{IsStoppedFront, KeepsFed, Origin, RefusesPiece, HasEnd};
 ghost use Rattle.rq_judged.specs.Windows.{log_origin};
 
@@ -40,13 +40,6 @@ pub(crate) struct WindowPass {
     place: usize,
     enough: usize,
     ended: Option<Why>,
-}
-
-// The reason, if no further bytes take it away.
-fn lasting(why: Why) -> Option<Why>
-    ensures { IsLasting (why_of why) result }
-{
-    if stays(why) { Some(why) } else { None }
 }
 
 impl WindowPass {
@@ -121,7 +114,7 @@ impl WindowPass {
         let why = self.judge_frames(alloc, &found.spans, why_of(found.rest))?;
         self.used = self.total - (self.window.len() - self.place);
         self.enough = (self.total - self.used).saturating_add(WAITING);
-        self.ended = lasting(why);
+        self.ended = stays(why).then_some(why);
         Ok(why)
     }
 

@@ -3,7 +3,7 @@
 ghost use Rattle.std.specs.Prelude.{◌≡◌, ◌<◌, ◌+◌, ◌^◌, IfOk, OnOk, IfErr, Some, None, length};
 ghost use Rattle.rq_model.specs.Machine.{step};
 ghost use Rattle.rq_model.specs.Records as records;
-ghost use Rattle.rq_model.specs.States.{State, empty};
+ghost use Rattle.rq_model.specs.States.{State};
 ghost use Rattle.rq_record.specs.Views.{record_of};
 ghost use Rattle.rq_record.specs.declared.fault.Fault.TheVariants.{Resources};
 ghost use Rattle.rq_state.specs.Views.{id_of};
@@ -33,22 +33,6 @@ pub struct Queues {
 }
 
 impl Queues {
-    /// No queues.
-    pub(crate) fn new(alloc: Global) -> Queues
-        ensures { HoldsState result empty }
-    {
-        rq_model::runs_are_well_formed();
-        Queues {
-            next: 0,
-            greatest: 0,
-            committed: 0,
-            aborted: 0,
-            definitions: Vec::new(alloc),
-            parts: Vec::new(alloc),
-            units: OpenUnits::none(alloc),
-        }
-    }
-
     /// The queues of the state. Refused with `Resources` alone.
     pub(crate) fn of(alloc: Global, state: &rq_state::State) -> Result<Queues, Fault>
         ensures holds { IfOk result (λ x. HoldsState x state.now) }

@@ -11,6 +11,7 @@ ghost use Rattle.rq_record.specs.declared.fault.Fault.TheVariants.{Resources};
 ghost use Rattle.rq_standing.specs.Spelled.{least_bytes};
 ghost use Rattle.rq_standing.specs.Stands.{Stands, IsTakenAs, state_with};
 
+use crate::open_units::OpenUnits;
 use crate::queues::Queues;
 use rq_catalog::{Judge, Rule};
 use rq_record::{ElemId, Fault, KeptRecord, Version};
@@ -40,9 +41,19 @@ impl Standing {
     pub fn new(alloc: Global, version: Version) -> Standing
         ensures { Stands (version_of version) result empty }
     {
+        rq_model::runs_are_well_formed();
+        let queues = Queues {
+            next: 0,
+            greatest: 0,
+            committed: 0,
+            aborted: 0,
+            definitions: Vec::new(alloc),
+            parts: Vec::new(alloc),
+            units: OpenUnits::none(alloc),
+        };
         Standing {
             judge: Judge::new(alloc, version),
-            queues: Queues::new(alloc),
+            queues,
         }
     }
 
