@@ -19,8 +19,8 @@ unreachable-requires c =
     false≢true (c.in-None.ensures.exact version s stands
     ∙ ap not (not_lawful version s c.args.body.now r x spells breaks spelled))
 
-pub unreachable-requires-2 : goal.unreachable-requires-2
-unreachable-requires-2 c =
+pub unreachable-requires-in-Err-Form : goal.unreachable-requires-in-Err-Form
+unreachable-requires-in-Err-Form c =
     let (version, s, stands, r, spells, breaks) = c.requires in
     let none : Decodes (version_of c.version.result) c.args.body.now (Err Form) =
     subst (λ (e : Fault). Decodes (version_of c.version.result) c.args.body.now (Err e)) c.in-Err-Form.field-0-is
