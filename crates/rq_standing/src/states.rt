@@ -1,9 +1,7 @@
 //! From a state to the queues as they stand, and back: what they hold is made of copies.
 
-ghost use Rattle.std.specs.Prelude.{◌≡◌, ℕ, ◌==◌, ◌||◌, [], None, length, map, IfOk, OnOk, IfErr};
-ghost use Rattle.std.specs.List.{list_any};
+ghost use Rattle.std.specs.Prelude.{◌≡◌, [], None, length, IfOk, IfErr};
 ghost use Rattle.rq_record.specs.declared.fault.Fault.TheVariants.{Resources};
-ghost use Rattle.rq_state.specs.Views.{unit_of};
 ghost use Rattle.rq_standing.specs.Parts.{ArePartsOf};
 ghost use Rattle.rq_standing.specs.Units.{AreUnits, has_open, engages_in};
 ghost use Rattle.rq_model.specs.States as model;
@@ -33,17 +31,6 @@ pub(crate) fn parts_of(alloc: Global, state: &State) -> Result<Vec<Part>, Fault>
     Ok(parts)
 }
 
-fn begin_all(alloc: Global, units: &mut OpenUnits, all: &[UnitNo]) -> Result<(), Fault>
-    ensures opened { OnOk result ((u : ℕ) → has_open units.new u
-        ≡ (list_any (λ v. v == u) (map unit_of all.now) || has_open units.old u)) }
-    ensures refused { IfErr result (λ e. e ≡ Resources) }
-{
-    for unit in all {
-        units.begin(alloc, *unit)?;
-    }
-    Ok(())
-}
-
 impl Engaging for OpenUnits {
     ghost numbers_of = { λ units. [] };
 
@@ -66,7 +53,10 @@ pub(crate) fn open_units_of(alloc: Global, state: &State) -> Result<OpenUnits, F
     rq_model::step_by_parts();
     state.is_well_formed();
     let mut units = OpenUnits::none(alloc);
-    begin_all(alloc, &mut units, state.units())?;
+    let all = state.units();
+    for unit in all {
+        units.begin(alloc, *unit)?;
+    }
     engage_by_marks(&mut units, state.elements())?;
     engage_by_notes(&mut units, state.notes())?;
     Ok(units)
