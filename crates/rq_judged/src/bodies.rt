@@ -4,10 +4,9 @@ ghost use Rattle.std.specs.Prelude.{◌≡◌, ◌≤◌, ◌+◌, ℕ, List, le
 ghost use Rattle.std.specs.Arc.{arc_slice_items};
 ghost use Rattle.std.specs.Thread.{IsSync};
 ghost use Rattle.rq_model.specs.Records as model;
-ghost use Rattle.rq_record.specs.Reading.{Decodes};
 ghost use Rattle.rq_record.specs.Views.{record_of, version_of};
 ghost use Rattle.rq_record.specs.declared.fault.Fault.TheVariants.{Resources};
-ghost use Rattle.rq_front.specs.Chains.{bodies_at, body_at};
+ghost use Rattle.rq_front.specs.Chains.{bodies_at};
 ghost use Rattle.rq_judged.specs.Readings.{AreApart, AreRead, ReadsBodies};
 
 use rq_front::Span;

@@ -13,7 +13,7 @@ ghost use Rattle.rq_front.specs.Chains.{bodies_at, rest_of};
 ghost use Rattle.rq_front.specs.Walks.{IsChecked, Walks, spans_of};
 ghost use Rattle.rq_catalog.specs.Analyses.{IsAnalysis};
 ghost use Rattle.rq_judged.specs.FrontEnds.{IsChain, IsFrontFrom, end_at};
-ghost use Rattle.rq_judged.specs.Readings.{AreRead, IsKnownOfBodies, KnowsBodies};
+ghost use Rattle.rq_judged.specs.Readings.{IsKnownOfBodies, KnowsBodies};
 ghost use Rattle.rq_judged.specs.Views.{why_of};
 
 use crate::bodies::{FEW, PartedRecords, put_together, read_bodies};

@@ -118,20 +118,8 @@ impl WindowPass {
         Ok(why)
     }
 
-    // Lets go of the frames that were passed: behind the header stand the 32 bytes before the next
-    // frame again.
-    fn let_go(&mut self)
-        requires follows { IsFedSome self.old }
-        ensures { KeepsFed self.old self.new }
-    {
-        if self.place <= HEADER_LEN + 32 {
-            return;
-        }
-        self.window.drain(HEADER_LEN..self.place - 32);
-        self.place = HEADER_LEN + 32;
-    }
-
-    // Looks at what waits, if enough came.
+    // Looks at what waits, if enough came, and lets go of the frames that were passed: behind the
+    // header stand the 32 bytes before the next frame again.
     fn make_room<R: Threads + Sync>(
         &mut self,
         rt: &R,
@@ -147,7 +135,11 @@ impl WindowPass {
             return Ok(());
         }
         self.look(rt, alloc, grain)?;
-        self.let_go();
+        if self.place <= HEADER_LEN + 32 {
+            return Ok(());
+        }
+        self.window.drain(HEADER_LEN..self.place - 32);
+        self.place = HEADER_LEN + 32;
         Ok(())
     }
 
