@@ -1,7 +1,7 @@
--- The lawful beginning of a list, and what an analysis of the list says of it.
-use Rattle.std.proofs.Common.{◌≡◌, ℕ, Bool, true, false, cond, List, [], ◌∷◌, ◌++◌, length, map, take, refl, sym}
-use Rattle.std.proofs.Common.{ap, subst, ◌∙◌, arith, length-append}
-use Rattle.std.specs.Prelude.{nat_lt, ⊤}
+-- The lawful beginning of a list, what an analysis of the list says of it, and the record that an index gives.
+use Rattle.std.proofs.Common.{◌≡◌, ℕ, Bool, true, false, cond, List, [], ◌∷◌, ◌++◌, length, map, take, refl, sym, ap}
+use Rattle.std.proofs.Common.{subst, ◌∙◌, arith, length-append, ◌+◌, ◌-◌, append_assoc}
+use Rattle.std.specs.Prelude.{nat_lt, ⊤, if◌then◌else◌, slice_index_or}
 use Rattle.std.proofs.lemmas.Bool.{and_from, lt-ltb, le-ltb}
 use Rattle.std.proofs.lemmas.List.{take_at, take-map}
 use Rattle.rq_model.specs.Records.{Record, Version, One, Two}
@@ -10,10 +10,12 @@ use Rattle.rq_model.specs.States.{State}
 use Rattle.rq_model.specs.Machine.{step, run, is_lawful, all_lawful, lawful_front, outcome}
 use Rattle.rq_model.specs.Laws.{VersionTwoIsWider}
 use Rattle.rq_catalog.specs.declared.analysis.Analysis.{Analysis}
-use Rattle.rq_catalog.specs.Lists.{numbered}
+use Rattle.rq_catalog.specs.Lists.{numbered, place_and_index, op_again}
 use Rattle.rq_catalog.specs.Catalogues.{Follows}
 use Rattle.rq_catalog.specs.Analyses.{IsAnalysis}
 use Rattle.rq_catalog.proofs.Runs.{front_whole}
+use Rattle.rq_model.specs.Queues.{touches, touching_from, touching}
+use Rattle.rq_model.proofs.Lists.{by_cases}
 
 -- no record, or a first one that is not lawful
 abbrev pub Stops : Version → State → List Record → Type 0
@@ -116,3 +118,52 @@ pub analysis_is_wider : VersionTwoIsWider → (version : Version) (s : State) (r
     → all_lawful version s rs ≡ true → IsAnalysis version s rs a → IsAnalysis Two s rs a
 analysis_is_wider wider version s rs a lawful is =
     analysis_elsewhere version Two s rs a lawful (lawful_in_two wider version s rs lawful) is
+
+middle : (before : List Record) (r : Record) (rs : List Record) (d : Record)
+    → slice_index_or (before ++ r ∷ rs) (length before) d ≡ r
+middle [] r rs d = refl
+middle (x ∷ before) r rs d = middle before r rs d
+
+again : (next : ℕ) (s : State) (before rs : List Record) (q : ℕ) (d : Record) (all : List Record) → all ≡ before ++ rs
+    → map (op_again all d) (map (place_and_index next) (touching_from (next + length before) s before rs q))
+    ≡ touching_from (next + length before) s before rs q
+again next s before [] q d all e = refl
+again next s before (r ∷ rs) q d all e =
+    at (subst (λ (p : ℕ). map (op_again all d) (map (place_and_index next) (touching_from p s (before ++ r ∷ []) rs q))
+    ≡ touching_from p s (before ++ r ∷ []) rs q) up
+    (again next s (before ++ r ∷ []) rs q d all (e ∙ sym (append_assoc before (r ∷ []) rs))))
+  where
+    up : next + length (before ++ r ∷ []) ≡ next + length before + 1
+    up = omega (arith, length-append before (r ∷ []))
+
+    minus : (a b : ℕ) → a + b - a ≡ b
+    minus a b = omega arith
+
+    here : slice_index_or all (next + length before - next) d ≡ r
+    here = ap (λ k. slice_index_or all k d) (minus next (length before))
+        ∙ ap (λ l. slice_index_or l (length before) d) e ∙ middle before r rs d
+
+    at : map (op_again all d)
+        (map (place_and_index next) (touching_from (next + length before + 1) s (before ++ r ∷ []) rs q))
+        ≡ touching_from (next + length before + 1) s (before ++ r ∷ []) rs q
+        → map (op_again all d) (map (place_and_index next) (touching_from (next + length before) s before (r ∷ rs) q))
+        ≡ touching_from (next + length before) s before (r ∷ rs) q
+    at h = by_cases (touches s before q r)
+        (λ b. map (op_again all d)
+        (map (place_and_index next)
+        (if b then record { place = next + length before; does = r }
+        ∷ touching_from (next + length before + 1) s (before ++ r ∷ []) rs q else touching_from
+        (next + length before + 1) s (before ++ r ∷ []) rs q))
+        ≡ (if b then record { place = next + length before; does = r }
+        ∷ touching_from (next + length before + 1) s (before ++ r ∷ []) rs q else touching_from
+        (next + length before + 1) s (before ++ r ∷ []) rs q))
+        (λ _ i. record { place = next + length before; does = here i } ∷ h i) (λ _. h)
+
+pub ops_again : (s : State) (rs : List Record) (q : ℕ) (d : Record)
+    → map (op_again rs d) (numbered s rs q) ≡ touching s rs q
+ops_again s rs q d =
+    subst (λ (p : ℕ). map (op_again rs d) (map (place_and_index s.next) (touching_from p s [] rs q))
+    ≡ touching_from p s [] rs q) (none s.next) (again s.next s [] rs q d rs refl)
+  where
+    none : (n : ℕ) → n + 0 ≡ n
+    none n = omega arith

@@ -1,6 +1,6 @@
 -- A lawful record keeps the agreement of the catalogue with the run.
-use Rattle.std.proofs.Common.{◌≡◌, ℕ, suc, ◌+◌, ◌-◌, ◌<◌, ◌≤◌, Bool, true, false, cond, ◌&&◌, ◌||◌, List, [], ◌∷◌}
-use Rattle.std.proofs.Common.{◌++◌, length, Option, Some, None, map, refl, sym, ap, ◌∙◌, subst, arith}
+use Rattle.std.proofs.Common.{◌≡◌, ℕ, suc, ◌+◌, ◌-◌, ◌<◌, ◌≤◌, Bool, true, false, cond, ◌&&◌, ◌||◌, List, [], ◌∷◌, ◌++◌}
+use Rattle.std.proofs.Common.{length, Option, Some, None, map, refl, sym, ap, ◌∙◌, subst, arith}
 use Rattle.std.specs.Prelude.{◌==◌, nat_lt, nat_eq, if◌then◌else◌, option_map}
 use Rattle.std.specs.List.{list_any, AllByRecursion}
 use Rattle.std.specs.Str.{bytes_eq}
@@ -10,34 +10,29 @@ use Rattle.rq_model.specs.Records as model
 use Rattle.rq_model.specs.Records.{Version}
 use Rattle.rq_model.specs.States.{State, Registrant, Element, Note, is_registrant}
 use Rattle.rq_model.specs.Machine as machine
-use Rattle.rq_model.specs.Machine.{is_lawful, all_lawful, is_open, is_registered, is_known}
-use Rattle.rq_model.specs.Machine.{step, run, outcome_from, outcome, begins}
-use Rattle.rq_model.specs.Queues.{Op, is_engaged, is_marked, engages, touches, touching_from, touching}
+use Rattle.rq_model.specs.Machine.{is_lawful, all_lawful, is_open, is_registered, is_known, step, run, outcome_from}
+use Rattle.rq_model.specs.Machine.{outcome, begins}
+use Rattle.rq_model.specs.Queues.{Op, is_engaged, is_marked, engages, touches, touching_from, touching, defined_by}
 use Rattle.rq_model.specs.WellFormed.{IsWellFormed}
-use Rattle.rq_model.proofs.Lists.{by_cases, each_weaker}
+use Rattle.rq_model.proofs.Lists.{by_cases, each_weaker, each_map}
 use Rattle.rq_model.proofs.Decided.{element_homes, note_queues, registrant_queues}
 use Rattle.rq_model.proofs.Kept.{runs_are_well_formed}
 use Rattle.rq_record.specs.declared.record.RecordOf.TheVariants.{Define, Register, Deregister, Begin, Enqueue, Dequeue}
 use Rattle.rq_record.specs.declared.record.RecordOf.TheVariants.{Commit, Abort, Checkpoint, Kill}
 use Rattle.rq_record.specs.Views.{Record, record_of}
-use Rattle.rq_catalog.specs.declared.outcome.Outcome.{Outcome}
-use Rattle.rq_catalog.specs.declared.outcome.Outcome.TheVariants.{Committed, Aborted, Open}
+use Rattle.rq_catalog.specs.declared.units.Outcome.{Outcome}
+use Rattle.rq_catalog.specs.declared.units.Outcome.TheVariants.{Committed, Aborted, Open}
 use Rattle.rq_catalog.specs.declared.catalogue.Catalogue.{Catalogue}
 use Rattle.rq_catalog.specs.Lists.{numbered, place_and_index}
-use Rattle.rq_catalog.specs.Units.{outcome_at, engages_at}
+use Rattle.rq_catalog.specs.Units.{outcome_at, engages_at, outcome_of}
 use Rattle.rq_state.specs.Orders.{listed}
-use Rattle.rq_catalog.specs.Outcomes.{outcome_of}
 use Rattle.rq_catalog.specs.Grounds.{AreGroundsOf}
-use Rattle.rq_catalog.specs.Catalogues.{outcome_after, begun_after, engaged_after}
-use Rattle.rq_catalog.specs.Catalogues.{touches_in, Takes}
-use Rattle.rq_catalog.specs.Catalogues.{Follows}
+use Rattle.rq_catalog.specs.Catalogues.{outcome_after, begun_after, engaged_after, touches_in, Takes, Follows}
 use Rattle.rq_catalog.proofs.Runs.{run_push, any_push, first, from_push, is_open_outcome, open_by_outcome, unseen}
 use Rattle.rq_catalog.proofs.Runs.{touching_push}
 use Rattle.rq_catalog.proofs.Seen.{numbers_step}
 use Rattle.rq_catalog.proofs.Engaged.{or_false, any_holds, engaged_step}
 use Rattle.rq_model.proofs.ByQueue.{run_definitions}
-use Rattle.rq_model.specs.Queues.{defined_by}
-use Rattle.rq_model.proofs.Lists.{each_map}
 
 -- Booleans.
 

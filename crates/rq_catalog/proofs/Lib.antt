@@ -1,15 +1,10 @@
-pub mod Tables
-pub mod Registered
 pub mod Rising
-pub mod Once
+pub mod Tables
 pub mod Runs
-pub mod Fronts
-pub mod Opened
 pub mod Knowing
 pub mod Engaged
 pub mod Seen
 pub mod Keep
-pub mod Begins
 pub mod Ends
 pub mod Aborts
-pub mod Again
+pub mod Fronts

@@ -1,15 +1,14 @@
 -- Units that rise: where one of them is found, and what a change of it leaves.
-use Rattle.std.proofs.Common.{◌≡◌, ℕ, zero, suc, ◌+◌, ◌<◌, Bool, true, false, cond, List, [], ◌∷◌, ◌++◌, length}
-use Rattle.std.proofs.Common.{Option, Some, None, refl, sym, ap, ◌∙◌, subst, arith, take, drop}
-use Rattle.std.proofs.Common.{slice_get, slice_set, slice_index_or}
-use Rattle.std.specs.Prelude.{◌==◌, ◌||◌, ◌&&◌, ◌≤◌, nat_eq, option_map, if◌then◌else◌, filter}
+use Rattle.std.proofs.Common.{◌≡◌, ℕ, zero, suc, ◌+◌, ◌<◌, Bool, true, false, cond, List, [], ◌∷◌, ◌++◌, length, Option}
+use Rattle.std.proofs.Common.{Some, None, refl, sym, ap, ◌∙◌, subst, arith, take, drop, slice_get, slice_set}
+use Rattle.std.proofs.Common.{slice_index_or}
+use Rattle.std.specs.Prelude.{◌==◌, ◌||◌, ◌&&◌, ◌≤◌, nat_eq, option_map, if◌then◌else◌, filter, Err}
 use Rattle.std.specs.Option.{option_map_or}
 use Rattle.std.specs.Ordering.{is_eq, nat_cmp}
 use Rattle.std.specs.declared.cmp.Ordering.TheVariants.{Equal}
 use Rattle.std.specs.List.{AllByRecursion, list_any}
 use Rattle.std.proofs.lemmas.Bool.{eqb-true, eq-eqb, ne_eqb, false≢true}
 use Rattle.std.specs.List.Sorted.{IsBinarySearchResult, IsSearchInRange}
-use Rattle.std.specs.Prelude.{Err}
 use Rattle.std.proofs.lemmas.List.{map-append, length-map}
 use Rattle.std.proofs.lemmas.Cmp.{nat_cmp_total}
 use Rattle.rq_state.proofs.Searched.{searched_by}
@@ -19,13 +18,12 @@ use Rattle.rq_model.specs.WellFormed.{Ordered}
 use Rattle.rq_model.proofs.Lists.{by_cases}
 use Rattle.rq_model.proofs.WellFormedRuns.{ordered_push}
 use Rattle.std.specs.Global.{Vec}
-use Rattle.rq_catalog.specs.declared.outcome.Outcome.TheVariants.{Open}
+use Rattle.rq_catalog.specs.declared.units.Outcome.TheVariants.{Open}
 use Rattle.rq_catalog.specs.declared.units.Unit.{Unit}
-use Rattle.rq_catalog.specs.Units.{numbers, has_unit, unit_in, outcome_at, engages_at}
+use Rattle.rq_catalog.specs.Units.{numbers, has_unit, unit_in, outcome_at, engages_at, is_open_in}
 use Rattle.rq_catalog.proofs.Runs.{any_push}
 use Rattle.rq_catalog.proofs.Engaged.{and_false}
 use Rattle.rq_catalog.proofs.Seen.{open_more}
-use Rattle.rq_catalog.specs.Outcomes.{is_open_in}
 
 abbrev pub Rises : List Unit → Type 0
 Rises units = Ordered (λ a b. a < b) (numbers units)

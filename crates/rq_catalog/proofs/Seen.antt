@@ -1,7 +1,6 @@
 -- Units in the order in which they began.
 use Rattle.std.proofs.Common.{◌≡◌, ℕ, zero, suc, ◌+◌, ◌<◌, ◌≤◌, Bool, true, false, cond, ◌||◌, ◌&&◌, List, [], ◌∷◌}
-use Rattle.std.proofs.Common.{◌++◌, length, map, refl, sym, ap, ◌∙◌, arith, take, get_or, append_assoc}
-use Rattle.std.proofs.Common.{Some, None}
+use Rattle.std.proofs.Common.{◌++◌, length, map, refl, sym, ap, ◌∙◌, arith, take, get_or, append_assoc, Some, None}
 use Rattle.std.specs.Prelude.{◌==◌, nat_eq, if◌then◌else◌}
 use Rattle.std.specs.List.{filter, list_any, AllByRecursion}
 use Rattle.std.proofs.lemmas.Bool.{and_parts, eq-eqb}
@@ -20,7 +19,7 @@ use Rattle.rq_record.specs.declared.record.RecordOf.TheVariants.{Begin}
 use Rattle.rq_record.specs.declared.record.UnitNo.{UnitNo}
 use Rattle.rq_record.specs.Views.{Record, record_of}
 use Rattle.rq_state.specs.Views.{unit_of}
-use Rattle.rq_catalog.specs.declared.outcome.Outcome.TheVariants.{Open}
+use Rattle.rq_catalog.specs.declared.units.Outcome.TheVariants.{Open}
 use Rattle.rq_catalog.specs.Catalogues.{begun_after}
 use Rattle.rq_catalog.proofs.Runs.{any_filter, any_push, greatest_rises}
 

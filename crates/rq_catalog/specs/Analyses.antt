@@ -5,9 +5,8 @@ use Rattle.rq_model.specs.States.{State}
 use Rattle.rq_model.specs.Machine as machine
 use Rattle.rq_model.specs.Machine.{lawful_front, run}
 use Rattle.rq_catalog.specs.declared.analysis.Analysis.{Analysis}
-use Rattle.rq_catalog.specs.Outcomes.{outcome_of, is_open_in}
+use Rattle.rq_catalog.specs.Units.{outcome_of, is_open_in, numbers, outcome_at}
 use Rattle.rq_catalog.specs.Lists.{numbered}
-use Rattle.rq_catalog.specs.Units.{numbers, outcome_at}
 use Rattle.rq_state.specs.Orders.{listed}
 use Rattle.rq_catalog.specs.Catalogues.{Follows}
 

@@ -1,7 +1,7 @@
 -- What a catalogue knows, and what a record changes in it.
 use Rattle.std.specs.Prelude.{ℕ, Bool, true, false, ◌&&◌, ◌||◌, ◌==◌, ◌≡◌, ◌+◌, ◌<◌, ◌^◌, cond}
-use Rattle.std.specs.Prelude.{nat_lt, nat_eq, if◌then◌else◌, List, [], ◌∷◌, ◌++◌, length}
-use Rattle.std.specs.Prelude.{Option, Some, option_map, ⊤}
+use Rattle.std.specs.Prelude.{nat_lt, nat_eq, if◌then◌else◌, List, [], ◌∷◌, ◌++◌, length, Option}
+use Rattle.std.specs.Prelude.{Some, option_map, ⊤}
 use Rattle.rq_model.specs.Records as model
 use Rattle.rq_model.specs.States.{State}
 use Rattle.rq_model.specs.Machine.{is_open, run, step, outcome}
@@ -12,13 +12,12 @@ use Rattle.rq_record.specs.Views.{Record, record_of}
 use Rattle.rq_record.specs.declared.record.RecordOf.TheVariants.{Register, Deregister, Begin}
 use Rattle.rq_record.specs.declared.record.RecordOf.TheVariants.{Enqueue, Dequeue, Commit, Abort}
 use Rattle.rq_record.specs.declared.record.RecordOf.TheVariants.{Kill}
-use Rattle.rq_catalog.specs.Outcomes.{outcome_of}
+use Rattle.rq_catalog.specs.Units.{outcome_of, numbers, has_unit, outcome_at, engages_at}
 use Rattle.rq_catalog.specs.Lists.{numbered}
 use Rattle.rq_catalog.specs.Grounds.{AreGroundsOf}
-use Rattle.rq_catalog.specs.Units.{numbers, has_unit, outcome_at, engages_at}
 use Rattle.rq_state.specs.Orders.{listed}
-use Rattle.rq_catalog.specs.declared.outcome.Outcome.{Outcome}
-use Rattle.rq_catalog.specs.declared.outcome.Outcome.TheVariants.{Committed, Aborted, Open}
+use Rattle.rq_catalog.specs.declared.units.Outcome.{Outcome}
+use Rattle.rq_catalog.specs.declared.units.Outcome.TheVariants.{Committed, Aborted, Open}
 use Rattle.rq_catalog.specs.declared.catalogue.Catalogue.{Catalogue}
 
 -- What a record changes, field by field.

@@ -1,9 +1,6 @@
-pub mod Outcomes
 pub mod Lists
-pub mod Members
 pub mod Catalogues
 pub mod Analyses
-pub mod Grounds
 pub mod Judges
 pub mod Units
-pub mod Registered
+pub mod Grounds

@@ -11,13 +11,13 @@ ghost use Rattle.rq_record.specs.Views.{record_of, version_of};
 ghost use Rattle.rq_state.specs.Orders.{listed};
 ghost use Rattle.rq_state.specs.Views.{unit_of};
 ghost use Rattle.rq_record.specs.declared.fault.Fault.TheVariants.{Resources};
-ghost use Rattle.rq_catalog.specs.Outcomes.{outcome_of};
+ghost use Rattle.rq_catalog.specs.Units.{outcome_of};
 ghost use Rattle.rq_catalog.specs.Lists.{numbered, op_again};
 ghost use Rattle.rq_catalog.specs.Analyses.{IsAnalysis, outcome_in, open_in, touched};
 
 use crate::catalogue::Catalogue;
-use crate::outcome::Outcome;
 use crate::start::catalogue_of;
+use crate::units::Outcome;
 use rq_record::{Fault, KeptRecord, QueueNo, Record, UnitNo, Version, kept_records};
 use rq_state::{Definition, State};
 use std::alloc::Global;

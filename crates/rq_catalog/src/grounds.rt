@@ -13,16 +13,13 @@ ghost use Rattle.rq_model.specs.Records as records;
 ghost use Rattle.rq_model.specs.States as model;
 ghost use Rattle.rq_record.specs.Views.{record_of, version_of};
 ghost use Rattle.rq_record.specs.declared.fault.Fault.TheVariants.{Resources};
-ghost use Rattle.rq_catalog.specs.Grounds.{AreGroundsOf, KeepsKnowing};
-ghost use Rattle.rq_catalog.specs.Members.{has_key, has_name};
-ghost use Rattle.rq_catalog.specs.Outcomes.{is_open_in};
-ghost use Rattle.rq_catalog.specs.Registered.{is_registered_in};
-ghost use Rattle.rq_catalog.specs.Units.{outcome_at};
+ghost use Rattle.rq_catalog.specs.Grounds.{AreGroundsOf, KeepsKnowing, is_registered_in};
+ghost use Rattle.rq_catalog.specs.Grounds.{has_key, has_name};
+ghost use Rattle.rq_catalog.specs.Units.{is_open_in, outcome_at};
 
-use crate::outcome::Outcome;
 use crate::registrants::RegisteredNames;
 use crate::rules::Rule;
-use crate::units::Units;
+use crate::units::{Outcome, Units};
 use indexmap::IndexSet;
 use rq_record::{Fault, KeptBy, KeptName, KeptRecord, Name, QueueNo, UnitNo, Version};
 use rq_state::{Definition, KeptRegistrant, State, copied_definitions};
@@ -96,17 +93,6 @@ fn registrants_of(alloc: Global, registrants: &[KeptRegistrant]) -> Result<Regis
     Ok(roll)
 }
 
-// The rule that a record breaks whose unit must be open.
-fn unit_rule<U: KnowsOpenUnits>(units: &U, unit: UnitNo) -> Option<Rule>
-    ensures { is_some result ≡ not (U.opens units.now unit.0) }
-{
-    if units.is_open(unit.0) {
-        None
-    } else {
-        Some(Rule::NotOpen(unit))
-    }
-}
-
 impl Grounds {
     /// Before any record. Takes no memory yet.
     pub(crate) fn new(alloc: Global) -> Grounds
@@ -149,11 +135,7 @@ impl Grounds {
         ensures { (s : model.State) → AreGroundsOf self.now s
             → is_some result ≡ not (machine.is_defined s queue.0) }
     {
-        if self.is_defined(queue) {
-            None
-        } else {
-            Some(Rule::NotDefined(queue))
-        }
+        (!self.is_defined(queue)).then_some(Rule::NotDefined(queue))
     }
 
     // In version 1 an error queue has no error queue itself.
@@ -197,11 +179,7 @@ impl Grounds {
         if limit != 0 {
             return self.error_rule(version, limit, error);
         }
-        if error.0 == QueueNo::NONE.0 {
-            None
-        } else {
-            Some(Rule::NoLimit(error))
-        }
+        (error.0 != QueueNo::NONE.0).then_some(Rule::NoLimit(error))
     }
 
     fn name_rule(&self, name: Name) -> Option<Rule>
@@ -313,8 +291,9 @@ impl Grounds {
             KeptRecord::Dequeue { unit, queue, by } => {
                 self.operation_rule(units, *unit, *queue, by)
             }
-            KeptRecord::Commit { unit } => unit_rule(units, *unit),
-            KeptRecord::Abort { unit } => unit_rule(units, *unit),
+            KeptRecord::Commit { unit } | KeptRecord::Abort { unit } => {
+                (!units.is_open(unit.0)).then_some(Rule::NotOpen(*unit))
+            }
             KeptRecord::Checkpoint { .. } => None,
             KeptRecord::Kill { queue, .. } => self.kill_rule(version, *queue),
         }

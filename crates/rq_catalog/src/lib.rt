@@ -5,8 +5,6 @@ mod analysis;
 mod catalogue;
 mod grounds;
 mod judge;
-mod lists;
-mod outcome;
 mod registrants;
 mod rules;
 mod start;
@@ -14,6 +12,6 @@ mod units;
 
 pub use analysis::{Analysis, analyse, analyse_in, analyse_kept, indices};
 pub use judge::Judge;
-pub use outcome::Outcome;
 pub use rules::Rule;
 pub use start::{Engaging, engage_by_marks, engage_by_notes};
+pub use units::Outcome;

@@ -2,7 +2,7 @@
 
 ghost use Rattle.std.specs.Prelude.{◌≡◌, ◌<◌, ℕ, List, length, cond, true, false, OnOk, IfErr};
 ghost use Rattle.rq_record.specs.declared.fault.Fault.TheVariants.{Resources};
-ghost use Rattle.rq_catalog.specs.Registered.{key_eq, is_registered_in};
+ghost use Rattle.rq_catalog.specs.Grounds.{key_eq, is_registered_in};
 
 use rq_record::{Fault, KeptName, Name};
 use std::alloc::Global;

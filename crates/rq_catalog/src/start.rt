@@ -8,10 +8,10 @@ ghost use Rattle.std.specs.BTreeSet as ordered;
 ghost use Rattle.rq_model.specs.WellFormed.{Ordered, IsWellFormed};
 ghost use Rattle.rq_record.specs.declared.fault.Fault.TheVariants.{Resources};
 ghost use Rattle.rq_state.specs.Views.{unit_of};
-ghost use Rattle.rq_catalog.specs.declared.outcome.Outcome.{Outcome};
-ghost use Rattle.rq_catalog.specs.declared.outcome.Outcome.TheVariants.{Open};
+ghost use Rattle.rq_catalog.specs.declared.units.Outcome.{Outcome};
+ghost use Rattle.rq_catalog.specs.declared.units.Outcome.TheVariants.{Open};
 ghost use Rattle.rq_catalog.specs.Catalogues.{Follows};
-ghost use Rattle.rq_catalog.specs.Members.{is_marked_at, is_noted_at};
+ghost use Rattle.rq_catalog.specs.Units.{is_marked_at, is_noted_at};
 ghost use Rattle.rq_catalog.specs.Units.{EngagesToo, numbers, has_unit, outcome_at, engages_at};
 
 use crate::catalogue::Catalogue;

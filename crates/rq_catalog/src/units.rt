@@ -8,11 +8,10 @@ ghost use Rattle.std.specs.List.{list_any, AllByRecursion};
 ghost use Rattle.rq_model.specs.WellFormed.{Ordered};
 ghost use Rattle.rq_record.specs.declared.fault.Fault.TheVariants.{Resources};
 ghost use Rattle.rq_state.specs.Views.{unit_of};
-ghost use Rattle.rq_catalog.specs.declared.outcome.Outcome.TheVariants.{Open};
-ghost use Rattle.rq_catalog.specs.Outcomes.{is_open_in};
+ghost use Rattle.rq_catalog.specs.declared.units.Outcome.TheVariants.{Open};
+ghost use Rattle.rq_catalog.specs.Units.{is_open_in};
 ghost use Rattle.rq_catalog.specs.Units.{numbers, has_unit, unit_in, outcome_at, engages_at};
 
-use crate::outcome::Outcome;
 use rq_record::{Fault, UnitNo};
 use std::alloc::Global;
 use std::marker::Model;
@@ -21,6 +20,17 @@ use std::mem;
 // Most records name a unit that was begun lately. So the search looks among this many of the last
 // units if the unit can be there, and else among all.
 const RECENT: usize = 64;
+
+/// What became of a unit, with the place of the COMMIT or ABORT that ended it.
+#[derive(Clone, Copy, PartialEq, Eq, Debug)]
+pub enum Outcome {
+    /// What it did stands. The number is that of its COMMIT record.
+    Committed(u64),
+    /// What it did is undone. The number is that of its ABORT record.
+    Aborted(u64),
+    /// No record ended it.
+    Open,
+}
 
 /// A unit: its number, what became of it, and the queues that it engaged, while it is open.
 #[derive(Drop)]

@@ -1,12 +1,8 @@
-pub mod Readings
-pub mod Chains
 pub mod Fronts
 pub mod Starts
 pub mod FrontEnds
-pub mod Checkpoints
-pub mod Judgings
+pub mod Readings
 pub mod Passes
 pub mod Windows
 pub mod Pieces
-pub mod Headers
-pub mod FromCheckpoints
+pub mod Checkpoints

@@ -1,6 +1,6 @@
 -- A pass in windows: a frame that is right in a beginning of the log is right in the log.
-use Rattle.std.proofs.Common.{◌≡◌, ℕ, ◌+◌, ◌≤◌, Bool, true, false, List, [], ◌∷◌, ◌++◌, length, take, drop, refl}
-use Rattle.std.proofs.Common.{sym, ap, subst, ◌∙◌, append_assoc, arith}
+use Rattle.std.proofs.Common.{◌≡◌, ℕ, ◌+◌, ◌≤◌, Bool, true, false, List, [], ◌∷◌, ◌++◌, length, take, drop, refl, sym}
+use Rattle.std.proofs.Common.{ap, subst, ◌∙◌, append_assoc, arith}
 use Rattle.std.specs.Prelude.{All, slice_get, nat_lt}
 use Rattle.std.specs.List.{AllByRecursion}
 use Rattle.std.proofs.lemmas.Bool.{false≢true}
@@ -26,7 +26,7 @@ use Rattle.rq_record.specs.declared.fault.Fault.TheVariants as faults
 use Rattle.rq_front.specs.Chains.{IsHeaded, Refused, bodies_at, rest_of, spans_from}
 use Rattle.rq_catalog.specs.declared.judge.Judge.{Judge}
 use Rattle.rq_catalog.specs.Judges.{StandsIn}
-use Rattle.rq_judged.specs.Ends.{IsChain, IsFrontFrom, end_at, end_from}
+use Rattle.rq_judged.specs.FrontEnds.{IsChain, IsFrontFrom, end_at, end_from}
 use Rattle.rq_judged.specs.declared.front_pass.PassSoFar.{PassSoFar}
 use Rattle.rq_judged.specs.declared.front_pass.Reach.{Reach}
 use Rattle.rq_judged.specs.Passes.{AreJudged, HasPassed, IsPassed, HasPassedSome, StopsAt, StopsIn, stays}

@@ -1,10 +1,9 @@
--- A window that is looked at, made shorter, and added to.
-use Rattle.std.proofs.Common.{◌≡◌, ℕ, ◌+◌, ◌-◌, ◌<◌, ◌≤◌, List, [], ◌++◌, length, take, drop, refl, sym, ap, subst}
-use Rattle.std.proofs.Common.{◌∙◌, append_assoc, arith, Option, Some, None}
+-- A window that is looked at, made shorter, and added to; and a header that comes in parts.
+use Rattle.std.proofs.Common.{◌≡◌, ℕ, ◌+◌, ◌-◌, ◌<◌, ◌≤◌, List, [], ◌++◌, length, take, drop, refl, sym, ap, subst, ◌∙◌}
+use Rattle.std.proofs.Common.{append_assoc, arith, Option, Some, None}
 use Rattle.std.proofs.lemmas.List.{drop-append-le, drop_all, drop_at, drop-drop, length-append, length-drop}
-use Rattle.std.proofs.lemmas.List.{length-take}
-use Rattle.std.proofs.lemmas.List.{take-append-le, take_all, take_at}
-use Rattle.std.specs.Prelude.{Result, Ok, Err, IfErr}
+use Rattle.std.proofs.lemmas.List.{length-take, take-append-le, take_all, take_at, take-append-drop, take-take}
+use Rattle.std.specs.Prelude.{Result, Ok, Err, IfErr, IfOk}
 use Rattle.rq_model.specs.Records.{Record, Version}
 use Rattle.rq_model.specs.Frames as frames
 use Rattle.rq_model.specs.Frames.{HasHeader, IsFrameRun, IsRest, before, frames_of, header, last_of, log_limit, log_of}
@@ -15,20 +14,23 @@ use Rattle.rq_model.specs.Machine.{run}
 use Rattle.rq_model.specs.Fronts.{IsLongest, IsWhy, Why, Ends}
 use Rattle.rq_model.proofs.Restarts.{frames_many, header_long}
 use Rattle.rq_front.specs.declared.spans.Span.{Span}
-use Rattle.rq_front.specs.Chains.{IsHeaded, bodies_at, spans_from}
+use Rattle.rq_front.specs.Chains.{IsHeaded, bodies_at, spans_from, Refused}
 use Rattle.rq_catalog.specs.declared.judge.Judge.{Judge}
 use Rattle.rq_catalog.specs.Judges.{KeepsStanding, StandsIn}
 use Rattle.rq_judged.specs.Views.{why_of}
 use Rattle.rq_judged.specs.Passes.{stays}
-use Rattle.rq_judged.specs.declared.why.Why as declared
+use Rattle.rq_judged.specs.declared.ends.Why as declared
 use Rattle.rq_judged.specs.declared.window.WindowPass.{WindowPass}
 use Rattle.rq_judged.specs.declared.judged.JudgedFront.{JudgedFront}
-use Rattle.rq_judged.specs.JudgedFronts.{IsJudged}
+use Rattle.rq_judged.specs.JudgedFronts.{IsJudged, JudgesFront}
 use Rattle.rq_judged.specs.Windows.{AreFramed, IsFed, IsStopped, IsStoppedFront, IsLasting, Origin, StandsAt, HasEnd}
-use Rattle.rq_judged.specs.Windows.{Waits, log_origin}
+use Rattle.rq_judged.specs.Windows.{Waits, log_origin, RefusesPiece}
 use Rattle.rq_judged.proofs.Passes.{part_more, why_more}
 use Rattle.rq_judged.proofs.Starts.{started}
 use Rattle.rq_judged.proofs.Windows.{alike, none_left, same_place, waiting}
+use Rattle.rq_record.specs.declared.fault.Fault.{Fault}
+use Rattle.rq_record.specs.declared.fault.Fault.TheVariants as faults
+use Rattle.rq_judged.specs.GrowingFronts.{RefusesMore}
 
 -- the frames that a chain finds
 pub framed : (w : List ℕ) (place : ℕ) (spans : List Span) (end : ℕ) (rest : frames.Rest)
@@ -313,3 +315,38 @@ judged_log version stops b x front is h =
 pub anyway : {A E : Type 0} (P : Type 0) → P → (r : Result A E) → IfErr r (λ _. P)
 anyway P p (Ok x) = tt
 anyway P p (Err e) = p
+
+module _ (a b : List ℕ) (few : length a < 40) (many : 40 ≤ length a + length b) where
+  abbrev missing : ℕ
+  missing = 40 - length a
+
+  long : length (a ++ take missing b) ≡ 40
+  long = omega (arith, few, many, length-append a (take missing b), length-take missing b)
+
+  pub two_parts : a ++ b ≡ (a ++ take missing b) ++ drop missing b
+  two_parts = ap (λ (z : List ℕ). a ++ z) (sym (take-append-drop missing b))
+      ∙ sym (append_assoc a (take missing b) (drop missing b))
+
+  pub first_forty : a ++ take missing b ≡ take 40 (a ++ b)
+  first_forty = sym (ap (take 40) two_parts ∙ take_at (a ++ take missing b) (drop missing b) 40 long)
+
+-- the first 40 bytes are a header if all begin with it
+pub forty_again : (h z : List ℕ) → h ≡ take 40 z → take 40 h ≡ h
+forty_again h z is = ap (take 40) is ∙ take-take 40 40 z (omega arith) ∙ sym is
+
+-- fewer bytes are none
+pub too_few : (b : List ℕ) → length b < 40 → IsHeaded b → ⊥
+too_few b few (version, head) = omega (arith, few, ap length head, length-take 40 b, header_long version)
+
+-- why a piece is not taken is why the bytes with it are not
+pub refuses : (n : ℕ) (z : List ℕ) (e : Fault) → n ≡ length z → RefusesPiece n e → RefusesMore z e
+refuses n z faults.TooLong is refused = omega (arith, is, refused)
+refuses n z faults.Resources is refused = tt
+refuses n z _ is refused = absurd refused
+
+-- the front that is answered is that of the log
+pub judges : (version : Version) → FrontStops → (b x : List ℕ) → b ≡ header version ++ x
+    → (result : Result JudgedFront Fault) → IfOk result (λ front. IsStoppedFront (log_origin version) x front)
+    → IfErr result (λ e. e ≡ faults.Resources) → JudgesFront b result
+judges version stops b x is (Ok front) stopped refused = judged_log version stops b x front is stopped
+judges version stops b x is (Err e) stopped refused = subst (λ (f : Fault). Refused b f) (sym refused) tt

@@ -5,8 +5,8 @@ use Rattle.std.specs.Int.{w32, to_be_bytes}
 use Rattle.std.proofs.lemmas.List.{append-nil, take_at, drop_at, drop-drop, take-append-drop, length-append}
 use Rattle.std.proofs.lemmas.List.{length-drop, length-take}
 use Rattle.rq_model.specs.Records.{Record, Version}
-use Rattle.rq_model.specs.Frames.{log_limit, magic, start, header, HasHeader, before, digest, frame, frames}
-use Rattle.rq_model.specs.Frames.{IsFrameRun, last, last_of}
+use Rattle.rq_model.specs.Frames.{log_limit, magic, start, header, HasHeader, before, digest, frame, frames, IsFrameRun}
+use Rattle.rq_model.specs.Frames.{last, last_of}
 use Rattle.rq_model.specs.LogLaws.{LogEnds}
 use Rattle.rq_model.specs.States.{empty}
 use Rattle.rq_model.specs.Machine.{run}
@@ -15,7 +15,7 @@ use Rattle.rq_model.proofs.Runs.{last_at_end, length-sha256}
 use Rattle.std.specs.Prelude.{All}
 use Rattle.rq_front.specs.declared.spans.Chain.{Chain}
 use Rattle.rq_front.specs.Chains.{bodies_at, rest_of, spans_from}
-use Rattle.rq_judged.specs.Ends.{IsChain, IsFrontFrom}
+use Rattle.rq_judged.specs.FrontEnds.{IsChain, IsFrontFrom}
 
 -- the header has 40 bytes, and its last 32 are what the first frame is chained to
 pub record IsStarted (version : Version) (b : List ℕ) : Type 0 where

@@ -1,12 +1,12 @@
 -- A pass over a window goes from frame to frame.
-use Rattle.std.proofs.Common.{◌≡◌, ℕ, ◌+◌, ◌<◌, ◌≤◌, List, [], ◌∷◌, ◌++◌, length, drop, refl}
-use Rattle.std.proofs.Common.{sym, ap, subst, ◌∙◌, append_assoc, arith, get_or, Option, None}
+use Rattle.std.proofs.Common.{◌≡◌, ℕ, ◌+◌, ◌<◌, ◌≤◌, List, [], ◌∷◌, ◌++◌, length, drop, refl, sym, ap, subst, ◌∙◌}
+use Rattle.std.proofs.Common.{append_assoc, arith, get_or, Option, None}
 use Rattle.std.proofs.lemmas.List.{append-nil, drop_more, length-append, length-drop}
 use Rattle.rq_model.specs.Records.{Record}
 use Rattle.rq_model.specs.Spelling.{Spells, body_of}
 use Rattle.rq_model.specs.Frames as frames
-use Rattle.rq_model.specs.Frames.{HasRightFrame, IsBodyLength, IsRest, before, body_in, digest, frame}
-use Rattle.rq_model.specs.Frames.{frames_of, last, last_of}
+use Rattle.rq_model.specs.Frames.{HasRightFrame, IsBodyLength, IsRest, before, body_in, digest, frame, frames_of, last}
+use Rattle.rq_model.specs.Frames.{last_of}
 use Rattle.rq_model.specs.LogLaws.{FrameIsRight}
 use Rattle.rq_model.specs.Machine.{run}
 use Rattle.rq_model.specs.Fronts.{Form, Law}
@@ -18,11 +18,12 @@ use Rattle.rq_catalog.specs.Judges.{StandsIn}
 use Rattle.rq_catalog.proofs.Runs.{lawful_push, run_push}
 use Rattle.rq_judged.specs.declared.front_pass.Verdict.{Verdict}
 use Rattle.rq_judged.specs.declared.front_pass.Verdict.TheVariants.{Lawful, Unlawful, NoRecord}
-use Rattle.rq_judged.specs.declared.why.Why.{Why}
+use Rattle.rq_judged.specs.declared.ends.Why.{Why}
 use Rattle.rq_judged.specs.declared.window.WindowPass.{WindowPass}
 use Rattle.rq_judged.specs.Passes.{IsVerdict}
 use Rattle.rq_judged.specs.Windows.{AreFramed, Origin, StandsAt, HasEnd, Waits}
-use Rattle.rq_judged.proofs.Chains.{frame_long, next}
+use Rattle.rq_model.proofs.Runs.{frame_long}
+use Rattle.rq_judged.proofs.Fronts.{next}
 use Rattle.rq_judged.proofs.Readings.{each_push}
 use Rattle.rq_judged.proofs.Starts.{last_there}
 
@@ -74,7 +75,7 @@ module _ (right : FrameIsRight) (w : List ℕ) (place : ℕ) (span : Span) (span
     arith,
     ap length parts,
     length-append (frame p body) others,
-    frame_long right p body h.fit.0,
+    frame_long p body,
     length-drop place w,
     h.within,
   )
@@ -82,7 +83,7 @@ module _ (right : FrameIsRight) (w : List ℕ) (place : ℕ) (span : Span) (span
   linked : before there w ≡ digest p body
   linked = last_there w place there (body ∷ []) h.after h.within
       (parts ∙ ap (λ (z : List ℕ). frame p body ++ z) (sym after) ∙ sym (append_assoc (frame p body) [] (drop there w)))
-      (omega (arith, length-append (frame p body) [], frame_long right p body h.fit.0))
+      (omega (arith, length-append (frame p body) [], frame_long p body))
 
   place_is : there ≡ past span
   place_is = omega (arith, ap (λ (s : Span). s.start) first, ap (λ (s : Span). s.len) first)

@@ -7,7 +7,7 @@ use Rattle.rq_model.specs.Checkpoints.{IsCheckpointAt}
 use Rattle.rq_record.specs.declared.fault.Fault.{Fault}
 use Rattle.rq_record.specs.Views.{version_of}
 use Rattle.rq_judged.specs.declared.checkpoint.Begun.{Begun}
-use Rattle.rq_judged.specs.Ends.{IsChain}
+use Rattle.rq_judged.specs.FrontEnds.{IsChain}
 use Rattle.rq_judged.specs.Refusals.{RefusedAt}
 
 -- what stands behind the kind of a checkpoint's body

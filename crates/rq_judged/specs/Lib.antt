@@ -1,6 +1,5 @@
 pub mod Views
 pub mod Readings
-pub mod Ends
 pub mod FrontEnds
 pub mod JudgedFronts
 pub mod Checkpoints

@@ -1,9 +1,8 @@
 -- Why a front ends, among the words of the model.
 use Rattle.rq_model.specs.Fronts as fronts
 use Rattle.rq_model.specs.Frames as frames
-use Rattle.rq_judged.specs.declared.why.Why.{Why}
-use Rattle.rq_judged.specs.declared.why.Why.TheVariants.{Whole, Cut, Length, Chain, Form}
-use Rattle.rq_judged.specs.declared.why.Why.TheVariants.{Law}
+use Rattle.rq_judged.specs.declared.ends.Why.{Why}
+use Rattle.rq_judged.specs.declared.ends.Why.TheVariants.{Whole, Cut, Length, Chain, Form, Law}
 
 abbrev pub why_of : Why → fronts.Why
 why_of Whole = fronts.Ends frames.Whole

@@ -3,8 +3,8 @@ use Rattle.std.specs.Prelude.{◌≡◌, ◌≤◌, ◌<◌, ◌+◌, ℕ, true,
 use Rattle.std.specs.Prelude.{None, ⊤}
 use Rattle.rq_model.specs.Records.{Record, Version}
 use Rattle.rq_model.specs.Frames as frames
-use Rattle.rq_model.specs.Frames.{log_limit, HasHeader, before, last, last_of}
-use Rattle.rq_model.specs.Frames.{start, AreBodies, IsRest}
+use Rattle.rq_model.specs.Frames.{log_limit, HasHeader, before, last, last_of, start, AreBodies}
+use Rattle.rq_model.specs.Frames.{IsRest}
 use Rattle.rq_model.specs.States.{State, empty}
 use Rattle.rq_model.specs.Machine.{run}
 use Rattle.rq_model.specs.Fronts as fronts
@@ -17,7 +17,7 @@ use Rattle.rq_catalog.specs.Judges.{StandsIn}
 use Rattle.rq_judged.specs.Views.{why_of}
 use Rattle.rq_judged.specs.Passes.{stays}
 use Rattle.rq_judged.specs.declared.judged.JudgedFront.{JudgedFront}
-use Rattle.rq_judged.specs.declared.why.Why.{Why}
+use Rattle.rq_judged.specs.declared.ends.Why.{Why}
 use Rattle.rq_judged.specs.declared.window.WindowPass.{WindowPass}
 
 -- where a pass begins: the rules, the state, the 32 bytes before the first frame, and how many

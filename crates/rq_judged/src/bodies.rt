@@ -4,10 +4,9 @@ ghost use Rattle.std.specs.Prelude.{◌≡◌, ◌≤◌, ◌+◌, ℕ, List, le
 ghost use Rattle.std.specs.Arc.{arc_slice_items};
 ghost use Rattle.std.specs.Thread.{IsSync};
 ghost use Rattle.rq_model.specs.Records as model;
-ghost use Rattle.rq_record.specs.Reading.{Decodes};
 ghost use Rattle.rq_record.specs.Views.{record_of, version_of};
 ghost use Rattle.rq_record.specs.declared.fault.Fault.TheVariants.{Resources};
-ghost use Rattle.rq_front.specs.Chains.{bodies_at, body_at};
+ghost use Rattle.rq_front.specs.Chains.{bodies_at};
 ghost use Rattle.rq_judged.specs.Readings.{AreApart, AreRead, ReadsBodies};
 
 use rq_front::Span;
@@ -29,19 +28,6 @@ pub(crate) struct PartedRecords {
     count: usize,
 }
 
-// The record of the version that the body at a span spells.
-fn decode_there(
-    alloc: Global,
-    version: Version,
-    log: &LogBytes<'_>,
-    span: &Span,
-) -> Result<KeptRecord, Fault>
-    requires { span.now.start + span.now.len ≤ length log.now }
-    ensures decodes { Decodes (version_of version) (body_at log.now span.now) result }
-{
-    decode_at(alloc, version, log, span.start, span.len)
-}
-
 // The records of the version that the bodies spell, read by one thread, with room for as many as
 // are to stand with them.
 fn read_in_order(
@@ -58,7 +44,7 @@ fn read_in_order(
 {
     let mut records = Vec::with_capacity(alloc, room)?;
     for span in spans.iter() {
-        match decode_there(alloc, version, log, span) {
+        match decode_at(alloc, version, log, span.start, span.len) {
             Ok(record) => records.push(record)?,
             Err(Fault::Form) => return Ok(records),
             Err(fault) => return Err(fault),

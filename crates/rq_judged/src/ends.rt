@@ -1,4 +1,4 @@
-//! Where the front of a log ends, and which rule ends it.
+//! Where the front of a log ends, why, and which rule ends it.
 
 ghost use Rattle.std.specs.Prelude.{◌≡◌, ℕ, false, is_some, List, length, drop, IfOk, IfErr};
 ghost use Rattle.rq_model.specs.Records as records;
@@ -6,7 +6,6 @@ ghost use Rattle.rq_model.specs.Spelling.{Spells};
 ghost use Rattle.rq_model.specs.States as model;
 ghost use Rattle.rq_model.specs.Machine.{is_lawful};
 ghost use Rattle.rq_model.specs.Fronts.{IsWhy};
-ghost use Rattle.rq_record.specs.Views.{record_of};
 ghost use Rattle.rq_record.specs.declared.fault.Fault.TheVariants.{Resources};
 ghost use Rattle.rq_catalog.specs.Judges.{StandsIn};
 ghost use Rattle.rq_judged.specs.FrontEnds.{FindsEnd, FindsEndAt, is_law};
@@ -15,13 +14,29 @@ ghost use Rattle.rq_judged.specs.Views.{why_of};
 use crate::checkpoint::begin_at;
 use crate::frames::body_at;
 use crate::judged::{JudgedFront, judged_behind, judged_front};
-use crate::why::Why;
 use rq_catalog::{Judge, Rule};
 use rq_plan::Plan;
-use rq_record::{Fault, KeptRecord, decode_kept};
+use rq_record::{Fault, decode_kept};
 use std::alloc::Global;
 use std::marker::Sync;
 use std::thread::Threads;
+
+/// Why the front of a log ends: what stands behind it.
+#[derive(Clone, Copy, PartialEq, Eq, Debug)]
+pub enum Why {
+    /// Nothing.
+    Whole,
+    /// Fewer bytes than a length has, or than its frame has.
+    Cut,
+    /// A length that no body has.
+    Length,
+    /// A frame whose digest is wrong.
+    Chain,
+    /// A frame whose body no record spells.
+    Form,
+    /// A record that is not lawful there.
+    Law,
+}
 
 /// Where the front of a log ends, and why: numbers of its restart.
 #[derive(Clone, Copy, PartialEq, Eq, Debug)]
@@ -36,25 +51,17 @@ pub struct FrontEnd {
     pub why: Why,
 }
 
-// The rule that a record breaks, which is not lawful there.
-fn broken_rule(judge: &Judge, rec: &KeptRecord) -> Rule
-    requires { (version : records.Version) × (s : model.State) × StandsIn version judge.now s
-        × (is_lawful version s (record_of rec.now) ≡ false) }
-{
-    let Some(rule) = judge.broken(rec) else {
-        unreachable!()
-    };
-    rule
-}
-
-// The same of the record that a body spells.
+// The rule that the record breaks which a body spells, and which is not lawful there.
 fn rule_of(alloc: Global, judge: &Judge, body: &[u8]) -> Result<Rule, Fault>
     requires { (version : records.Version) × (s : model.State) × StandsIn version judge.now s
         × (r : records.Record) × Spells version r body.now × (is_lawful version s r ≡ false) }
     ensures { IfErr result (λ e. e ≡ Resources) }
 {
     match decode_kept(alloc, judge.version(), body) {
-        Ok(record) => Ok(broken_rule(judge, &record)),
+        Ok(record) => match judge.broken(&record) {
+            Some(rule) => Ok(rule),
+            None => unreachable!(),
+        },
         Err(Fault::Form) => unreachable!(),
         Err(fault) => Err(fault),
     }

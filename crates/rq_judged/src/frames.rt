@@ -1,4 +1,5 @@
-//! A frame of a log: its body, what it is linked to, and one more at the end.
+//! The frames of a log: the body of one, what it is linked to, one more at the end, and how workers
+//! share them.
 
 ghost use Rattle.std.specs.Prelude.{◌≡◌, ◌≤◌, length, drop, IfOk};
 ghost use Rattle.rq_model.specs.Frames.{HasFrame, IsBodyLength, before, body_in, digest, frame};
@@ -6,6 +7,7 @@ ghost use Rattle.rq_record.specs.Writing.{Appends};
 
 use byteorder::{BigEndian, ByteOrder};
 use rq_front::frame;
+use rq_plan::Plan;
 use rq_record::Fault;
 
 /// The body of the frame at an offset.
@@ -38,4 +40,16 @@ pub fn append_frame(prev: &[u8; 32], body: &[u8], out: &mut Vec<u8>) -> Result<[
 {
     frame(prev, body, out)?;
     Ok(before(out, out.len()))
+}
+
+/// How many frames a worker checks in one piece: those of the plan's grain, and all of them where
+/// it is alone, so that no thread is started.
+pub fn grain_of(plan: &Plan) -> u32
+    ensures { 1 ≤ result }
+{
+    if plan.workers() == 1 {
+        u32::MAX
+    } else {
+        plan.grain()
+    }
 }

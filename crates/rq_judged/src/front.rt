@@ -12,14 +12,13 @@ ghost use Rattle.rq_record.specs.declared.fault.Fault.TheVariants.{Resources};
 ghost use Rattle.rq_front.specs.Chains.{bodies_at, rest_of};
 ghost use Rattle.rq_front.specs.Walks.{IsChecked, Walks, spans_of};
 ghost use Rattle.rq_catalog.specs.Analyses.{IsAnalysis};
-ghost use Rattle.rq_judged.specs.Ends.{IsChain, IsFrontFrom, end_at};
-ghost use Rattle.rq_judged.specs.Readings.{AreRead, IsKnownOfBodies, KnowsBodies};
+ghost use Rattle.rq_judged.specs.FrontEnds.{IsChain, IsFrontFrom, end_at};
+ghost use Rattle.rq_judged.specs.Readings.{IsKnownOfBodies, KnowsBodies};
 ghost use Rattle.rq_judged.specs.Views.{why_of};
 
 use crate::bodies::{FEW, PartedRecords, put_together, read_bodies};
-use crate::checkpoint::Begun;
-use crate::grain::grain_of;
-use crate::why::Why;
+use crate::ends::Why;
+use crate::frames::grain_of;
 use rq_catalog::{Analysis, analyse_kept};
 use rq_front::{Chain, Rest, Walk};
 use rq_plan::Plan;
@@ -143,8 +142,9 @@ fn settled(found: &Chain, known: Known) -> Front
     }
 }
 
-// The front of the log of the version, in the frames of a chain, from a state on.
-fn front_in<R: Threads + Sync>(
+/// The front of the log of the version, in the frames of a chain, from a state on. Of shared bytes its
+/// checkpoints and long payloads are parts.
+pub fn front_of<R: Threads + Sync>(
     rt: &R,
     alloc: Global,
     version: Version,
@@ -169,47 +169,6 @@ fn front_in<R: Threads + Sync>(
     let parts = read_bodies(rt, alloc, version, bytes, &found.spans, workers)?;
     let known = known_of(alloc, version, parts, state)?;
     Ok(settled(found, known))
-}
-
-/// The front that begins there, in the frames of the chain. Of shared bytes its checkpoints and long
-/// payloads are parts.
-pub fn front_of<R: Threads + Sync>(
-    rt: &R,
-    alloc: Global,
-    bytes: &LogBytes<'_>,
-    begun: &Begun,
-    plan: &Plan,
-) -> Result<Front, Fault>
-    requires chain { (offset : ℕ) × IsChain bytes.now offset begun.now.found }
-    requires next { begun.now.state.next ≤ 4294967295 }
-    ensures front { IfOk result (λ f. (offset : ℕ) → IsChain bytes.now offset begun.now.found
-        → IsFrontFrom (version_of begun.now.version) begun.now.state bytes.now offset
-        (map record_of f.records.items) f.end (why_of f.why)) }
-    ensures bodies { IfOk result
-        (λ f. (left : List (List ℕ)) × (bodies_at bytes.now begun.now.found.spans.items
-        ≡ bodies_of (map record_of f.records.items) ++ left)) }
-    ensures analysis { IfOk result (λ f. IsAnalysis (version_of begun.now.version) begun.now.state
-        (map record_of f.records.items) f.analysis) }
-    ensures refused { IfErr result (λ e. e ≡ Resources) }
-{
-    front_in(
-        rt,
-        alloc,
-        begun.version,
-        bytes,
-        &begun.found,
-        &begun.state,
-        plan,
-    )
-}
-
-// Checks the digests of a walk.
-fn checked<R: Threads + Sync>(rt: &R, bytes: &LogBytes<'_>, walk: Walk, grain: u32) -> Chain
-    requires walk { (from : ℕ) × Walks bytes.now from walk }
-    requires grain { 1 ≤ grain }
-    ensures { (from : ℕ) → Walks bytes.now from walk → IsChecked bytes.now from walk result }
-{
-    walk.checked(rt, bytes.as_slice(), grain)
 }
 
 // Checks the digests of a walk, while another thread puts the records of its bodies together and
@@ -274,8 +233,8 @@ pub fn front_of_walk<R: Threads + Sync>(
 {
     let grain = grain_of(plan);
     if plan.workers() < 2 || walk.spans().len() <= FEW {
-        let found = checked(rt, bytes, walk, grain);
-        return front_in(rt, alloc, version, bytes, &found, state, plan);
+        let found = walk.checked(rt, bytes.as_slice(), grain);
+        return front_of(rt, alloc, version, bytes, &found, state, plan);
     }
     let workers = plan.workers();
     let parts = read_bodies(rt, alloc, version, bytes, walk.spans(), workers)?;

@@ -1,21 +1,20 @@
 //! A pass over a log that keeps none of its records.
 
-ghost use Rattle.std.specs.Prelude.{◌≡◌, ◌≤◌, ◌+◌, ℕ, List, length, take, All, IfOk, IfErr};
+ghost use Rattle.std.specs.Prelude.{◌≡◌, ◌≤◌, ◌+◌, length, All, IfOk, IfErr};
 ghost use Rattle.rq_model.specs.Records as records;
-ghost use Rattle.rq_model.specs.Frames.{HasHeader, log_limit};
+ghost use Rattle.rq_model.specs.Frames.{log_limit};
 ghost use Rattle.rq_model.specs.States as model;
-ghost use Rattle.rq_record.specs.Views.{version_of};
 ghost use Rattle.rq_record.specs.declared.fault.Fault.TheVariants.{Resources};
 ghost use Rattle.rq_front.specs.Chains.{bodies_at};
 ghost use Rattle.rq_catalog.specs.Judges.{KeepsStanding, StandsIn};
 ghost use Rattle.rq_judged.specs.Views.{why_of};
 ghost use Rattle.rq_judged.specs.Passes.{AreJudged, HasPassedSome, IsVerdict, StopsIn, stays};
 
+use crate::ends::Why;
 use crate::front::end_of;
-use crate::why::Why;
 use rq_catalog::Judge;
-use rq_front::{HEADER_LEN, Span, chain};
-use rq_record::{Fault, Version, decode_kept};
+use rq_front::{Span, chain};
+use rq_record::{Fault, decode_kept};
 use std::alloc::Global;
 use std::marker::Sync;
 use std::thread::Threads;
@@ -113,28 +112,7 @@ pub(crate) fn stays(why: Why) -> bool
     !matches!(why, Why::Whole | Why::Cut)
 }
 
-// The first bytes of a log.
-fn first(bytes: &[u8], limit: usize) -> &[u8]
-    requires { limit ≤ length bytes.now }
-    ensures { result.now ≡ take limit bytes.now }
-{
-    &bytes[..limit]
-}
-
 impl PassSoFar {
-    /// A pass over a log of this version that stands behind its header.
-    pub(crate) fn new(alloc: Global, version: Version) -> PassSoFar
-        ensures { (b : List ℕ) → HasHeader (version_of version) b
-            → HasPassedSome (version_of version) b result }
-    {
-        rq_model::frames_join();
-        PassSoFar {
-            judge: Judge::new(alloc, version),
-            records: 0,
-            offset: HEADER_LEN,
-        }
-    }
-
     // Goes on as far as lawful records go in the first bytes of the log, and says why they end.
     fn go_on<R: Threads + Sync>(
         &mut self,
@@ -158,7 +136,7 @@ impl PassSoFar {
         rq_model::frames_are_right();
         rq_model::frames_join();
         rq_model::one_front();
-        let part = first(bytes, limit);
+        let part = &bytes[..limit];
         let found = chain(rt, alloc, part, self.offset, grain)?;
         let reach = judge_each(alloc, &mut self.judge, part, &found.spans)?;
         let (end, why) = end_of(&found, reach.read, reach.lawful);

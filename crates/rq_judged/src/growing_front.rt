@@ -1,13 +1,13 @@
 //! The front of a log that is read piece by piece.
 
-ghost use Rattle.std.specs.Prelude.{◌≡◌, ◌≤◌, ◌<◌, ◌+◌, ◌++◌, ℕ, List, [], length, take, drop, IfOk};
+ghost use Rattle.std.specs.Prelude.{◌≡◌, ◌≤◌, ◌<◌, ◌+◌, ◌++◌, ℕ, List, [], length, take, IfOk};
 ghost use Rattle.std.specs.Prelude.{IfErr, OnOk};
 ghost use Rattle.rq_record.specs.declared.fault.Fault.TheVariants.{Resources};
 ghost use Rattle.rq_judged.specs.GrowingFronts.{GoesAlong, IsStageOf, RefusesMore};
 ghost use Rattle.rq_judged.specs.JudgedFronts.{JudgesFront};
 ghost use Rattle.rq_judged.specs.declared.growing_front.Stage.TheVariants.{Frames};
 
-use crate::grain::grain_of;
+use crate::frames::grain_of;
 use crate::judged::JudgedFront;
 use crate::window::{WindowPass, stopped};
 use rq_front::{HEADER_LEN, version};
@@ -48,14 +48,6 @@ fn header_in(alloc: Global, first: &[u8], more: &[u8]) -> Result<Vec<u8>, Fault>
     Ok(header)
 }
 
-// What follows so many bytes.
-fn behind(more: &[u8], count: usize) -> &[u8]
-    requires { count ≤ length more.now }
-    ensures { result.now ≡ drop count more.now }
-{
-    &more[count..]
-}
-
 // A pass behind the header that two parts of a log begin with.
 fn begun<R: Threads + Sync>(
     rt: &R,
@@ -75,7 +67,7 @@ fn begun<R: Threads + Sync>(
         return Err(Fault::NotALog);
     };
     let mut pass = WindowPass::new(alloc, version, header);
-    pass.feed(rt, alloc, behind(more, HEADER_LEN - first.len()), grain)?;
+    pass.feed(rt, alloc, more.split_at(HEADER_LEN - first.len()).1, grain)?;
     Ok(pass)
 }
 

@@ -6,13 +6,12 @@ ghost use Rattle.rq_judged.specs.Checkpoints.{IsBegun};
 ghost use Rattle.rq_judged.specs.JudgedFronts.{IsJudgedBehind, JudgesFront, JudgesFrontAt};
 
 use crate::checkpoint::{Begun, begin_at};
-use crate::frames::before;
+use crate::ends::Why;
+use crate::frames::{before, grain_of};
 use crate::front::end_of;
 use crate::front_pass::{PassSoFar, judge_each};
-use crate::grain::grain_of;
-use crate::why::Why;
 use rq_catalog::Judge;
-use rq_front::log_version;
+use rq_front::{HEADER_LEN, log_version};
 use rq_plan::Plan;
 use rq_record::Fault;
 use std::alloc::Global;
@@ -49,7 +48,11 @@ pub fn judged_front<R: Threads + Sync>(
     rq_model::frames_join();
     rq_model::one_front();
     let version = log_version(bytes)?;
-    let mut pass = PassSoFar::new(alloc, version);
+    let mut pass = PassSoFar {
+        judge: Judge::new(alloc, version),
+        records: 0,
+        offset: HEADER_LEN,
+    };
     let why = pass.finish(rt, alloc, bytes, grain_of(plan))?;
     let PassSoFar {
         judge,

@@ -8,15 +8,15 @@ ghost use Rattle.rq_model.specs.Fronts.{Ends};
 ghost use Rattle.rq_record.specs.Views.{version_of};
 ghost use Rattle.rq_record.specs.declared.fault.Fault.TheVariants.{Resources};
 ghost use Rattle.rq_judged.specs.Views.{why_of};
-ghost use Rattle.rq_judged.specs.Windows.{AreFramed, IsFed, IsFedSome, IsStopped, IsLasting};
+ghost use Rattle.rq_judged.specs.Windows.{AreFramed, IsFed, IsFedSome, IsStopped};
 ghost use Rattle.rq_judged.specs.Windows.{IsStoppedFront, KeepsFed, Origin, RefusesPiece, HasEnd};
 ghost use Rattle.rq_judged.specs.Windows.{log_origin};
 
+use crate::ends::Why;
 use crate::frames::before;
 use crate::front::why_of;
 use crate::front_pass::{Verdict, judge_one, stays};
 use crate::judged::JudgedFront;
-use crate::why::Why;
 use rq_catalog::Judge;
 use rq_front::{HEADER_LEN, LOG_LIMIT, Span, chain};
 use rq_record::{Fault, Version};
@@ -40,13 +40,6 @@ pub(crate) struct WindowPass {
     place: usize,
     enough: usize,
     ended: Option<Why>,
-}
-
-// The reason, if no further bytes take it away.
-fn lasting(why: Why) -> Option<Why>
-    ensures { IsLasting (why_of why) result }
-{
-    if stays(why) { Some(why) } else { None }
 }
 
 impl WindowPass {
@@ -121,24 +114,12 @@ impl WindowPass {
         let why = self.judge_frames(alloc, &found.spans, why_of(found.rest))?;
         self.used = self.total - (self.window.len() - self.place);
         self.enough = (self.total - self.used).saturating_add(WAITING);
-        self.ended = lasting(why);
+        self.ended = stays(why).then_some(why);
         Ok(why)
     }
 
-    // Lets go of the frames that were passed: behind the header stand the 32 bytes before the next
-    // frame again.
-    fn let_go(&mut self)
-        requires follows { IsFedSome self.old }
-        ensures { KeepsFed self.old self.new }
-    {
-        if self.place <= HEADER_LEN + 32 {
-            return;
-        }
-        self.window.drain(HEADER_LEN..self.place - 32);
-        self.place = HEADER_LEN + 32;
-    }
-
-    // Looks at what waits, if enough came.
+    // Looks at what waits, if enough came, and lets go of the frames that were passed: behind the
+    // header stand the 32 bytes before the next frame again.
     fn make_room<R: Threads + Sync>(
         &mut self,
         rt: &R,
@@ -154,7 +135,11 @@ impl WindowPass {
             return Ok(());
         }
         self.look(rt, alloc, grain)?;
-        self.let_go();
+        if self.place <= HEADER_LEN + 32 {
+            return Ok(());
+        }
+        self.window.drain(HEADER_LEN..self.place - 32);
+        self.place = HEADER_LEN + 32;
         Ok(())
     }
 

@@ -3,6 +3,4 @@ pub mod Views
 pub mod Steps
 pub mod Joins
 pub mod Gathers
-pub mod Histories
-pub mod Closes
 pub mod Endings

@@ -1,14 +1,15 @@
 -- A seat that has taken nothing, and the lists that a room is made of.
-use Rattle.std.proofs.Common.{All, drop, reverse, zero, ◌≡◌, ℕ, suc, ◌+◌, ◌<◌, ◌≤◌, List, [], ◌∷◌, ◌++◌, Vec, length}
-use Rattle.std.proofs.Common.{get_or, take, map, replicate, sum_by, Some, slice_get, vec_items, vec_len, sym, refl, ap}
+use Rattle.std.proofs.Common.{All, drop, reverse, ◌≡◌, ℕ, suc, ◌+◌, ◌<◌, List, [], ◌∷◌, ◌++◌, Vec, length}
+use Rattle.std.proofs.Common.{get_or, take, map, replicate, sum_by, Some, slice_get, vec_items, vec_len, sym, ap}
 use Rattle.std.proofs.Common.{◌∙◌, arith}
 use Rattle.rq_pool.proofs.Words.{Global, length-map, length-replicate, with_items_is, take_more}
-use Rattle.rq_pool.proofs.Words.{replicate-append-replicate, map-append, reverse-append, nil_from_length, get_or-map}
-use Rattle.rq_pool.proofs.Words.{sum_by-cons, Share, Worker, DealRule, Deck, size, parts_of, DeckId, list_in, deck_id}
+use Rattle.rq_pool.proofs.Words.{map-append, reverse-append, nil_from_length, get_or-map}
+use Rattle.rq_pool.proofs.Words.{Share, Worker, DealRule, Deck, parts_of, DeckId, list_in, deck_id}
 use Rattle.rq_pool.proofs.Words.{deck_list, owner_id, IsStocked, IsOpen, filled, owner_count, Holds}
-use Rattle.rq_pool.proofs.Words.{reach_at, IsPlaceBeside, map-map}
+use Rattle.rq_pool.proofs.Words.{reach_at, IsPlaceBeside}
 use Rattle.std.specs.Vec.{with_items}
 use Rattle.std.proofs.lemmas.List.Folds.{sum_by-replicate}
+use Rattle.std.proofs.lemmas.List.Sums.{sum_by-le}
 use Rattle.std.proofs.lemmas.Option.{slice_get_within, get_or_from_slice_get}
 use Rattle.rq_pool.specs.declared.seat.Place.{Place}
 use Rattle.rq_pool.specs.declared.seat.Place.TheVariants.{Alone, Beside}
@@ -38,25 +39,12 @@ pub one_more_source : (ids done : List DeckId) (j : ℕ) (x : DeckId) → j < le
 one_more_source ids done j x inside e is =
     ap (λ l. l ++ x ∷ []) e ∙ ap (λ y. take j ids ++ y ∷ []) is ∙ sym (take_more ids j x inside)
 
-pub one_more_empty : (n : ℕ) (xss : List (List ℕ)) (xs : List ℕ) → xss ≡ replicate n [] → xs ≡ []
-    → xss ++ xs ∷ [] ≡ replicate (n + 1) []
-one_more_empty n xss xs e none = ap (λ l. l ++ xs ∷ []) e ∙ ap (λ x. replicate n [] ++ x ∷ []) none
-    ∙ replicate-append-replicate n 1 []
-
 -- the next owner is that of the next deque
 pub next_owner : (ids : List DeckId) (k : ℕ) (rest : List (Worker ℕ Global Share DealRule))
     (owner : Worker ℕ Global Share DealRule) → drop k ids ≡ reverse (map owner_id (rest ++ owner ∷ []))
     → (slice_get ids k ≡ Some (owner_id owner)) × (drop (suc k) ids ≡ reverse (map owner_id rest))
 next_owner ids k rest owner e = first_of_drop ids k (owner_id owner) (reverse (map owner_id rest))
     (e ∙ ap reverse (map-append owner_id rest (owner ∷ [])) ∙ reverse-append (map owner_id rest) (owner_id owner ∷ []))
-
--- each of the lists is no longer than all together
-pub each_short : (lists : List (Vec ℕ Global)) (n : ℕ) → size (map vec_items lists) ≤ n → (k : ℕ) (d : Vec ℕ Global)
-    → k < length lists → length (get_or lists k d).items ≤ n
-each_short [] n all k d lt = absurd (omega arith)
-each_short (v ∷ vs) n all zero d lt = omega (arith, sum_by-cons length v.items (map vec_items vs))
-each_short (v ∷ vs) n all (suc k) d lt =
-    each_short vs n (omega (arith, sum_by-cons length v.items (map vec_items vs))) k d (omega arith)
 
 -- a deck whose passes are all dealt is ready to take them back
 pub opened : (n : ℕ) (deck : Deck) → IsStocked n 0 deck → IsOpen n 0 deck
@@ -70,15 +58,10 @@ opened n deck s = let bare : deck.passes.items ≡ [] =
     }
 
 pub none_filled : (n : ℕ) (decks : List Deck) → All (IsStocked n 0) decks → sum_by filled decks ≡ 0
-none_filled n [] all = refl
-none_filled n (d ∷ ds) all = let none = ap owner_count (all 0 d (omega arith)).owner in
-    omega (arith, sum_by-cons filled d ds, none_filled n ds (λ k e lt. all (suc k) e (omega arith)))
+none_filled n decks all = let most =
+    sum_by-le filled 0 decks (λ k d near. omega (arith, ap owner_count (all k d near).owner)) in omega arith
 
--- the lists of the deques are those that were dealt
-pub same_lists : (decks : List Deck) → map list_in (map deck_id decks) ≡ map deck_list decks
-same_lists decks = map-map list_in deck_id decks
-
--- there are as many of them as lists
+-- there are as many decks as lists
 pub as_many : (decks : List Deck) (lists : Vec (Vec ℕ Global) Global) → map deck_list decks ≡ map vec_items lists.items
     → length decks ≡ vec_len lists
 as_many decks lists e = sym (length-map decks deck_list) ∙ ap length e ∙ length-map lists.items vec_items

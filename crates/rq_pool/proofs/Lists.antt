@@ -1,8 +1,9 @@
 -- Facts of lists that std does not have.
-use Rattle.std.proofs.Common.{◌≡◌, ℕ, zero, suc, ◌-◌, List, [], ◌∷◌, ◌++◌, get_or, drop, map, reverse, replicate}
-use Rattle.std.proofs.Common.{sum, sum_by, Some, slice_get, sym, refl, ap, ◌∙◌, append_assoc}
-use Rattle.rq_pool.proofs.Words.{map-append, reverse-append, sum-map, map-map, map-set_same}
-use Rattle.std.proofs.lemmas.List.Sorted.{sum_by-IsPermutation, IsPermutation-reverse}
+use Rattle.std.proofs.Common.{◌≡◌, ◌≢◌, ◌<◌, ℕ, zero, suc, List, [], ◌∷◌, ◌++◌, length, get_or, drop, map, reverse}
+use Rattle.std.proofs.Common.{replicate, sum, sum_by, set, Some, slice_get, sym, refl, ap, ◌∙◌, get_or-set_other}
+use Rattle.std.proofs.lemmas.Grind.{get_or-set_at}
+use Rattle.rq_pool.proofs.Words.{map-append, reverse-append, sum-map, map-map}
+use Rattle.rq_pool.proofs.Words.{map-set_same, dite, ℕ_discrete}
 
 -- for the tactics: what a list shows after a write that shows the same
 pub ruleset same_after = (map-set_same)
@@ -12,21 +13,12 @@ map-reverse f [] = refl
 map-reverse f (x ∷ xs) = ap (map f) (reverse-append (x ∷ []) xs) ∙ map-append f (reverse xs) (x ∷ [])
     ∙ ap (λ l. l ++ f x ∷ []) (map-reverse f xs) ∙ sym (reverse-append (f x ∷ []) (map f xs))
 
-pub sum_by-reverse : {A : Type 0} (h : A → ℕ) (xs : List A) → sum_by h (reverse xs) ≡ sum_by h xs
-sum_by-reverse h xs = sum_by-IsPermutation h xs (reverse xs) (IsPermutation-reverse xs)
-
 pub sum_by-map : {A B : Type 0} (f : B → ℕ) (g : A → B) (xs : List A) → sum_by f (map g xs) ≡ sum_by (λ x. f (g x)) xs
 sum_by-map f g xs = sym (sum-map f (map g xs)) ∙ ap sum (map-map f g xs) ∙ sum-map (λ x. f (g x)) xs
 
 -- the sums of lists whose values under f are the same
 pub sum_by_same : {A : Type 0} (f : A → ℕ) (xs ys : List A) → map f xs ≡ map f ys → sum_by f xs ≡ sum_by f ys
 sum_by_same f xs ys e = sym (sum-map f xs) ∙ ap sum e ∙ sum-map f ys
-
--- an element added at the end of a list comes first when the list is reversed
-pub one_more_behind : {A : Type 0} (before : List A) (x : A) (after : List A)
-    → (before ++ x ∷ []) ++ reverse after ≡ before ++ reverse (after ++ x ∷ [])
-one_more_behind before x after = append_assoc before (x ∷ []) (reverse after)
-    ∙ ap (λ l. before ++ l) (sym (reverse-append after (x ∷ [])))
 
 pub nothing_at : {A : Type 0} (n j : ℕ) → get_or (replicate {A = List A} n []) j [] ≡ []
 nothing_at zero j = refl
@@ -40,3 +32,10 @@ first_of_drop [] zero y ys e = absurd (cc)
 first_of_drop [] (suc k) y ys e = absurd (cc)
 first_of_drop (x ∷ xs) zero y ys e = let head : x ≡ y = cc in let tail : xs ≡ ys = cc in (ap Some head, tail)
 first_of_drop (x ∷ xs) (suc k) y ys e = first_of_drop xs k y ys e
+
+-- the element at k, once there is a new one at j
+pub set_either : {A : Type 0} (P : A → Type 0) (xs : List A) (j k : ℕ) (new d : A) → j < length xs
+    → (k ≡ j → P new) → (k ≢ j → P (get_or xs k d)) → P (get_or (set xs j new) k d)
+set_either P xs j k new d inside mine others = dite (ℕ_discrete k j)
+    (λ same. rw (get_or-set_at xs j k new d same inside) (mine same))
+    (λ other. rw (get_or-set_other xs j k new d other) (others other))

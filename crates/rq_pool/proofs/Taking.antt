@@ -1,8 +1,9 @@
 -- What a take changes of what a seat has.
-use Rattle.std.proofs.Common.{◌≡◌, ◌≢◌, ℕ, suc, ◌<◌, ◌≤◌, List, [], ◌∷◌, ◌++◌, length, get_or, set, sum_by, cond}
-use Rattle.std.proofs.Common.{◌==◌, eq-eqb, sym, refl, ap, ◌∙◌, subst, arith, length-set, get_or-set_other}
-use Rattle.rq_pool.proofs.Words.{sum_by-cons, sum_by-append, sum_by_push, sum_by-set, Share, times_in, size, Taken, Holds}
-use Rattle.rq_pool.proofs.Laying.{set_either}
+use Rattle.std.proofs.Common.{◌≡◌, ◌≢◌, ℕ, suc, ◌<◌, ◌≤◌, List, [], ◌∷◌, ◌++◌, length, get_or, set, sum_by, cond, ◌==◌}
+use Rattle.std.proofs.Common.{eq-eqb, sym, refl, ap, ◌∙◌, subst, arith, length-set, get_or-set_other}
+use Rattle.rq_pool.proofs.Words.{sum_by-cons, sum_by-append, sum_by_push, sum_by-set, Share, times_in, size, Taken}
+use Rattle.rq_pool.proofs.Words.{Holds}
+use Rattle.rq_pool.proofs.Lists.{set_either}
 use Rattle.rq_pool.proofs.Rules.{length_sum}
 
 module _ (lists : List (List ℕ)) (number : ℕ) where
@@ -48,7 +49,8 @@ spread : (h : ℕ → ℕ) (ss ls : List (List ℕ)) → length ss ≡ length ls
     → ((j : ℕ) → sum_by h (get_or ss j []) ≤ sum_by h (get_or ls j [])) → sum_by (sum_by h) ss ≤ sum_by (sum_by h) ls
 spread h [] ls e least = omega arith
 spread h (s ∷ ss) [] e least = absurd (omega arith)
-spread h (s ∷ ss) (l ∷ ls) e least = let here = least 0 in let more = spread h ss ls (omega arith) (λ j. least (suc j)) in
+spread h (s ∷ ss) (l ∷ ls) e least = let here = least 0 in let more =
+    spread h ss ls (omega arith) (λ j. least (suc j)) in
     omega (arith, sum_by-cons (sum_by h) s ss, sum_by-cons (sum_by h) l ls)
 
 -- a seat has taken nothing more often than it was dealt

@@ -5,7 +5,5 @@
 pub mod History
 pub mod Arrivals
 pub mod Words
-pub mod Closings
 pub mod Phases
 pub mod Rule
-pub mod Views

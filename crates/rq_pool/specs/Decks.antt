@@ -3,13 +3,12 @@ use Rattle.std.specs.Prelude.{◌≡◌, ℕ, ◌+◌, ◌<◌, ◌≤◌, List,
 use Rattle.std.specs.Prelude.{vec_capacity, Option, Some, None}
 use Rattle.std.specs.Global.{Global}
 use Rattle.crossbeam_deque.specs.declared.handles.Worker.{Worker}
-use Rattle.crossbeam_deque.specs.Handles.{Pass, view, IsPassOf, worker_deque, worker_flavor}
+use Rattle.crossbeam_deque.specs.Handles.{view, IsPassOf, worker_deque, worker_flavor}
 use Rattle.crossbeam_deque.specs.Handles.{worker_view, stealer_deque}
 use Rattle.rq_pool.specs.declared.deque.Share.{Share}
 use Rattle.rq_pool.specs.declared.deque.DealRule.{DealRule}
 use Rattle.rq_pool.specs.declared.deck.Deck.{Deck}
-use Rattle.rq_pool.specs.Shares.{share}
-use Rattle.rq_pool.specs.Passes.{parts_of, weight_of}
+use Rattle.rq_pool.specs.Passes.{share, parts_of, weight_of}
 
 -- which deque, and the list that was dealt to it
 abbrev pub DeckId : Type 0
@@ -27,14 +26,10 @@ owner_id owner = (worker_deque owner, (worker_view owner).dealt)
 abbrev pub list_in : DeckId → List ℕ
 list_in id = id.1
 
--- the pass has one part, and took nothing yet
-abbrev pub IsFresh : Deck → Pass ℕ Share Global → Type 0
-IsFresh deck pass = IsPassOf (stealer_deque deck.thief) pass
-    × (view pass ≡ share 1 deck.list.items [])
-
--- of n seats, m are still to get their pass
+-- of n seats, m are still to get their pass, which has one part and took nothing yet
 pub record IsStocked (n m : ℕ) (deck : Deck) : Type 0 where
-  pub passes : All (IsFresh deck) deck.passes.items
+  pub passes : All (λ pass. IsPassOf (stealer_deque deck.thief) pass
+      × (view pass ≡ share 1 deck.list.items [])) deck.passes.items
   pub count : vec_len deck.passes ≡ m
   pub reserved : n ≤ vec_capacity deck.passes
   pub owner : deck.owner ≡ None

@@ -1,6 +1,17 @@
 -- What a seat has: a view of its own deque, and what it stole from each deque.
 use Rattle.std.specs.Prelude.{◌≡◌, ℕ, ◌+◌, ◌<◌, ◌≤◌, List, [], length, sum_by, slice_index_or}
+use Rattle.crossbeam_deque.specs.Handles.{view, stealer_deque}
 use Rattle.rq_pool.specs.declared.deque.Share.{Share}
+use Rattle.rq_pool.specs.declared.deque_seat.Source.{Source}
+use Rattle.rq_pool.specs.Decks.{DeckId}
+
+-- the deque of a source, and the list that was dealt to it
+abbrev pub source_id : Source → DeckId
+source_id source = (stealer_deque source.thief, (view source.pass).dealt)
+
+-- what the seat stole from the source
+abbrev pub stolen : Source → List ℕ
+stolen source = (view source.pass).taken
 
 -- the view of the deque of the seat's number, what it stole from each but its own, and the list of
 -- all that it took; nothing was taken more often than it was dealt, however the numbers are weighed

@@ -1,10 +1,8 @@
 pub mod Ledger
-pub mod Shares
-pub mod Rules
-pub mod Holdings
 pub mod Passes
+pub mod Rules
 pub mod Decks
-pub mod Sources
+pub mod Holdings
 pub mod Vaults
 pub mod Rooms
 pub mod Countdowns

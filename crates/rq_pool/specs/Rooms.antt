@@ -11,11 +11,10 @@ use Rattle.rq_pool.specs.declared.room.Body.TheVariants.{Single, Several}
 use Rattle.rq_pool.specs.declared.seat.Seat.{Seat}
 use Rattle.rq_pool.specs.declared.seat.Place.{Place}
 use Rattle.rq_pool.specs.declared.seat.Place.TheVariants.{Alone, Beside}
-use Rattle.rq_pool.specs.declared.left.Left.{Left}
+use Rattle.rq_pool.specs.declared.room.Left.{Left}
 use Rattle.rq_pool.specs.Ledger.{size}
 use Rattle.rq_pool.specs.Decks.{DeckId, list_in}
-use Rattle.rq_pool.specs.Sources.{source_id, stolen}
-use Rattle.rq_pool.specs.Holdings.{Holds}
+use Rattle.rq_pool.specs.Holdings.{Holds, source_id, stolen}
 use Rattle.rq_pool.specs.Vaults.{reach}
 
 -- the deques of the room, named by the seat that its vault was told of

@@ -3,7 +3,7 @@ use Rattle.std.specs.Prelude.{◌≡◌, ℕ, ◌+◌, ◌<◌, ◌≤◌, List,
 use mathlib.Core.Option.{some}
 use lib.ListN.{get_elem?}
 use Rattle.rq_pool.specs.declared.deque.Share.{Share}
-use Rattle.rq_pool.specs.Shares.{share}
+use Rattle.rq_pool.specs.Passes.{share}
 
 -- a pass with no part has taken nothing, and one with a part knows what was dealt
 abbrev pub FitsDeal : List ℕ → Share → Type 0

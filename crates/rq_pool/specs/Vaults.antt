@@ -8,7 +8,7 @@ use Rattle.rq_pool.specs.declared.seat.Seat.{Seat}
 use Rattle.rq_pool.specs.declared.seat.Place.{Place}
 use Rattle.rq_pool.specs.declared.seat.Place.TheVariants.{Alone, Beside}
 use Rattle.rq_pool.specs.Decks.{DeckId, deck_id, IsOpen, filled}
-use Rattle.rq_pool.specs.Sources.{source_id}
+use Rattle.rq_pool.specs.Holdings.{source_id}
 
 -- the deques that a seat takes from, alone or beside others
 abbrev pub reach_at : Place → List DeckId

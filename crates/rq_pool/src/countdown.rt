@@ -15,7 +15,6 @@ mod joined;
 mod pass;
 mod plays;
 mod steps;
-mod view;
 
 use arrival::noted;
 pub use arrival::{Arrival, Entry};
@@ -29,12 +28,11 @@ use gather::collect_outboxes;
 use home::{discard, empty};
 use joined::{find_last, join_all};
 pub use pass::Pass;
-use plays::Counts;
+use plays::{Counts, Terms, View};
 use rq_record::Fault;
 use std::alloc::Global;
 use std::snapshot::Snapshot;
 use steps::{claim, hand_in};
-use view::{Terms, View};
 
 /// It has a flag and a slot for each source, and the number of sources that were not counted. It
 /// may be lent to threads, and each of its passes moved to one.
@@ -126,7 +124,7 @@ impl<T: Fits> Countdown<T> {
 impl<T: Fits> Countdown<T> {
     ghost use Rattle.rq_pool.specs.Countdowns.Words.{IsPassOf, sources_of, passes_of, history_of};
     ghost use Rattle.rq_pool.specs.Countdowns.Words.{history_in, TellsLast};
-    ghost use Rattle.rq_pool.specs.Countdowns.Closings.{arrived_of, last_in, home_of, histories_of};
+    ghost use Rattle.rq_pool.specs.Countdowns.Words.{arrived_of, last_in, home_of, histories_of};
     ghost use Rattle.rq_pool.specs.Countdowns.Arrivals.{Settled};
 
     /// What the arrivals came to, with the arrivals of each pass in the order in which the passes

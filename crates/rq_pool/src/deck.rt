@@ -3,11 +3,11 @@
 ghost use Rattle.std.specs.Prelude.{◌≡◌, ℕ, ◌≤◌, ◌<◌, ◌+◌, ◌^◌, [], ◌∷◌, ◌++◌, length, All, IfOk};
 ghost use Rattle.std.specs.Prelude.{map, sum_by, Some, None, slice_index_or, vec_len, vec_capacity};
 ghost use Rattle.crossbeam_deque.specs.Handles.{worker_deque, worker_flavor, worker_view};
-ghost use Rattle.crossbeam_deque.specs.Handles.{stealer_deque};
+ghost use Rattle.crossbeam_deque.specs.Handles.{stealer_deque, view, IsPassOf};
+ghost use Rattle.rq_pool.specs.Passes.{parts_of, weight_of};
 
-use crate::deque::{DequePass, Owner, Thief, cut, dealt, together};
-use crate::settle::settled;
-use crate::source::Source;
+use crate::deque::{DequePass, Owner, Thief, cut, dealt, gather, pop, together};
+use crate::deque_seat::Source;
 use std::alloc::{AllocError, Global};
 
 /// A deque, the list that was dealt to it, and those of its owner and passes that no seat has.
@@ -21,7 +21,7 @@ pub(crate) struct Deck {
 
 impl Deck {
     ghost use Rattle.rq_pool.specs.Decks.{IsStocked, IsWhole, deck_id, owner_id};
-    ghost use Rattle.rq_pool.specs.Sources.{source_id, stolen};
+    ghost use Rattle.rq_pool.specs.Holdings.{source_id, stolen};
 
     /// The deque of one list, with a pass for each seat, and its owner.
     pub(crate) fn new(
@@ -65,7 +65,7 @@ impl Deck {
 impl Deck {
     ghost use Rattle.std.specs.Prelude.{replicate};
     ghost use Rattle.rq_pool.specs.Decks.{IsStocked, deck_id};
-    ghost use Rattle.rq_pool.specs.Sources.{source_id, stolen};
+    ghost use Rattle.rq_pool.specs.Holdings.{source_id, stolen};
 
     /// A pass of each deque, for a seat. After that, `rest` seats of n still have none.
     pub(crate) fn draw_all(
@@ -90,7 +90,7 @@ impl Deck {
 
 impl Deck {
     ghost use Rattle.rq_pool.specs.Decks.{IsOpen, taken_weight, deck_id, filled};
-    ghost use Rattle.rq_pool.specs.Sources.{source_id, stolen};
+    ghost use Rattle.rq_pool.specs.Holdings.{source_id, stolen};
 
     // Takes in a seat's pass of this deque.
     fn lay(&mut self, source: Source)
@@ -156,6 +156,38 @@ impl Deck {
     }
 }
 
+// The owner with all that the passes took.
+fn gathered(mut owner: Owner, mut passes: Vec<DequePass>) -> Owner
+    requires own { (worker_flavor owner ≡ 0) × (0 < (worker_view owner).parts) }
+    requires passes { All (IsPassOf (worker_deque owner)) passes.items }
+    ensures same { (worker_flavor result ≡ 0)
+        × ((worker_view result).dealt ≡ (worker_view owner).dealt) }
+    ensures parts { (worker_view result).parts
+        ≡ (worker_view owner).parts + sum_by parts_of passes.items }
+    ensures taken { (h : ℕ → ℕ) → sum_by h (worker_view result).taken
+        ≡ sum_by h (worker_view owner).taken + sum_by (weight_of h) passes.items }
+{
+    while let Some(pass) = passes.pop() {
+        gather(&mut owner, pass);
+    }
+    owner
+}
+
+// Moves what the deque still holds to the back of `left`.
+fn drained(mut owner: Owner, left: &mut Vec<u32>)
+    requires all { (worker_flavor owner ≡ 0) × ((worker_view owner).parts ≡ 256) }
+    requires reserved { vec_len left.old + length (worker_view owner).dealt
+        ≤ vec_capacity left.old }
+    ensures room { (vec_capacity left.new ≡ vec_capacity left.old)
+        × (vec_len left.new ≤ vec_len left.old + length (worker_view owner).dealt) }
+    ensures sums { (h : ℕ → ℕ) → sum_by h (worker_view owner).taken + sum_by h left.new.items
+        ≡ sum_by h (worker_view owner).dealt + sum_by h left.old.items }
+{
+    while let Some(x) = pop(&mut owner) {
+        left.push_reserved(x);
+    }
+}
+
 impl Deck {
     ghost use Rattle.rq_pool.specs.Decks.{IsComplete, taken_weight, dealt_weight, dealt_length};
 
@@ -172,7 +204,7 @@ impl Deck {
         }
     }
 
-    // Empties one deque.
+    // Empties one deque: what its owner and its passes took, and what is left, is what was dealt.
     fn empty(self, left: &mut Vec<u32>)
         requires whole { IsComplete self }
         requires reserved { vec_len left.old + dealt_length self ≤ vec_capacity left.old }
@@ -188,6 +220,6 @@ impl Deck {
             passes,
         } = self;
         let Some(owner) = owner else { unreachable!() };
-        settled(owner, passes, left);
+        drained(gathered(owner, passes), left);
     }
 }

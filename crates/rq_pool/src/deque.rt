@@ -4,11 +4,11 @@ ghost use Rattle.std.specs.Prelude.{◌≡◌, ℕ, ◌≤◌, ◌<◌, ◌+◌,
 ghost use Rattle.std.specs.Prelude.{IfSome, IfNone, sum_by, MatchOption, vec_len, vec_capacity};
 ghost use Rattle.crossbeam_deque.specs.Handles.{view, IsPassOf, worker_deque, worker_flavor};
 ghost use Rattle.crossbeam_deque.specs.Handles.{worker_view, stealer_deque, stealer_flavor};
-ghost use Rattle.rq_pool.specs.Shares.{share};
+ghost use Rattle.rq_pool.specs.Passes.{share};
 ghost use Rattle.rq_pool.specs.Rules.{Taken};
 
 use crossbeam_deque::protocol::{Join, Lesson, Outcome, Protocol, Split};
-use crossbeam_deque::{Pass, Steal, Stealer, Worker};
+use crossbeam_deque::{Pass, Stealer, Worker};
 use std::alloc::{AllocError, Global};
 use std::collections::LinkedList;
 
@@ -138,20 +138,6 @@ pub(crate) fn pop(owner: &mut Owner) -> Option<u32>
         sum_by h (worker_view owner.old).taken ≡ sum_by h (worker_view owner.old).dealt) }
 {
     owner.pop_as::<Gets>()
-}
-
-/// One steal. One that must be tried again counts as none.
-pub(crate) fn steal_one(thief: &Thief, pass: &mut DequePass) -> Option<u32>
-    requires { IsPassOf (stealer_deque thief.now) pass.old × (0 < (view pass.old).parts) }
-    ensures same { IsPassOf (stealer_deque thief.now) pass.new }
-    ensures taken { IfSome result (λ x. Taken (view pass.old) (x ∷ []) (view pass.new)) }
-    ensures none { IfNone result (view pass.new ≡ view pass.old) }
-{
-    match thief.steal_as::<Steals>(pass) {
-        Steal::Success(x) => Some(x),
-        Steal::Empty => None,
-        Steal::Retry => None,
-    }
 }
 
 /// Takes in a pass with all that it took.

@@ -8,7 +8,7 @@ ghost use Rattle.rq_pool.specs.Vaults.{reach};
 
 use crate::deck::Deck;
 use crate::deque::Owner;
-use crate::left::Left;
+use crate::room::Left;
 use crate::seat::Seat;
 use crate::vault::Vault;
 use std::alloc::{AllocError, Global};

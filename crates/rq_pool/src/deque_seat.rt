@@ -1,13 +1,41 @@
-//! A seat of a room of several.
+//! A seat of a room of several, and each deque of the room as it sees it.
 
 ghost use Rattle.std.specs.Prelude.{◌≡◌, ℕ, ◌≤◌, ◌<◌, ◌+◌, [], ◌∷◌, ◌++◌, length, IfSome, IfNone};
-ghost use Rattle.std.specs.Prelude.{map};
+ghost use Rattle.std.specs.Prelude.{map, sum_by};
 ghost use Rattle.crossbeam_deque.specs.Handles.{worker_deque, worker_flavor, worker_view};
+ghost use Rattle.crossbeam_deque.specs.Handles.{view, IsPassOf, stealer_deque};
 
 use crate::deck::Deck;
-use crate::deque::{Owner, pop};
+use crate::deque::{DequePass, Owner, Steals, Thief, pop};
 use crate::deque_room::DequeRoom;
-use crate::source::Source;
+use crossbeam_deque::Steal;
+
+/// A stealer of a deque, and the seat's pass for it.
+#[derive(Drop)]
+pub(crate) struct Source {
+    pub(crate) thief: Thief,
+    pub(crate) pass: DequePass,
+    ghost own: { IsPassOf (stealer_deque thief) pass },
+    ghost part: { (view pass).parts ≡ 1 },
+}
+
+impl Source {
+    ghost use Rattle.rq_pool.specs.Holdings.{source_id, stolen};
+
+    /// One steal. One that must be tried again counts as none.
+    pub(crate) fn steal(&mut self) -> Option<u32>
+        ensures same { source_id self.new ≡ source_id self.old }
+        ensures some { IfSome result (λ x. (stolen self.new ≡ stolen self.old ++ x ∷ [])
+            × ((h : ℕ → ℕ) → sum_by h (stolen self.new) ≤ sum_by h (view self.old.pass).dealt)) }
+        ensures none { IfNone result (stolen self.new ≡ stolen self.old) }
+    {
+        match self.thief.steal_as::<Steals>(&mut self.pass) {
+            Steal::Success(x) => Some(x),
+            Steal::Empty => None,
+            Steal::Retry => None,
+        }
+    }
+}
 
 /// The seat's own deque, a source for each deque of the room, and what the seat has taken.
 #[derive(Drop)]
@@ -22,7 +50,7 @@ pub(crate) struct DequeSeat {
 impl DequeSeat {
     ghost use Rattle.rq_pool.specs.Ledger.{times_in, size};
     ghost use Rattle.rq_pool.specs.Rooms.{IsDequeSeat, HasTaken, ids_of, lists_of};
-    ghost use Rattle.rq_pool.specs.Sources.{source_id};
+    ghost use Rattle.rq_pool.specs.Holdings.{source_id};
 
     /// A number of its own deque, or else one that it steals.
     pub(crate) fn take(&mut self, room: &DequeRoom) -> Option<u32>
@@ -85,7 +113,7 @@ impl DequeSeat {
 }
 
 impl DequeSeat {
-    ghost use Rattle.std.specs.Prelude.{All, sum_by};
+    ghost use Rattle.std.specs.Prelude.{All};
     ghost use Rattle.rq_pool.specs.Rooms.{IsDequeSeat};
     ghost use Rattle.rq_pool.specs.Decks.{IsOpen, deck_id, filled, taken_weight};
 

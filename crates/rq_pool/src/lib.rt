@@ -8,15 +8,11 @@ mod deck;
 mod deque;
 mod deque_room;
 mod deque_seat;
-mod left;
 mod list_room;
 mod room;
 mod seat;
-mod settle;
-mod source;
 mod vault;
 
 pub use countdown::{Arrival, Closing, Countdown, Entry, Fits, Pass};
-pub use left::Left;
-pub use room::Room;
+pub use room::{Left, Room};
 pub use seat::Seat;

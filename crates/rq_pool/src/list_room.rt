@@ -3,7 +3,7 @@
 ghost use Rattle.std.specs.Prelude.{◌≡◌, ◌≤◌, ◌<◌, ◌+◌, [], ◌∷◌, ◌++◌, length, IfOk, IfSome};
 ghost use Rattle.std.specs.Prelude.{IfNone, All, map, vec_len, vec_capacity};
 
-use crate::left::Left;
+use crate::room::Left;
 use crate::seat::{Place, Seat};
 use std::alloc::{AllocError, Global};
 
@@ -49,17 +49,20 @@ impl ListRoom {
     ghost use Rattle.rq_pool.specs.Ledger.{Ledger};
     ghost use Rattle.rq_pool.specs.Rooms.{IsSeatAlone, taken_of, left_of, takens_of};
 
-    /// The room of this list, and its seat.
-    pub(crate) fn open(alloc: Global, list: Vec<u32>) -> Result<(ListRoom, Seat), AllocError>
+    /// The room of this list, and its one seat.
+    pub(crate) fn open(alloc: Global, list: Vec<u32>) -> Result<(ListRoom, Vec<Seat>), AllocError>
         ensures list { IfOk result (λ r. r.0.list.items ≡ list.items) }
-        ensures seat { IfOk result (λ r. IsSeatAlone list.items r.1 × (taken_of r.1 ≡ [])) }
+        ensures one { IfOk result (λ r. vec_len r.1 ≡ 1) }
+        ensures seat { IfOk result (λ r. All (IsSeatAlone list.items) r.1.items) }
+        ensures fresh { IfOk result (λ r. All (λ s. taken_of s ≡ []) r.1.items) }
     {
+        let mut seats = Vec::with_capacity(alloc, 1)?;
         let takens = Vec::with_capacity(alloc, 1)?;
         let taken = Vec::with_capacity(alloc, list.len())?;
-        let seat = Seat {
+        seats.push_reserved(Seat {
             place: Place::Alone(ListSeat { taken }),
-        };
-        Ok((ListRoom { list, takens }, seat))
+        });
+        Ok((ListRoom { list, takens }, seats))
     }
 
     /// What the seat has taken, and the rest of the list.

@@ -1,15 +1,14 @@
-//! The room, of one seat or of several.
+//! The room, of one seat or of several, and what is left of it after the close.
 
-ghost use Rattle.std.specs.Prelude.{◌≡◌, ◌≤◌, ◌∷◌, [], length, IfOk, IfErr, All, map, vec_len};
-ghost use Rattle.std.specs.Prelude.{vec_items};
+ghost use Rattle.std.specs.Prelude.{◌≡◌, ◌≤◌, ◌<◌, [], length, IfOk, IfErr, All, map, vec_len};
+ghost use Rattle.std.specs.Prelude.{vec_items, slice_get, Some};
 ghost use Rattle.rq_record.specs.declared.fault.Fault.TheVariants.{Resources};
 
 use crate::deque_room::DequeRoom;
-use crate::left::Left;
 use crate::list_room::ListRoom;
 use crate::seat::Seat;
 use rq_record::Fault;
-use std::alloc::{AllocError, Global};
+use std::alloc::Global;
 
 /// Numbers for its seats to take. A room may be lent to threads, and each of its seats moved to
 /// one.
@@ -43,30 +42,18 @@ impl Room {
         ensures refused { IfErr result (λ e. e ≡ Resources) }
     {
         if lists.len() == 1 {
-            return Ok(Room::single(alloc, lists.take_last())?);
+            let (room, seats) = ListRoom::open(alloc, lists.take_last())?;
+            return Ok((
+                Room {
+                    body: Body::Single(room),
+                },
+                seats,
+            ));
         }
         let (room, seats) = DequeRoom::open(alloc, lists)?;
         Ok((
             Room {
                 body: Body::Several(room),
-            },
-            seats,
-        ))
-    }
-
-    // The room of one seat.
-    fn single(alloc: Global, list: Vec<u32>) -> Result<(Room, Vec<Seat>), AllocError>
-        ensures deal { IfOk result (λ r. deal_of r.0 ≡ list.items ∷ []) }
-        ensures count { IfOk result (λ r. (seats_of r.0 ≡ 1) × (vec_len r.1 ≡ 1)) }
-        ensures seats { IfOk result (λ r. All (IsSeatOf r.0) r.1.items) }
-        ensures fresh { IfOk result (λ r. All (λ s. taken_of s ≡ []) r.1.items) }
-    {
-        let mut seats = Vec::with_capacity(alloc, 1)?;
-        let (room, seat) = ListRoom::open(alloc, list)?;
-        seats.push_reserved(seat);
-        Ok((
-            Room {
-                body: Body::Single(room),
             },
             seats,
         ))
@@ -91,5 +78,40 @@ impl Room {
             Body::Single(room) => room.close(seats),
             Body::Several(room) => room.close(seats),
         }
+    }
+}
+
+/// The numbers that nobody took, and what each seat took.
+#[derive(Drop)]
+pub struct Left {
+    pub(crate) numbers: Vec<u32>,
+    pub(crate) from: usize,
+    pub(crate) takens: Vec<Vec<u32>>,
+    ghost within: { from ≤ length numbers.items },
+}
+
+impl Left {
+    ghost use Rattle.rq_pool.specs.Rooms.{left_of, takens_of};
+
+    /// The numbers that nobody took.
+    pub fn left(&self) -> &[u32]
+        ensures left { result.now ≡ left_of self.now }
+    {
+        &self.numbers[self.from..]
+    }
+
+    /// How many seats were handed in.
+    pub fn seats(&self) -> usize
+        ensures seats { result ≡ length (takens_of self.now) }
+    {
+        self.takens.len()
+    }
+
+    /// What the seat that was handed in at index `i` has taken, in order.
+    pub fn taken(&self, i: usize) -> &[u32]
+        requires index { i < length (takens_of self.now) }
+        ensures taken { slice_get (takens_of self.now) i ≡ Some result.now }
+    {
+        self.takens[i].as_slice()
     }
 }

@@ -4,10 +4,9 @@ ghost use Rattle.std.specs.Prelude.{◌≡◌, ◌<◌, [], ◌∷◌, ◌++◌,
 
 use crate::deck::Deck;
 use crate::deque::Owner;
-use crate::deque_seat::DequeSeat;
+use crate::deque_seat::{DequeSeat, Source};
 use crate::list_room::ListSeat;
 use crate::room::{Body, Room};
-use crate::source::Source;
 
 /// Its holder takes numbers of its room, in any thread.
 #[derive(Drop)]
@@ -82,7 +81,7 @@ impl Seat {
     ghost use Rattle.crossbeam_deque.specs.Handles.{worker_flavor};
     ghost use Rattle.rq_pool.specs.Ledger.{size};
     ghost use Rattle.rq_pool.specs.Decks.{IsWhole, deck_id, list_in, owner_id};
-    ghost use Rattle.rq_pool.specs.Sources.{source_id, stolen};
+    ghost use Rattle.rq_pool.specs.Holdings.{source_id, stolen};
     ghost use Rattle.rq_pool.specs.Rooms.{IsSeatBeside, IsDequeSeat, taken_of};
 
     /// A seat with a deque of its own, the one of its number.

@@ -1,6 +1,6 @@
--- What is found on the way through the front is its audit.
-use Rattle.std.proofs.Common.{◌≡◌, ℕ, ◌+◌, ◌<◌, ◌≤◌, Bool, true, List, [], ◌∷◌, ◌++◌, length, drop, refl, sym, ap, subst, ◌∙◌}
-use Rattle.std.proofs.Common.{arith, inl, inr}
+-- What is found on the way through the front is its audit, from its start or from a checkpoint on.
+use Rattle.std.proofs.Common.{◌≡◌, ℕ, ◌+◌, ◌<◌, ◌≤◌, Bool, true, List, [], ◌∷◌, ◌++◌, length, drop, refl, sym, ap}
+use Rattle.std.proofs.Common.{subst, ◌∙◌, arith, inl, inr}
 use Rattle.std.specs.Prelude.{◌↔◌, Result, Ok, Err, IfOk, IfErr}
 use Rattle.std.specs.Global.{Vec}
 use Rattle.std.specs.List.{AllByRecursion}
@@ -22,8 +22,12 @@ use Rattle.rq_model.proofs.Runs.{frame_long}
 use Rattle.rq_record.specs.declared.fault.Fault.{Fault}
 use Rattle.rq_record.specs.declared.fault.Fault.TheVariants.{Resources}
 use Rattle.rq_front.specs.Chains.{Refused}
-use Rattle.rq_restart.specs.Audits.{Audits, IsAuditedFrom, audit_of, audits, is_spelled, past}
+use Rattle.rq_restart.specs.Audits.{Audits, IsAuditedFrom, audit_of, audits, is_spelled, past, AuditsAt}
 use Rattle.rq_judged.proofs.Starts.{started, whole_front}
+use Rattle.rq_record.specs.Views.{version_of}
+use Rattle.rq_judged.specs.declared.checkpoint.Begun.{Begun}
+use Rattle.rq_judged.specs.Checkpoints.{IsBegun}
+use Rattle.rq_judged.proofs.Checkpoints.{from_checkpoint}
 
 abbrev audit_at : State → ℕ → List Record → List ℕ → Audited
 audit_at s at rs kept = record { offset = past at rs; truth = is_spelled (run s rs) kept }
@@ -238,3 +242,21 @@ audits_are version law ends b short head (Ok v) is refused =
       subst (IsAudit b) (sym is.told) (is_audit version law b is.records (drop is.end b) front),
     )
 audits_are version law ends b short head (Err e) is refused = subst (λ (f : Fault). Refused b f) (sym refused) tt
+
+-- what is told of its records is its audit
+pub audits_at : (b : List ℕ) (offset : ℕ) (x : Begun) → IsBegun b offset x → (result : Result (Vec (ℕ × Bool)) Fault)
+    → IfOk result (λ v. IsAuditedFrom (version_of x.version) x.state b offset v.items)
+    → IfErr result (λ e. e ≡ Resources) → AuditsAt b offset result
+audits_at b offset x is (Ok v) audited refused =
+    let has = from_checkpoint b offset x is audited.records audited.end audited.why audited.front in (
+      record {
+        version = version_of x.version;
+        base = x.state;
+        kept = is.kept;
+        after = has.after;
+        rest = drop audited.end b;
+        front = has.from.front;
+      },
+      audited.told ∙ ap (audits x.state offset) has.are,
+    )
+audits_at b offset x is (Err e) audited refused = rw refused tt

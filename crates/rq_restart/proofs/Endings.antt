@@ -16,7 +16,7 @@ use Rattle.rq_record.specs.declared.fault.Fault.{Fault}
 use Rattle.rq_record.specs.declared.fault.Fault.TheVariants as faults
 use Rattle.rq_record.specs.declared.record.UnitNo.{UnitNo}
 use Rattle.rq_state.specs.Views.{unit_of}
-use Rattle.rq_judged.specs.Ends.{IsFrontFrom}
+use Rattle.rq_judged.specs.FrontEnds.{IsFrontFrom}
 use Rattle.rq_restart.specs.Tails.{IsEnding, StaysOpen}
 use Rattle.rq_restart.specs.declared.tails.Ending.{Ending}
 use Rattle.rq_judged.proofs.Starts.{before_is, started, whole_front}

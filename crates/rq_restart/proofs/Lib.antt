@@ -1,11 +1,7 @@
-pub mod Clearing
 pub mod Closings
 pub mod Endings
-pub mod RedoneFronts
 pub mod Upgradings
-pub mod Audited
 pub mod Walks
-pub mod TakenPieces
 pub mod Keepers
-pub mod ByFronts
-pub mod AuditedFronts
+pub mod RedoneFronts
+pub mod Audited

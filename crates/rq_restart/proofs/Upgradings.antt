@@ -1,8 +1,8 @@
 -- The bodies of a log, framed anew, are the log in version 2.
 use Rattle.std.proofs.Common.{◌≡◌, ℕ, suc, ◌+◌, ◌-◌, ◌≤◌, List, [], ◌∷◌, ◌++◌, length, take, drop, refl, sym, ap, subst}
 use Rattle.std.proofs.Common.{◌∙◌, append_assoc, arith}
-use Rattle.std.proofs.lemmas.List.{append-nil, drop-drop, drop-append-le, take_all, drop_at}
-use Rattle.std.proofs.lemmas.List.{length-take, length-drop, length-map}
+use Rattle.std.proofs.lemmas.List.{append-nil, drop-drop, drop-append-le, take_all, drop_at, length-take, length-drop}
+use Rattle.std.proofs.lemmas.List.{length-map}
 use Rattle.std.specs.Global.{Vec}
 use Rattle.std.specs.Int.{w32, to_be_bytes}
 use Rattle.std.specs.Prelude.{Result, Ok, Err, IfOk, IfErr}
@@ -23,7 +23,7 @@ use Rattle.rq_record.specs.Views.{version_of}
 use Rattle.rq_record.specs.declared.fault.Fault.{Fault}
 use Rattle.rq_record.specs.declared.fault.Fault.TheVariants.{Resources}
 use Rattle.rq_front.specs.Chains.{Refused}
-use Rattle.rq_judged.specs.Ends.{IsFrontFrom}
+use Rattle.rq_judged.specs.FrontEnds.{IsFrontFrom}
 use Rattle.rq_restart.specs.Upgrades.{HaveFrames, IsExtent, Upgrades, bodies_in}
 use Rattle.rq_restart.specs.declared.upgrades.Extent.{Extent}
 use Rattle.rq_judged.proofs.Starts.{before_is, started, whole_front}

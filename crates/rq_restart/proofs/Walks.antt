@@ -1,6 +1,6 @@
 -- On the way through the records: where their frames stand, the state before each, and what is found.
-use Rattle.std.proofs.Common.{◌≡◌, ℕ, zero, suc, ◌+◌, ◌-◌, ◌<◌, ◌≤◌, true, List, [], ◌∷◌, ◌++◌, length}
-use Rattle.std.proofs.Common.{map, take, drop, get_or, refl, sym, ap, subst, ◌∙◌, append_assoc, arith}
+use Rattle.std.proofs.Common.{◌≡◌, ℕ, zero, suc, ◌+◌, ◌-◌, ◌<◌, ◌≤◌, true, List, [], ◌∷◌, ◌++◌, length, map, take, drop}
+use Rattle.std.proofs.Common.{get_or, refl, sym, ap, subst, ◌∙◌, append_assoc, arith}
 use Rattle.std.specs.Prelude.{slice_index_or}
 use Rattle.std.proofs.lemmas.List.{append-nil, drop-take, length-map, map-append, take-append-drop, take-map}
 use Rattle.std.proofs.lemmas.List.{get_or-map, take_more, take-take}
@@ -18,7 +18,7 @@ use Rattle.rq_front.specs.declared.spans.Chain.{Chain}
 use Rattle.rq_front.specs.declared.spans.Span.{Span}
 use Rattle.rq_front.specs.Chains.{bodies_at, spans_from}
 use Rattle.rq_catalog.proofs.Runs.{run_push}
-use Rattle.rq_judged.specs.Ends.{IsChain, IsFrontFrom}
+use Rattle.rq_judged.specs.FrontEnds.{IsChain, IsFrontFrom}
 use Rattle.rq_restart.specs.Audits.{StandInFrames, StandAt, audit_of, audits, past}
 
 -- where the frames of the records stand

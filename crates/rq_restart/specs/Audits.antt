@@ -17,7 +17,7 @@ use Rattle.rq_front.specs.declared.spans.Span.{Span}
 use Rattle.rq_front.specs.Chains.{IsHeaded, Refused}
 use Rattle.rq_standing.specs.Stands.{Stands}
 use Rattle.rq_standing.specs.declared.standing.Standing.{Standing}
-use Rattle.rq_judged.specs.Ends.{IsFrontFrom}
+use Rattle.rq_judged.specs.FrontEnds.{IsFrontFrom}
 use Rattle.rq_judged.specs.Refusals.{RefusedAt}
 
 -- a checkpoint of these bytes spells the state

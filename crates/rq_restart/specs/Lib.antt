@@ -1,9 +1,6 @@
-pub mod Cleared
 pub mod Restarts
-pub mod FoundFronts
 pub mod RedoneFronts
 pub mod Tails
 pub mod Upgrades
 pub mod Audits
 pub mod Keepers
-pub mod Pieces

@@ -1,16 +1,58 @@
--- The front of a log, redone, from its start or from a checkpoint on.
-use Rattle.std.specs.Prelude.{◌≡◌, ℕ, ◌+◌, List, ◌∷◌, length, drop, Result, Ok, Err}
+-- The front of a log, from its start or from a checkpoint on: found in one pass, and redone.
+use Rattle.std.specs.Prelude.{◌≡◌, ◌≤◌, ℕ, List, map, length, Result, Ok, Err, ◌+◌, ◌∷◌, drop}
+use Rattle.rq_model.specs.Frames.{HasHeader, log_limit, start, log_of, frames_of, last_of, before}
+use Rattle.rq_model.specs.LogLaws.{LogEnds}
+use Rattle.rq_model.specs.States.{empty, State}
+use Rattle.rq_model.specs.WellFormed.{IsWellFormed}
+use Rattle.rq_record.specs.Views.{record_of, version_of}
+use Rattle.rq_record.specs.declared.fault.Fault.{Fault}
+use Rattle.rq_catalog.specs.Analyses.{IsAnalysis}
+use Rattle.rq_front.specs.declared.spans.Chain.{Chain}
+use Rattle.rq_front.specs.Chains.{Refused}
+use Rattle.rq_judged.specs.Checkpoints.{IsBegun}
+use Rattle.rq_judged.specs.FrontEnds.{IsFrontFrom}
+use Rattle.rq_judged.specs.Refusals.{RefusedAt}
+use Rattle.rq_judged.specs.Views.{why_of}
+use Rattle.rq_restart.specs.declared.restarts.FoundFront.{FoundFront}
 use Rattle.rq_model.specs.Records.{Record, Checkpoint, Version}
-use Rattle.rq_model.specs.Frames.{start, log_of, frames_of, last_of, before}
-use Rattle.rq_model.specs.States.{State, empty}
 use Rattle.rq_model.specs.Machine.{run}
 use Rattle.rq_model.specs.Fronts.{IsFront}
 use Rattle.rq_model.specs.Carrying.{IsFrontAt}
-use Rattle.rq_record.specs.Views.{version_of}
-use Rattle.rq_record.specs.declared.fault.Fault.{Fault}
-use Rattle.rq_front.specs.Chains.{Refused}
-use Rattle.rq_judged.specs.Refusals.{RefusedAt}
 use Rattle.rq_restart.specs.declared.redone.RedoneFront.{RedoneFront}
+
+-- the front of b from an offset and a state on
+pub record IsFoundFrom (b : List ℕ) (from : ℕ) (f : FoundFront) : Type 0 where
+  pub short : length b ≤ log_limit
+  pub behind : 40 ≤ from
+  pub well : IsWellFormed f.state
+  pub next : f.state.next ≤ 4294967295
+  pub front : IsFrontFrom (version_of f.version) f.state b from
+      (map record_of f.front.records.items) f.front.end (why_of f.front.why)
+  pub analysis : IsAnalysis (version_of f.version) f.state
+      (map record_of f.front.records.items) f.front.analysis
+
+-- the front of all of b, whose frames end where those of any log do
+pub record IsFoundFront (b : List ℕ) (f : FoundFront) : Type 0 where
+  pub header : HasHeader (version_of f.version) b
+  pub start : f.state ≡ empty
+  pub found : IsFoundFrom b 40 f
+  pub ends : LogEnds
+
+-- that, or why there is none
+abbrev pub FindsFront : List ℕ → Result FoundFront Fault → Type 0
+FindsFront b (Ok f) = IsFoundFront b f
+FindsFront b (Err e) = Refused b e
+
+-- the front of b from the checkpoint at an offset on
+pub record IsFoundAt (b : List ℕ) (offset : ℕ) (f : FoundFront) : Type 0 where
+  pub chain : Chain
+  pub begun : IsBegun b offset (record { version = f.version; found = chain; state = f.state })
+  pub found : IsFoundFrom b offset f
+
+-- that, or why there is none
+abbrev pub FindsFrontAt : List ℕ → ℕ → Result FoundFront Fault → Type 0
+FindsFrontAt b offset (Ok f) = IsFoundAt b offset f
+FindsFrontAt b offset (Err e) = RefusedAt b offset e
 
 -- where the front of b ends, and the state behind it
 pub record IsRedoneFront (b : List ℕ) (f : RedoneFront) : Type 0 where

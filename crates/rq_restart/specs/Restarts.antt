@@ -1,6 +1,6 @@
--- What a restart of a log answers.
-use Rattle.std.specs.Prelude.{◌≡◌, ◌≤◌, ℕ, List, length, Result, Ok, Err}
-use Rattle.rq_model.specs.Records.{Record, Version}
+-- What a restart of a log answers; and records without what a checkpoint at their start spells.
+use Rattle.std.specs.Prelude.{List, [], ◌∷◌, ◌≡◌, ◌≤◌, ℕ, length, Result, Ok, Err}
+use Rattle.rq_model.specs.Records.{Record, Checkpoint, Version}
 use Rattle.rq_model.specs.Frames.{log_limit}
 use Rattle.rq_model.specs.States.{State, empty}
 use Rattle.rq_model.specs.Machine.{run}
@@ -9,6 +9,14 @@ use Rattle.rq_model.specs.Checkpoints.{IsRestartAt}
 use Rattle.rq_record.specs.declared.fault.Fault.{Fault}
 use Rattle.rq_front.specs.Chains.{IsHeaded, Refused}
 use Rattle.rq_judged.specs.Refusals.{RefusedAt}
+
+abbrev pub cleared : Record → Record
+cleared (Checkpoint bytes) = Checkpoint []
+cleared r = r
+
+abbrev pub first_cleared : List Record → List Record
+first_cleared [] = []
+first_cleared (r ∷ rs) = cleared r ∷ rs
 
 -- the restart of b, or why b is refused: it is too long, or no log
 abbrev pub Restarts : List ℕ → Result Restarted Fault → Type 0

@@ -3,7 +3,7 @@
 ghost use Rattle.std.specs.Prelude.{◌≡◌, ◌≤◌, ℕ, length, map, IfOk, OnOk, IfErr};
 ghost use Rattle.rq_record.specs.Views.{record_of, version_of};
 ghost use Rattle.rq_record.specs.declared.fault.Fault.TheVariants.{Resources};
-ghost use Rattle.rq_judged.specs.Ends.{IsChain};
+ghost use Rattle.rq_judged.specs.FrontEnds.{IsChain};
 ghost use Rattle.rq_restart.specs.Audits.{StandInFrames, Audits, AuditsAt, IsAuditedFrom};
 ghost use Rattle.rq_restart.specs.Audits.{EveryLogHasAudit, MayGoOn, StandsAfter, TellsBehind};
 ghost use Rattle.rq_restart.specs.Audits.{audited_of, audits};
@@ -107,7 +107,15 @@ fn checkpoints_of<R: Threads + Sync>(
         → IsAuditedFrom (version_of begun.now.version) begun.now.state bytes.now offset v.items) }
     ensures refused { IfErr result (λ e. e ≡ Resources) }
 {
-    let front = front_of(rt, alloc, bytes, begun, plan)?;
+    let front = front_of(
+        rt,
+        alloc,
+        begun.version,
+        bytes,
+        &begun.found,
+        &begun.state,
+        plan,
+    )?;
     let records = records_alone(front);
     checkpoints_among(
         rt,

@@ -4,14 +4,10 @@
 #![tactic(auto)]
 
 mod audits;
-mod frames;
 mod keeper;
 mod pieces;
-mod position;
 mod redone;
 mod restart_ends;
-mod restarted;
-mod restarting_at;
 mod restarts;
 mod tails;
 mod upgrades;
@@ -20,9 +16,8 @@ pub use audits::{audit, audit_at, audit_of, every_log_has_audit};
 pub use keeper::Keeper;
 pub use pieces::go_on;
 pub use redone::{RedoneFront, front_state, redone_front, redone_front_at};
-pub use restarted::Restarted;
-pub use restarting_at::{restart_at, restart_of_at, restart_own_at};
-pub use restarts::{restart, restart_of, restart_own};
+pub use restart_ends::Restarted;
+pub use restarts::{restart, restart_at, restart_of, restart_of_at, restart_own, restart_own_at};
 pub use rq_judged::Why;
 pub use rq_plan::{Gate, Open, Plan};
 pub use rq_record::{Fault, LogBytes, Version};

@@ -3,7 +3,7 @@
 ghost use Rattle.std.specs.Prelude.{◌≡◌, map, IfOk, IfErr};
 ghost use Rattle.rq_record.specs.Views.{record_of};
 ghost use Rattle.rq_record.specs.declared.fault.Fault.TheVariants.{Resources};
-ghost use Rattle.rq_restart.specs.Pieces.{IsStanding, TakesOne, WentOn};
+ghost use Rattle.rq_restart.specs.Keepers.{IsStanding, TakesOne, WentOn};
 
 use rq_exchange::front_redone;
 use rq_plan::Plan;

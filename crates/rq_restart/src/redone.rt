@@ -3,12 +3,11 @@
 ghost use Rattle.std.specs.Prelude.{◌≡◌, ℕ, map, IfOk, IfErr};
 ghost use Rattle.rq_record.specs.Views.{record_of, version_of};
 ghost use Rattle.rq_record.specs.declared.fault.Fault.TheVariants.{Resources};
-ghost use Rattle.rq_restart.specs.FoundFronts.{IsFoundFrom};
+ghost use Rattle.rq_restart.specs.RedoneFronts.{IsFoundFrom};
 ghost use Rattle.rq_restart.specs.RedoneFronts.{IsStateBehind, RedoesFront, RedoesFrontAt};
 ghost use Rattle.rq_restart.specs.Restarts.{FindsState};
 
-use crate::restarting_at::front_from;
-use crate::restarts::{FoundFront, whole_front};
+use crate::restarts::{FoundFront, front_from, whole_front};
 use rq_exchange::replay_analysed;
 use rq_judged::before;
 use rq_plan::{Open, Plan};

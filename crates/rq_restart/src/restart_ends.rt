@@ -1,7 +1,8 @@
-//! The end of a restart: open units are aborted, and all is redone.
+//! The end of a restart: open units are aborted, all is redone, and what it answers.
 
 ghost use Rattle.std.specs.Prelude.{◌≡◌, ◌≤◌, ◌<◌, ◌^◌, ◌+◌, ◌-◌, ◌++◌, true, ℕ, List, length, map};
 ghost use Rattle.std.specs.Prelude.{IfOk, IfErr, OnOk};
+ghost use Rattle.rq_judged.specs.Views.{why_of};
 ghost use Rattle.rq_model.specs.Fronts.{restarted};
 ghost use Rattle.rq_model.specs.Machine.{all_lawful, run};
 ghost use Rattle.rq_model.specs.Records as model;
@@ -10,21 +11,109 @@ ghost use Rattle.rq_record.specs.declared.fault.Fault.TheVariants.{Resources};
 ghost use Rattle.rq_state.specs.Views.{unit_of};
 ghost use Rattle.rq_catalog.specs.Analyses.{IsAnalysis, open_in};
 ghost use Rattle.rq_exchange.specs.Agendas.{IsAgenda};
-ghost use Rattle.rq_judged.specs.Views.{why_of};
-ghost use Rattle.rq_restart.specs.Cleared.{first_cleared};
-ghost use Rattle.rq_restart.specs.FoundFronts.{IsFoundFrom};
+ghost use Rattle.rq_restart.specs.Restarts.{first_cleared};
+ghost use Rattle.rq_restart.specs.RedoneFronts.{IsFoundFrom};
 
-use crate::restarted::Restarted;
 use crate::restarts::FoundFront;
 use rq_catalog::Analysis;
 use rq_exchange::{Agenda, redo_agenda};
-use rq_judged::Front;
+use rq_judged::{Front, Why};
 use rq_plan::{Gate, Plan};
 use rq_record::{Fault, KeptRecord, UnitNo, Version};
 use rq_state::State;
 use std::alloc::Global;
-use std::marker::Sync;
+use std::marker::{Model, Sync};
 use std::thread::Threads;
+
+/// What a restart answers: the state after the units that were open were aborted, and numbers of
+/// the front.
+#[derive(Drop)]
+pub struct Restarted {
+    pub(crate) state: State,
+    pub(crate) records: u64,
+    pub(crate) used: u64,
+    pub(crate) total: u64,
+    pub(crate) why: Why,
+    pub(crate) committed: u64,
+    pub(crate) aborted: u64,
+    pub(crate) cut_off: u64,
+}
+
+impl Model for Restarted {
+    ghost use Rattle.rq_model.specs.Fronts as fronts;
+    ghost use Rattle.rq_judged.specs.Views.{why_of};
+
+    ghost Value = { fronts.Restarted };
+
+    ghost view = { λ r. record {
+      state = r.state;
+      records = r.records;
+      used = r.used;
+      total = r.total;
+      why = why_of r.why;
+      committed = r.committed;
+      aborted = r.aborted;
+      cut_off = r.cut_off;
+    } };
+}
+
+impl Restarted {
+    /// The state after the aborts.
+    pub fn state(&self) -> &State
+        ensures { result.now ≡ self.now.state }
+    {
+        &self.state
+    }
+
+    /// The next record number at the end of the front.
+    pub fn records(&self) -> u64
+        ensures { result ≡ self.now.records }
+    {
+        self.records
+    }
+
+    /// How many of the log's bytes the front and what stands before it take.
+    pub fn used(&self) -> u64
+        ensures { result ≡ self.now.used }
+    {
+        self.used
+    }
+
+    /// How many bytes the log has.
+    pub fn total(&self) -> u64
+        ensures { result ≡ self.now.total }
+    {
+        self.total
+    }
+
+    /// Why the front ends.
+    pub fn why(&self) -> Why
+        ensures { why_of result ≡ self.now.why }
+    {
+        self.why
+    }
+
+    /// How many units were committed.
+    pub fn committed(&self) -> u64
+        ensures { result ≡ self.now.committed }
+    {
+        self.committed
+    }
+
+    /// How many units were aborted, those that the restart aborts aside.
+    pub fn aborted(&self) -> u64
+        ensures { result ≡ self.now.aborted }
+    {
+        self.aborted
+    }
+
+    /// How many units were open at the end of the front.
+    pub fn cut_off(&self) -> u64
+        ensures { result ≡ self.now.cut_off }
+    {
+        self.cut_off
+    }
+}
 
 // Lets go of what the first record spells, if that is a checkpoint. A redo does not look at it, and
 // if the restart begins there, it may be the most of the log.

@@ -1,12 +1,11 @@
-//! The restart of a log from its start.
+//! The restart of a log, from its start or from a checkpoint on.
 
-ghost use Rattle.rq_restart.specs.FoundFronts.{FindsFront};
-ghost use Rattle.rq_restart.specs.Restarts.{Restarts};
+ghost use Rattle.rq_restart.specs.RedoneFronts.{FindsFront, FindsFrontAt};
+ghost use Rattle.rq_restart.specs.Restarts.{Restarts, RestartsAt};
 
-use crate::restart_ends::finish;
-use crate::restarted::Restarted;
+use crate::restart_ends::{Restarted, finish};
 use rq_front::{log_version, walk};
-use rq_judged::{Front, front_of_walk};
+use rq_judged::{Front, begin_at, front_of, front_of_walk};
 use rq_plan::{Gate, Plan};
 use rq_record::{Fault, LogBytes, Version};
 use rq_state::State;
@@ -58,7 +57,8 @@ pub fn restart_of<R: Threads + Sync, G: Gate + Sync>(
     ensures { Restarts bytes.now result }
 {
     let from = whole_front(rt, alloc, bytes, plan)?;
-    finish(rt, alloc, from, bytes.len(), plan, gate)
+    let total = bytes.len();
+    finish(rt, alloc, from, total, plan, gate)
 }
 
 /// The restart of a log that nobody else needs: `restart` of its bytes. A checkpoint, and a payload
@@ -97,4 +97,88 @@ pub fn restart<R: Threads + Sync, G: Gate + Sync>(
     ensures { Restarts bytes.now result }
 {
     restart_of(rt, alloc, &LogBytes::borrowed(bytes), plan, gate)
+}
+
+/// The front of a log whose bytes may be shared, from the checkpoint at an offset on: it begins in
+/// the state that this spells.
+pub(crate) fn front_from<R: Threads + Sync>(
+    rt: &R,
+    alloc: Global,
+    bytes: &LogBytes<'_>,
+    offset: u64,
+    plan: &Plan,
+) -> Result<FoundFront, Fault>
+    ensures { FindsFrontAt bytes.now offset result }
+{
+    let begun = begin_at(rt, alloc, bytes.as_slice(), offset, plan)?;
+    let front = front_of(
+        rt,
+        alloc,
+        begun.version,
+        bytes,
+        &begun.found,
+        &begun.state,
+        plan,
+    )?;
+    Ok(FoundFront {
+        version: begun.version,
+        state: begun.state,
+        front,
+    })
+}
+
+/// The restart from a checkpoint of a log that nobody else needs: `restart_at` of its bytes, which
+/// are let go or kept as `restart_own` does it.
+pub fn restart_own_at<R: Threads + Sync, G: Gate + Sync>(
+    rt: &R,
+    alloc: Global,
+    bytes: Vec<u8>,
+    offset: u64,
+    plan: &Plan,
+    gate: &G,
+) -> Result<Restarted, Fault>
+    ensures { RestartsAt bytes.items offset result }
+{
+    let total = bytes.len();
+    let owned = ArcSlice::from_vec(bytes)?;
+    let from = front_from(rt, alloc, &LogBytes::shared(&owned), offset, plan)?;
+    drop(owned);
+    finish(rt, alloc, from, total, plan, gate)
+}
+
+/// The restart from a checkpoint of a log whose bytes may be shared: `restart_at` of them. If they
+/// are, another checkpoint behind that one, and a payload of more than 22 bytes, are parts of them
+/// and no copies.
+pub fn restart_of_at<R: Threads + Sync, G: Gate + Sync>(
+    rt: &R,
+    alloc: Global,
+    bytes: &LogBytes<'_>,
+    offset: u64,
+    plan: &Plan,
+    gate: &G,
+) -> Result<Restarted, Fault>
+    ensures { RestartsAt bytes.now offset result }
+{
+    let from = front_from(rt, alloc, bytes, offset, plan)?;
+    finish(rt, alloc, from, bytes.len(), plan, gate)
+}
+
+/// The restart of a log that begins with the checkpoint at an offset, in the state that it spells,
+/// and goes on with the longest run of lawful records from there. From a true checkpoint it is the
+/// restart of the log.
+///
+/// Refuses with `NoCheckpoint` where the offset is below 40 or no frame with the right digest and
+/// kind 9 starts there, with `BadCheckpoint` where the checkpoint spells no well-formed state, and
+/// else as `restart` does.
+pub fn restart_at<R: Threads + Sync, G: Gate + Sync>(
+    rt: &R,
+    alloc: Global,
+    bytes: &[u8],
+    offset: u64,
+    plan: &Plan,
+    gate: &G,
+) -> Result<Restarted, Fault>
+    ensures { RestartsAt bytes.now offset result }
+{
+    restart_of_at(rt, alloc, &LogBytes::borrowed(bytes), offset, plan, gate)
 }

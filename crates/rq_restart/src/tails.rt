@@ -6,7 +6,7 @@ ghost use Rattle.rq_model.specs.Records as model;
 ghost use Rattle.rq_model.specs.Spelling.{body_of};
 ghost use Rattle.rq_record.specs.declared.fault.Fault.TheVariants.{Resources};
 ghost use Rattle.rq_state.specs.Views.{unit_of};
-ghost use Rattle.rq_restart.specs.FoundFronts.{IsFoundFront};
+ghost use Rattle.rq_restart.specs.RedoneFronts.{IsFoundFront};
 ghost use Rattle.rq_restart.specs.Tails.{Closes, IsEnding, StaysOpen, Tails};
 
 use crate::restarts::{FoundFront, whole_front};

@@ -1,21 +1,40 @@
 //! A log in version 2.
 
-ghost use Rattle.std.specs.Prelude.{◌≡◌, ◌≤◌, ◌++◌, ℕ, List, length, take, drop, IfOk, IfErr};
-ghost use Rattle.rq_model.specs.Records.{Two};
-ghost use Rattle.rq_model.specs.Frames.{frames, header, start};
+ghost use Rattle.std.specs.Prelude.{◌≡◌, ◌≤◌, ◌++◌, length, IfErr, OnOk, ℕ, List, take, drop, IfOk};
+ghost use Rattle.rq_model.specs.Frames.{IsBodyLength, before, frame, frames, header, start};
 ghost use Rattle.rq_record.specs.declared.fault.Fault.TheVariants.{Resources};
-ghost use Rattle.rq_restart.specs.FoundFronts.{IsFoundFront};
+ghost use Rattle.rq_model.specs.Records.{Two};
+ghost use Rattle.rq_restart.specs.RedoneFronts.{IsFoundFront};
 ghost use Rattle.rq_restart.specs.Upgrades.{HaveFrames, IsExtent, Upgrades, bodies_in};
 
-use crate::frames::append_next;
 use crate::restarts::{FoundFront, whole_front};
 use rq_front::{FRAME_LEN, HEADER_LEN, header_of};
 use rq_judged::body_at;
 use rq_plan::Plan;
 use rq_record::{Fault, LogBytes, Version};
+use sha2::{Digest, Sha256};
 use std::alloc::Global;
 use std::marker::Sync;
 use std::thread::Threads;
+
+/// Appends the frame of a body behind the last 32 bytes of what is there. These, the length and the
+/// body then stand side by side, so that one digest is taken of them where they stand. Where memory
+/// is refused a part of the frame may be there.
+pub(crate) fn append_next(body: &[u8], out: &mut Vec<u8>) -> Result<(), Fault>
+    requires body { IsBodyLength (length body.now) }
+    requires after { 32 ≤ length out.old.items }
+    ensures bytes { OnOk result (out.new.items
+        ≡ out.old.items ++ frame (before (length out.old.items) out.old.items) body.now) }
+    ensures refused { IfErr result (λ e. e ≡ Resources) }
+{
+    let from = out.len() - 32;
+    let len = (body.len() as u32).to_be_bytes();
+    out.extend_from_slice(&len)?;
+    out.extend_from_slice(body)?;
+    let digest = Sha256::digest(&out[from..]);
+    out.extend_from_slice(&digest)?;
+    Ok(())
+}
 
 // The version of a log, where its front ends, and how many records that has.
 #[derive(Clone, Copy)]

@@ -1,10 +1,8 @@
 -- What a record that names a queue makes of the parts.
-use Rattle.std.proofs.Common.{◌≡◌, ℕ, ◌<◌, true, cond, List, [], length, Some}
-use Rattle.std.proofs.Common.{refl, sym, ap, ◌∙◌, subst, arith}
+use Rattle.std.proofs.Common.{◌≡◌, ℕ, ◌<◌, true, cond, List, [], length, Some, refl, sym, ap, ◌∙◌, subst, arith}
 use Rattle.std.specs.Prelude.{◌==◌}
 use Rattle.std.proofs.lemmas.Bool.{and_parts, ltb-true, eqb-true}
-use Rattle.rq_model.specs.Records.{Record, Register, Deregister, Enqueue, Dequeue}
-use Rattle.rq_model.specs.Records.{Kill, Version, One, Two}
+use Rattle.rq_model.specs.Records.{Record, Register, Deregister, Enqueue, Dequeue, Kill, Version, One, Two}
 use Rattle.rq_model.specs.States.{State}
 use Rattle.rq_model.specs.WellFormed.{IsWellFormed}
 use Rattle.rq_model.specs.Machine.{is_lawful, step}
@@ -15,7 +13,7 @@ use Rattle.rq_model.specs.StepLaws.{StepByParts}
 use Rattle.rq_model.proofs.Lists.{by_cases}
 use Rattle.rq_model.proofs.Decided.{registered_queue}
 use Rattle.rq_standing.specs.Parts.{ArePartsOf, Acted}
-use Rattle.rq_standing.specs.Standings.{HoldsState, Moved, queue_named}
+use Rattle.rq_standing.specs.Stands.{HoldsState, Moved, queue_named}
 use Rattle.rq_standing.specs.Units.{AreUnits}
 use Rattle.rq_standing.specs.declared.open_units.OpenUnits.{OpenUnits}
 use Rattle.rq_standing.specs.declared.queues.Queues.{Queues}

@@ -1,10 +1,5 @@
-mod Together
 mod Units
-mod StateUnits
 mod Acting
-mod Defining
+mod Together
 mod UnitEnds
-mod Arrivals
-mod Closing
-mod Lengths
 mod Spellings

@@ -1,11 +1,10 @@
--- What the parts of all queues have, one after the other, is the state's.
-use Rattle.std.proofs.Common.{◌≡◌, ℕ, zero, suc, ◌+◌, ◌<◌, ◌≤◌, true, ◌||◌, List, [], ◌∷◌, ◌++◌, length, take}
-use Rattle.std.proofs.Common.{refl, sym, ap, ◌∙◌, subst, arith, append_assoc, IsPermutation, sum_by, take_all}
-use Rattle.std.proofs.Common.{length-append}
-use Rattle.std.specs.Prelude.{◌==◌, ◌&&◌}
+-- What the parts of all queues have, one after the other, is the state's; and one part more.
+use Rattle.std.proofs.Common.{◌≡◌, ℕ, zero, suc, ◌+◌, ◌<◌, ◌≤◌, true, ◌||◌, List, [], ◌∷◌, ◌++◌, length, take, refl}
+use Rattle.std.proofs.Common.{sym, ap, ◌∙◌, subst, arith, append_assoc, IsPermutation, sum_by, take_all, length-append}
+use Rattle.std.specs.Prelude.{◌==◌, ◌&&◌, nat_lt}
 use Rattle.std.specs.List.{AllByRecursion, flat_map}
-use Rattle.std.proofs.lemmas.Bool.{eqb-true, lt-ltb}
-use Rattle.std.proofs.lemmas.List.{flat_map_more, take_more}
+use Rattle.std.proofs.lemmas.Bool.{eqb-true, lt-ltb, ltb-true, ltb-false}
+use Rattle.std.proofs.lemmas.List.{flat_map_more, take_more, get_or_append_left}
 use Rattle.std.proofs.lemmas.List.Sorted.{IsPermutation-refl}
 use Rattle.std.proofs.lemmas.List.Sums.{sum_by-cons}
 use Rattle.rq_model.specs.Laws.{gathered}
@@ -13,7 +12,7 @@ use Rattle.rq_model.specs.Queues.{Part, part_of, registrants_at}
 use Rattle.rq_model.specs.StateSpelling.{registrant_bytes}
 use Rattle.rq_model.specs.States.{State, Element, Registrant, registrant_before, name_before, id_before}
 use Rattle.rq_model.specs.WellFormed.{IsWellFormed, Ordered}
-use Rattle.rq_model.proofs.Lists.{each_weaker, each_append, each_passes}
+use Rattle.rq_model.proofs.Lists.{each_weaker, each_append, each_passes, by_cases}
 use Rattle.rq_model.proofs.Merged.{ordered_append, ordered_filter}
 use Rattle.rq_state.specs.Laws.{PartsMakeTheState, AnyOrderMakesTheState}
 use Rattle.rq_state.specs.Orders.{put_in_order, place_before}
@@ -21,6 +20,7 @@ use Rattle.rq_state.proofs.InOrder.{registrant_is_order}
 use Rattle.rq_state.proofs.Whole.{whole_itself}
 use Rattle.rq_queue.proofs.Gathered.{members}
 use Rattle.rq_standing.specs.Parts.{ArePartsOf, part_at, no_part}
+use Rattle.std.proofs.Math.Seq.{get_or-append_seam}
 
 -- Parts.
 
@@ -145,3 +145,18 @@ pub registrants_spelled : PartsMakeTheState → (s : State) (parts : List Part) 
     → flat_map (λ (p : Part). flat_map registrant_bytes p.registrants) parts ≡ flat_map registrant_bytes s.registrants
 registrants_spelled law s parts well are size = flat_flat registrant_bytes (λ (p : Part). p.registrants) parts
     ∙ ap (flat_map registrant_bytes) (registrants_together law s parts well are size)
+
+last_one : (k n : ℕ) → k < n + 1 → n ≤ k → n ≡ k
+last_one k n l h = omega (arith, l, h)
+
+-- the parts of the first queues, and that of the next one
+pub one_part_more : (s : State) (ps : List Part) (p : Part)
+    → ((k : ℕ) → k < length ps → part_at ps k ≡ part_of s k) → p ≡ part_of s (length ps)
+    → (k : ℕ) → k < length ps + 1 → part_at (ps ++ p ∷ []) k ≡ part_of s k
+one_part_more s ps p are is k l = by_cases (nat_lt k (length ps))
+    (λ b. nat_lt k (length ps) ≡ b → part_at (ps ++ p ∷ []) k ≡ part_of s k)
+    (λ _ t. let h : k < length ps = ltb-true k (length ps) t in
+    get_or_append_left ps (p ∷ []) no_part k h ∙ are k h)
+    (λ _ f. subst (λ n. part_at (ps ++ p ∷ []) n ≡ part_of s n) (last_one k (length ps) l (ltb-false k (length ps) f))
+    (get_or-append_seam ps p [] no_part ∙ is))
+    refl

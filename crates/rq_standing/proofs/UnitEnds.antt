@@ -1,20 +1,24 @@
--- The end of a unit goes over the queues that the unit named.
+-- The end of a unit: over the queues that it named, what arrives from there, and the state behind it.
 use Rattle.std.proofs.Common.{◌≡◌, ℕ, suc, ◌+◌, ◌<◌, ◌^◌, ◌++◌, Bool, true, false, cond, ◌&&◌, ◌||◌, List, [], ◌∷◌, map}
-use Rattle.std.proofs.Common.{length, refl, sym, ap, subst, ◌∙◌, arith, take, get_or}
+use Rattle.std.proofs.Common.{length, refl, sym, ap, subst, ◌∙◌, arith, take, get_or, ◌≢◌, reverse, ◌≤◌}
 use Rattle.std.specs.Prelude.{◌==◌, nat_lt, IsPermutation}
-use Rattle.std.specs.List.{list_any}
+use Rattle.std.specs.List.{list_any, AllByRecursion, filter}
 use Rattle.std.proofs.Math.Seq.{take-suc}
-use Rattle.std.proofs.lemmas.List.{append-nil}
+use Rattle.std.proofs.lemmas.List.{append-nil, reverse-append}
 use Rattle.std.proofs.lemmas.List.Elements.{filter-append}
 use Rattle.std.proofs.lemmas.List.Sorted.{IsPermutation-refl, IsPermutation-trans, IsPermutation-append_left}
-use Rattle.rq_model.specs.Records.{Record, Abort}
-use Rattle.rq_model.specs.States.{Element}
-use Rattle.rq_model.specs.Machine.{returned}
-use Rattle.rq_model.specs.Queues.{Part, Move, Transfer, moves_of}
-use Rattle.rq_model.specs.Redo.{act, sent}
-use Rattle.rq_model.specs.StepLaws.{coming, going, UnitEndsByParts}
+use Rattle.rq_model.specs.Records.{Record, Abort, Commit}
+use Rattle.rq_model.specs.States.{Element, State, definition_at}
+use Rattle.rq_model.specs.Machine.{returned, step, leaves, moved}
+use Rattle.rq_model.specs.Queues.{Part, Move, Transfer, moves_of, part_of, is_engaged, transfers_at}
+use Rattle.rq_model.specs.Redo.{act, sent, receive}
+use Rattle.rq_model.specs.StepLaws.{coming, going, UnitEndsByParts, aborted_part}
 use Rattle.rq_model.proofs.Lists.{by_cases, each_map, each_filter, each_of, each_weaker, filter_none}
-use Rattle.rq_standing.specs.Parts.{part_at, Ended, Send, Sends, Room}
+use Rattle.rq_standing.specs.Parts.{part_at, Ended, Send, Sends, Room, Received, CanArrive, HaveArrived, ArePartsOf}
+use Rattle.std.proofs.lemmas.Bool.{lt-ltb, eq-eqb, false≢true, false_from_ne_true, ltb-true, ltb-false, eqb-true}
+use Rattle.rq_model.specs.Redo.{AreNew}
+use Rattle.rq_model.specs.WellFormed.{IsWellFormed, IsElement}
+use Rattle.rq_model.specs.StepLaws.{StepByParts}
 
 joined : (f : Part → Part) (p : Part) → f (f p) ≡ f p → (a b l : Bool)
     → cond ((b || false) && l) (f (cond (a && l) (f p) p)) (cond (a && l) (f p) p) ≡ cond ((a || b) && l) (f p) p
@@ -144,3 +148,154 @@ pub none_sent : (ts : List Transfer) → Sends [] ts []
 none_sent ts home = subst (λ (ts : List Transfer). IsPermutation (coming home (map (λ (t : Transfer). t.move) ts)) [])
     (sym (filter_none (λ (t : Transfer). false) ts (each_of (λ (t : Transfer). false ≡ false) (λ _. refl) ts)))
     (IsPermutation-refl [])
+
+-- these are left of all that arrive
+pub record AreLeft (rest all : List Move) (old now : List Part) : Type 0 where
+  pub size : length now ≡ length old
+  pub can : CanArrive rest now
+  pub same : (queue : ℕ) → queue < length old
+      → receive (coming queue rest) (part_at now queue) ≡ receive (coming queue all) (part_at old queue)
+
+pub all_left : (all : List Move) (old : List Part) → CanArrive all old → AreLeft all all old old
+all_left all old can = record { size = refl; can = can; same = λ queue l. refl }
+
+pub none_left : (all coming : List Move) (old now : List Part) → length coming ≡ 0
+    → AreLeft (reverse coming) all old now → HaveArrived all old now
+none_left all [] old now h left queue within = left.same queue within
+none_left all (m ∷ coming) old now h left queue within = absurd (let no : ⊥ = grind (arith, h) in no)
+
+-- the next one is new where it arrives
+pub next_new : (m : Move) (rest all : List Move) (old now : List Part) → AreLeft (m ∷ rest) all old now
+    → m.element.home < length now
+    → AllByRecursion (λ (e : Element). e.id ≢ m.element.id) (part_at now m.element.home).elements
+next_new m rest all old now left within =
+    (subst (λ b. AreNew (cond b (m ∷ coming m.element.home rest) (coming m.element.home rest))
+    (part_at now m.element.home).elements) (eq-eqb m.element.home m.element.home refl)
+    (left.can m.element.home within)).0
+
+pub left_next : (m : Move) (rest all : List Move) (old mid new : List Part) → AreLeft (m ∷ rest) all old mid
+    → length new ≡ length mid → Received m mid new → AreLeft rest all old new
+left_next m rest all old mid new left size received = record {
+  size = size ∙ left.size;
+  can = λ queue within. let here : queue < length mid = subst (λ n. queue < n) size within in
+      by_cases (m.element.home == queue)
+      (λ b. part_at new queue ≡ cond (b && true) (receive (m ∷ []) (part_at mid queue)) (part_at mid queue)
+      → AreNew (cond b (m ∷ coming queue rest) (coming queue rest)) (part_at mid queue).elements
+      → AreNew (coming queue rest) (part_at new queue).elements)
+      (λ _ e new. subst (λ (p : Part). AreNew (coming queue rest) p.elements) (sym e) new.1)
+      (λ _ e new. subst (λ (p : Part). AreNew (coming queue rest) p.elements) (sym e) new)
+      (put queue here) (left.can queue here);
+  same = λ queue within. let here : queue < length mid = subst (λ n. queue < n) (sym left.size) within in
+      by_cases (m.element.home == queue)
+      (λ b. part_at new queue ≡ cond (b && true) (receive (m ∷ []) (part_at mid queue)) (part_at mid queue)
+      → receive (cond b (m ∷ coming queue rest) (coming queue rest)) (part_at mid queue)
+      ≡ receive (coming queue all) (part_at old queue)
+      → receive (coming queue rest) (part_at new queue) ≡ receive (coming queue all) (part_at old queue))
+      (λ _ e same. ap (receive (coming queue rest)) e ∙ same)
+      (λ _ e same. ap (receive (coming queue rest)) e ∙ same)
+      (put queue here) (left.same queue within);
+}
+  where
+    put : (queue : ℕ) → queue < length mid → part_at new queue
+        ≡ cond ((m.element.home == queue) && true) (receive (m ∷ []) (part_at mid queue)) (part_at mid queue)
+    put queue here = received queue
+        ∙ ap (λ b. cond ((m.element.home == queue) && b) (receive (m ∷ []) (part_at mid queue)) (part_at mid queue))
+        (lt-ltb queue (length mid) here)
+
+-- the last of a list goes, and what is left is read backwards
+pub popped : (old new : List Move) (m : Move) → old ≡ new ++ m ∷ [] → reverse old ≡ m ∷ reverse new
+popped old new m h = ap reverse h ∙ reverse-append new (m ∷ [])
+
+or_false : (b : Bool) → (b || false) ≡ b
+or_false true = refl
+or_false false = refl
+
+and_true : (b : Bool) → (b && true) ≡ b
+and_true true = refl
+and_true false = refl
+
+-- A COMMIT.
+
+pub committed_parts : StepByParts → (s : State) (u : ℕ) (queues : List ℕ) (old new : List Part) → IsWellFormed s
+    → length old ≡ length s.definitions → ArePartsOf s old
+    → ((q : ℕ) → is_engaged s q u ≡ true → list_any (λ v. v == q) queues ≡ true)
+    → Ended 0 (Commit u) queues old new → ArePartsOf (step s (Commit u)) new
+committed_parts law s u queues old new well size parts named done q within =
+    done q
+    ∙ ap (λ b. cond (list_any (λ v. v == q) queues && b) (act 0 (Commit u) (part_at old q)) (part_at old q))
+    (lt-ltb q (length old) (subst (λ n. q < n) (sym size) within))
+    ∙ ap (λ (p : Part). cond (list_any (λ v. v == q) queues && true) (act 0 (Commit u) p) p) (parts q within)
+    ∙ by_cases (list_any (λ v. v == q) queues)
+    (λ b. (is_engaged s q u ≡ true → b ≡ true) → cond (b && true) (act 0 (Commit u) (part_of s q)) (part_of s q) ≡ part_of (step s (Commit u)) q)
+    (λ _ _. sym (law.acts s (Commit u) q well within tt))
+    (λ _ no. sym (law.rests s (Commit u) q well within
+    (or_false (is_engaged s q u) ∙ false_from_ne_true (is_engaged s q u) (λ t. false≢true (no t)))))
+    (named q)
+
+-- An ABORT.
+
+not_home : (n k : ℕ) → k < n → (q : ℕ) → nat_lt q n ≡ false → (k == q) ≡ false
+not_home n k l q h = false_from_ne_true (k == q)
+    (λ t. let e : k ≡ q = eqb-true k q t in let m : n ≤ q = ltb-false q n h in let no : ⊥ = omega (arith, e, l, m) in no)
+
+-- nothing leaves a queue that is not there
+none_leave : StepByParts → (s : State) (u q : ℕ) → IsWellFormed s → nat_lt q (length s.definitions) ≡ false
+    → moves_of q (transfers_at s (Abort u)) ≡ []
+none_leave law s u q well out = law.sends s (Abort u) q tt
+    ∙ ap (λ (es : List Element). map (λ (e : Element). record { place = s.next; element = moved (definition_at s.definitions q) e })
+    (filter (leaves (definition_at s.definitions q) u) es))
+    (filter_none (λ (e : Element). e.home == q) s.elements
+    (each_weaker (IsElement s) (λ (e : Element). (e.home == q) ≡ false)
+    (λ e h. not_home (length s.definitions) e.home h.home q out) s.elements well.elements))
+
+pub all_send : StepByParts → (s : State) (u : ℕ) (old : List Part) → IsWellFormed s → length old ≡ length s.definitions
+    → ArePartsOf s old → Send s.next u old (transfers_at s (Abort u))
+all_send law s u old well size parts q = by_cases (nat_lt q (length old))
+    (λ b. nat_lt q (length old) ≡ b → moves_of q (transfers_at s (Abort u)) ≡ cond b (sent s.next (Abort u) (part_at old q)) [])
+    (λ _ t. law.sends s (Abort u) q tt ∙ ap (sent s.next (Abort u))
+    (sym (parts q (subst (λ n. q < n) size (ltb-true q (length old) t)))))
+    (λ _ f. none_leave law s u q well (ap (nat_lt q) (sym size) ∙ f)) refl
+
+-- the parts without what arrives
+pub midway : (s : State) (u : ℕ) (queues : List ℕ) (old mid : List Part) → length old ≡ length s.definitions → ArePartsOf s old
+    → Ended s.next (Abort u) queues old mid → (q : ℕ) → q < length s.definitions
+    → part_at mid q ≡ aborted_part s u q (list_any (λ v. v == q) queues)
+midway s u queues old mid size parts ended q within = ended q
+    ∙ ap (λ b. cond (list_any (λ v. v == q) queues && b) (act s.next (Abort u) (part_at old q)) (part_at old q))
+    (lt-ltb q (length old) (subst (λ n. q < n) (sym size) within))
+    ∙ ap (λ b. cond b (act s.next (Abort u) (part_at old q)) (part_at old q)) (and_true (list_any (λ v. v == q) queues))
+    ∙ ap (λ (p : Part). cond (list_any (λ v. v == q) queues) (act s.next (Abort u) p) p) (parts q within)
+
+-- what an ABORT goes over, and what was sent
+pub record Aborting (s : State) (u : ℕ) (queues : List ℕ) (ms : List Move) (old mid : List Part) : Type 0 where
+  pub well : IsWellFormed s
+  pub after : IsWellFormed (step s (Abort u))
+  pub size : length old ≡ length s.definitions
+  pub same : length mid ≡ length old
+  pub parts : ArePartsOf s old
+  pub named : (q : ℕ) → is_engaged s q u ≡ true → list_any (λ v. v == q) queues ≡ true
+  pub ended : Ended s.next (Abort u) queues old mid
+  pub sends : Sends queues (transfers_at s (Abort u)) ms
+
+pub can_arrive : UnitEndsByParts → (s : State) (u : ℕ) (queues : List ℕ) (ms : List Move) (old mid : List Part)
+    → Aborting s u queues ms old mid → CanArrive ms mid
+can_arrive law s u queues ms old mid a q within =
+    let here : q < length s.definitions = subst (λ n. q < n) (a.same ∙ a.size) within in
+    subst (λ (p : Part). AreNew (coming q ms) p.elements) (sym (midway s u queues old mid a.size a.parts a.ended q here))
+    (law.arrives s u q queues ms a.well a.after here a.named (a.sends q)).1
+
+pub aborted_parts : UnitEndsByParts → (s : State) (u : ℕ) (queues : List ℕ) (ms : List Move) (old mid new : List Part)
+    → Aborting s u queues ms old mid → HaveArrived ms mid new → ArePartsOf (step s (Abort u)) new
+aborted_parts law s u queues ms old mid new a arrived q within =
+    arrived q (subst (λ n. q < n) (sym (a.same ∙ a.size)) within)
+    ∙ ap (receive (coming q ms)) (midway s u queues old mid a.size a.parts a.ended q within)
+    ∙ (law.arrives s u q queues ms a.well a.after within a.named (a.sends q)).0
+
+-- attempts are fewer than records
+pub room_of : (s : State) (old : List Part) → IsWellFormed s → length old ≡ length s.definitions → ArePartsOf s old
+    → s.next + 2 < 2 ^ 64 → (q : ℕ) → q < length old → Room 2 (part_at old q)
+room_of s old well size parts fits q within =
+    subst (Room 2) (sym (parts q (subst (λ n. q < n) size within)))
+    (each_filter (λ (e : Element). e.attempts + 2 < 2 ^ 64) (λ (e : Element). e.home == q) s.elements
+    (each_weaker (IsElement s) (λ (e : Element). e.attempts + 2 < 2 ^ 64)
+    (λ e h. let few : e.attempts ≤ s.next = h.attempts in omega (arith, few, fits)) s.elements well.elements))

@@ -12,14 +12,11 @@ head_of s = to_be_bytes w64 s.next
     ++ (to_be_bytes w64 s.greatest ++ (to_be_bytes w64 s.committed
     ++ (to_be_bytes w64 s.aborted ++ to_be_bytes w32 (length s.definitions))))
 
--- its elements and notes, each list behind the number of its members
-abbrev pub elements_and_notes_of : State → List ℕ
-elements_and_notes_of s = counted element_bytes s.elements ++ counted note_bytes s.notes
-
--- all behind the head
+-- all behind the head, each list but that of the definitions behind the number of its members
 abbrev pub members_of : State → List ℕ
 members_of s = flat_map definition_bytes s.definitions ++ (counted (to_be_bytes w64) s.units
-    ++ (counted registrant_bytes s.registrants ++ elements_and_notes_of s))
+    ++ (counted registrant_bytes s.registrants
+    ++ (counted element_bytes s.elements ++ counted note_bytes s.notes)))
 
 -- the bytes of its numbers, and of its members, each in its shortest form
 abbrev pub least_bytes : State → ℕ

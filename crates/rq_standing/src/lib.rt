@@ -2,19 +2,13 @@
 //! judged and done, at the cost of the members that it touches.
 #![tactic(auto)]
 
-mod compared_parts;
-mod gathered;
 mod open_units;
-mod operations;
+mod parts;
 mod queues;
-mod received_moves;
 mod spelled;
 mod standing;
-mod start;
-mod taken;
-mod unit_ends;
+mod states;
 
 pub use open_units::OpenUnits;
 pub use queues::Queues;
-pub use standing::Standing;
-pub use taken::Taken;
+pub use standing::{Standing, Taken};

@@ -98,25 +98,16 @@ impl OpenUnits {
 
     /// Their numbers, rising.
     pub(crate) fn numbers(&self, alloc: Global) -> Result<Vec<UnitNo>, Fault>
-        ensures numbers { IfOk result (λ units. (s : State) → IsWellFormed s → AreUnits self.now s
-            → map unit_of units.items ≡ s.units) }
+        ensures numbers { IfOk result (λ units. map unit_of units.items ≡ keys self.now.named) }
+        ensures ordered { IfOk result (λ _. IsOrdered nat_cmp self.now.named) }
         ensures refused { IfErr result (λ e. e ≡ Resources) }
     {
-        let units = listed(alloc, &self.named)?;
+        let mut units = Vec::new(alloc);
+        for unit in self.named.keys() {
+            units.push(UnitNo(*unit))?;
+        }
         Ok(units)
     }
-}
-
-fn listed(alloc: Global, named: &BTreeMap<u64, Vec<u64>>) -> Result<Vec<UnitNo>, Fault>
-    ensures listed { IfOk result (λ units. map unit_of units.items ≡ keys named.now) }
-    ensures ordered { IfOk result (λ _. IsOrdered nat_cmp named.now) }
-    ensures refused { IfErr result (λ e. e ≡ Resources) }
-{
-    let mut units = Vec::new(alloc);
-    for unit in named.keys() {
-        units.push(UnitNo(*unit))?;
-    }
-    Ok(units)
 }
 
 // The numbers are to come next in the bytes. It looks at none behind the first that differs.

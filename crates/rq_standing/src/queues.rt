@@ -3,19 +3,17 @@
 ghost use Rattle.std.specs.Prelude.{◌≡◌, ◌<◌, ◌+◌, ◌^◌, IfOk, OnOk, IfErr, Some, None, length};
 ghost use Rattle.rq_model.specs.Machine.{step};
 ghost use Rattle.rq_model.specs.Records as records;
-ghost use Rattle.rq_model.specs.States.{State, empty};
+ghost use Rattle.rq_model.specs.States.{State};
 ghost use Rattle.rq_record.specs.Views.{record_of};
 ghost use Rattle.rq_record.specs.declared.fault.Fault.TheVariants.{Resources};
 ghost use Rattle.rq_state.specs.Views.{id_of};
 ghost use Rattle.rq_standing.specs.Parts.{Acted};
-ghost use Rattle.rq_standing.specs.Standings.{HoldsState, May, MaySome, Moved, MovesBy, TakesElement};
-ghost use Rattle.rq_standing.specs.Standings.{queue_named, unit_named};
+ghost use Rattle.rq_standing.specs.Stands.{HoldsState, May, MaySome, Moved, MovesBy, TakesElement};
+ghost use Rattle.rq_standing.specs.Stands.{queue_named, unit_named};
 
 use crate::open_units::OpenUnits;
-use crate::operations::{act_on, dequeue_on};
-use crate::received_moves::receive_all;
-use crate::start::{open_units_of, parts_of};
-use crate::unit_ends::{abort_all, commit_all};
+use crate::parts::{abort_all, act_on, commit_all, dequeue_on, receive_all};
+use crate::states::{open_units_of, parts_of};
 use rq_queue::{KeptOp, Part};
 use rq_record::{ElemId, Fault, KeptBy, KeptRecord, QueueNo, UnitNo};
 use rq_state::{Definition, copied_definitions};
@@ -35,22 +33,6 @@ pub struct Queues {
 }
 
 impl Queues {
-    /// No queues.
-    pub(crate) fn new(alloc: Global) -> Queues
-        ensures { HoldsState result empty }
-    {
-        rq_model::runs_are_well_formed();
-        Queues {
-            next: 0,
-            greatest: 0,
-            committed: 0,
-            aborted: 0,
-            definitions: Vec::new(alloc),
-            parts: Vec::new(alloc),
-            units: OpenUnits::none(alloc),
-        }
-    }
-
     /// The queues of the state. Refused with `Resources` alone.
     pub(crate) fn of(alloc: Global, state: &rq_state::State) -> Result<Queues, Fault>
         ensures holds { IfOk result (λ x. HoldsState x state.now) }

@@ -1,23 +1,81 @@
 //! Whether bytes spell the state that is held: what stands is compared with them as they come.
 
-ghost use Rattle.std.specs.Prelude.{◌≡◌, ◌≤◌, ◌&&◌, nat_le, is_some, sum_by};
-ghost use Rattle.std.specs.Prelude.{length, IfOk, OnOk, IfErr};
-ghost use Rattle.std.specs.Str.{bytes_eq};
-ghost use Rattle.rq_model.specs.States as states;
-ghost use Rattle.rq_model.specs.StateSpelling.{counted, registrant_bytes, element_bytes};
+ghost use Rattle.std.specs.Prelude.{◌≡◌, ◌<◌, length, sum_by, IfOk, IfErr, ◌≤◌, ◌&&◌, nat_le};
+ghost use Rattle.std.specs.Prelude.{is_some, OnOk};
+ghost use Rattle.std.specs.List.{flat_map};
+ghost use Rattle.std.specs.List.Sorted.{IsPermutation};
+ghost use Rattle.rq_model.specs.Queues as model;
+ghost use Rattle.rq_model.specs.StateSpelling.{registrant_bytes, counted, element_bytes};
 ghost use Rattle.rq_model.specs.StateSpelling.{note_bytes, state_bytes};
-ghost use Rattle.rq_queue.specs.Rooms.{member_bytes};
 ghost use Rattle.rq_record.specs.declared.fault.Fault.TheVariants.{Resources};
 ghost use Rattle.rq_state.specs.Comparing.{left_after};
+ghost use Rattle.std.specs.Str.{bytes_eq};
+ghost use Rattle.rq_model.specs.States as states;
+ghost use Rattle.rq_queue.specs.Rooms.{member_bytes};
 ghost use Rattle.rq_standing.specs.Spelled.{head_of, members_of, least_bytes};
-ghost use Rattle.rq_standing.specs.Standings.{HoldsState};
+ghost use Rattle.rq_standing.specs.Stands.{HoldsState};
 
-use crate::compared_parts::{compare_registrants_of, lent_elements, lent_notes, registrants_in};
 use crate::queues::Queues;
-use rq_queue::Part;
+use rq_queue::{LentElement, LentNote, Part};
 use rq_record::Fault;
 use rq_state::{Compared, SHORTEST_DEFINITION, SHORTEST_STATE, SHORTEST_UNIT, compare_all, order};
 use std::alloc::Global;
+
+/// How many registrants the parts have.
+pub(crate) fn registrants_in(parts: &[Part]) -> usize
+    requires { sum_by (λ (p : model.Part). length p.registrants) parts.now < 4294967296 }
+    ensures { result ≡ sum_by (λ (p : model.Part). length p.registrants) parts.now }
+{
+    let mut count = 0;
+    for part in parts {
+        count += part.registrant_count();
+    }
+    count
+}
+
+/// The spellings of the registrants are to come next in the bytes. It looks at no part behind the
+/// first that differs.
+pub(crate) fn compare_registrants_of(parts: &[Part], bytes: &mut Compared<'_>)
+    ensures { bytes.new ≡ left_after
+        (flat_map (λ (p : model.Part). flat_map registrant_bytes p.registrants) parts.now)
+        bytes.old }
+{
+    for part in parts {
+        if !bytes.agree() {
+            return;
+        }
+        part.compare_registrants(bytes);
+    }
+}
+
+/// Lends the elements, in some order.
+pub(crate) fn lent_elements<'a>(
+    alloc: Global,
+    parts: &'a [Part],
+) -> Result<Vec<LentElement<'a>>, Fault>
+    ensures lent { IfOk result (λ v.
+        IsPermutation (flat_map (λ (p : model.Part). p.elements) parts.now) v.items) }
+    ensures refused { IfErr result (λ e. e ≡ Resources) }
+{
+    let mut lent = Vec::new(alloc);
+    for part in parts {
+        part.lend_elements(&mut lent)?;
+    }
+    Ok(lent)
+}
+
+/// Lends the notes, those of each part by place.
+pub(crate) fn lent_notes<'a>(alloc: Global, parts: &'a [Part]) -> Result<Vec<LentNote<'a>>, Fault>
+    ensures lent { IfOk result
+        (λ v. v.items ≡ flat_map (λ (p : model.Part). p.notes) parts.now) }
+    ensures refused { IfErr result (λ e. e ≡ Resources) }
+{
+    let mut lent = Vec::new(alloc);
+    for part in parts {
+        part.lend_notes(&mut lent)?;
+    }
+    Ok(lent)
+}
 
 // Whether the members of the parts, each in its shortest form, are within so many bytes.
 fn parts_fit(parts: &[Part], room: u64) -> bool

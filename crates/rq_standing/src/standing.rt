@@ -11,11 +11,21 @@ ghost use Rattle.rq_record.specs.declared.fault.Fault.TheVariants.{Resources};
 ghost use Rattle.rq_standing.specs.Spelled.{least_bytes};
 ghost use Rattle.rq_standing.specs.Stands.{Stands, IsTakenAs, state_with};
 
+use crate::open_units::OpenUnits;
 use crate::queues::Queues;
-use crate::taken::Taken;
-use rq_catalog::Judge;
-use rq_record::{Fault, KeptRecord, Version};
+use rq_catalog::{Judge, Rule};
+use rq_record::{ElemId, Fault, KeptRecord, Version};
 use std::alloc::Global;
+
+/// What became of a record.
+#[derive(Clone, Copy)]
+pub enum Taken {
+    /// It is not lawful: it breaks this rule. Nothing was done.
+    Unlawful(Rule),
+    /// It was done. A DEQUEUE took the element of this id, or found none that it could take. Other
+    /// records take none.
+    Done(Option<ElemId>),
+}
 
 /// The queues as they stand, which go along with records in place. It says of each record whether
 /// it is lawful, and does it if it is. That costs the members that the record touches, times a
@@ -31,9 +41,19 @@ impl Standing {
     pub fn new(alloc: Global, version: Version) -> Standing
         ensures { Stands (version_of version) result empty }
     {
+        rq_model::runs_are_well_formed();
+        let queues = Queues {
+            next: 0,
+            greatest: 0,
+            committed: 0,
+            aborted: 0,
+            definitions: Vec::new(alloc),
+            parts: Vec::new(alloc),
+            units: OpenUnits::none(alloc),
+        };
         Standing {
             judge: Judge::new(alloc, version),
-            queues: Queues::new(alloc),
+            queues,
         }
     }
 

@@ -1,17 +1,18 @@
 -- What the arrivals of a closed countdown came to: by the rule, and by one pass that has all parts.
 use Rattle.std.proofs.Common.{◌≡◌, ◌≢◌, ◌⊎◌, ℕ, zero, suc, ◌+◌, ◌-◌, ◌<◌, ◌≤◌, eqb, eq-eqb, ne_eqb, List, [], ◌∷◌, ◌++◌}
-use Rattle.std.proofs.Common.{map, length, get_or, take, sum_by, flat_map, All, slice_index_or, sym, refl, ap, ◌∙◌, subst}
-use Rattle.std.proofs.Common.{⊎_elim, inl, inr, arith, Option, Some, None, option_to_list, length-append, set}
+use Rattle.std.proofs.Common.{map, length, get_or, take, sum_by, flat_map, All, slice_index_or, sym, refl, ap, ◌∙◌}
+use Rattle.std.proofs.Common.{subst, ⊎_elim, inl, inr, arith, Option, Some, None, option_to_list, length-append, set}
 use Rattle.std.specs.Option.{ForSome, ForNone}
 use Rattle.std.proofs.lemmas.List.Sums.{sum_by-cons, sum_by-le, get_or-le-sum_by}
-use Rattle.rq_pool.proofs.Countdowns.Words.{some, none, some-injective, some-ne-none, dite, ℕ_discrete, get_elem?, State}
-use Rattle.rq_pool.proofs.Countdowns.Words.{Final, Seen, at_longer, at_map, set_else, Made, View, Terms, total, Phase, clear}
-use Rattle.rq_pool.proofs.Countdowns.Words.{away, home, gone, back, flag, waits, is_away, is_done, is_shut, outbox_of, place}
-use Rattle.rq_pool.proofs.Countdowns.Words.{count, add_some, somes, one_if, here, parts, stands_at, names, made_for, lasts}
-use Rattle.rq_pool.proofs.Countdowns.Words.{times_told, HasMade, HasLast, SomeView, IsOpen, IsShut, Held, spent_view, Entry}
-use Rattle.rq_pool.proofs.Countdowns.Words.{Arrival, if_twice, refused_outboxes, back_in, made_by, made_in, refused_in, only}
-use Rattle.rq_pool.proofs.Countdowns.Words.{if_kept, if_last, arrivals_for, kept_for, kept_from, last_lists, Settled}
-use Rattle.rq_pool.proofs.Countdowns.Words.{all_made, length-map, nil_from_length}
+use Rattle.rq_pool.proofs.Countdowns.Words.{some, none, some-injective, some-ne-none, dite, ℕ_discrete, get_elem?}
+use Rattle.rq_pool.proofs.Countdowns.Words.{State, Final, Seen, at_longer, at_map, set_else, Made, View, Terms, total}
+use Rattle.rq_pool.proofs.Countdowns.Words.{Phase, clear, away, home, gone, back, flag, waits, is_away, is_done}
+use Rattle.rq_pool.proofs.Countdowns.Words.{is_shut, outbox_of, place, count, add_some, somes, one_if, here, parts}
+use Rattle.rq_pool.proofs.Countdowns.Words.{stands_at, names, made_for, lasts, times_told, HasMade, HasLast, SomeView}
+use Rattle.rq_pool.proofs.Countdowns.Words.{IsOpen, IsShut, Held, spent_view, Entry, Arrival, if_twice}
+use Rattle.rq_pool.proofs.Countdowns.Words.{refused_outboxes, back_in, made_by, made_in, refused_in, only, if_kept}
+use Rattle.rq_pool.proofs.Countdowns.Words.{if_last, arrivals_for, kept_for, kept_from, last_lists, Settled, all_made}
+use Rattle.rq_pool.proofs.Countdowns.Words.{all_refused, flat_map-append, length-map, nil_from_length}
 use Rattle.rq_pool.specs.declared.countdown.fits.Fits.{Ghosts}
 use Rattle.rq_pool.specs.declared.countdown.pass.Pass.{Pass}
 use Rattle.rq_pool.specs.Countdowns.Words.{TellsLast}
@@ -26,7 +27,8 @@ module _ {A : Type 0} where
       → (i : ℕ) × (x : A) × (get_elem? xs i ≡ some x) × (0 < f x)
   some_counts f [] h = absurd (omega arith)
   some_counts f (x ∷ xs) h = dite (ℕ_discrete (f x) 0)
-      (λ zero_here. let r = some_counts f xs (omega arith) in (suc r.0, r.1, r.2, r.3)) (λ one. (0, x, refl, omega arith))
+      (λ zero_here. let r = some_counts f xs (omega arith) in (suc r.0, r.1, r.2, r.3))
+      (λ one. (0, x, refl, omega arith))
 
   lone : (xs : List A) (k : ℕ) (x : A) → get_elem? xs k ≡ some x → length xs ≡ 1 → xs ≡ x ∷ []
   lone [] k x e one = absurd (omega arith)
@@ -168,6 +170,11 @@ module _ {T : Type 0} where
   pub one_more : (h h' : List T) (o : Option T) (i : ℕ) → length h ≤ i → h' ≡ h ++ option_to_list o → length h' ≤ i + 1
   one_more h h' o i short is = grind (arith, length-append)
 
+module _ {A T K : Type 0} (g : A → View T K) (each : (p : A) → (g p).parts ≡ 1) where
+  pub parts_long : (ps : List A) → total parts (map g ps) ≡ length ps
+  parts_long [] = refl
+  parts_long (p ∷ ps) = let q = each p in let r = parts_long ps in omega arith
+
 module _ {A T K : Type 0} (g : A → View T K) where
   lasts_total : (xs : List A) → total times_told (all_made (map g xs)) ≡ sum_by (λ x. lasts (g x)) xs
   lasts_total [] = refl
@@ -183,6 +190,24 @@ module _ {A T K : Type 0} (g : A → View T K) where
   one_last xs k near one = let x = (there xs k near).0 in let at = one x in
       omega (arith, lasts_total xs, get_or-le-sum_by (λ x. lasts (g x)) xs k x near)
 
+module _ {A T K : Type 0} (g : A → View T K) (d : A → List (Entry T)) where
+  pub all_made_in : ((p : A) → made_in (d p) ≡ (g p).made) → (ps : List A)
+      → made_in (flat_map d ps) ≡ all_made (map g ps)
+  all_made_in each [] = refl
+  all_made_in each (p ∷ ps) = flat_map-append _ (d p) (flat_map d ps) ∙ (λ j. each p j ++ all_made_in each ps j)
+
+  pub all_refused_in : ((p : A) → refused_in (d p) ≡ (g p).refused) → (ps : List A)
+      → refused_in (flat_map d ps) ≡ all_refused (map g ps)
+  all_refused_in each [] = refl
+  all_refused_in each (p ∷ ps) = flat_map-append _ (d p) (flat_map d ps) ∙ (λ j. each p j ++ all_refused_in each ps j)
+
+module _ {A T : Type 0} (d : A → List (Entry T)) where
+  pub all_back : ((p : A) → back_in (d p) ≡ refused_outboxes (d p)) → (ps : List A)
+      → back_in (flat_map d ps) ≡ refused_outboxes (flat_map d ps)
+  all_back each [] = refl
+  all_back each (p ∷ ps) = flat_map-append _ (d p) (flat_map d ps) ∙ (λ j. each p j ++ all_back each ps j)
+      ∙ sym (flat_map-append _ (d p) (flat_map d ps))
+
 module _ {T K : Type 0} {g : Ghosts T K} where
   of_pass : (p : Pass T K g) → length (last_lists p.diary) ≡ lasts p.seat.me.0
   of_pass p = lasts_in p.diary ∙ ap (total times_told) p.told.0
@@ -191,7 +216,8 @@ module _ {T K : Type 0} {g : Ghosts T K} where
       → ForSome o (λ k. (k < length ps) × ((d : Pass T K g) → lasts (slice_index_or ps k d).seat.me.0 ≡ 1))
       → ForNone o (All (λ p. lasts p.seat.me.0 ≡ 0) ps) → TellsLast ps o
   tells_last ps (Some k) was was_not = ((was k refl).0, λ d. of_pass (slice_index_or ps k d) ∙ (was k refl).1 d)
-  tells_last ps None was was_not = λ k d near. nil_from_length _ (of_pass (slice_index_or ps k d) ∙ was_not refl k d near)
+  tells_last ps None was was_not = λ k d near.
+      nil_from_length _ (of_pass (slice_index_or ps k d) ∙ was_not refl k d near)
 
 module _ {T K : Type 0} (fits : K → ℕ → T → Type 0) (terms : Terms K) (s : State (Option T) (View T K))
     (h : Held fits terms s) (id : ℕ) (v : View T K) (at : get_elem? s.views id ≡ some v)
@@ -237,12 +263,13 @@ module _ {T K : Type 0} (fits : K → ℕ → T → Type 0) (terms : Terms K) (s
       ⊎_elim (λ (c : p ≡ clear). let no_kept = long ∙ ap is_done c in let no_name =
       none_named i (refused_in es) (λ k is. let b =
       (h.each_pass id v at).set_before k i (ap (λ l. get_elem? l k) (sym refused) ∙ is) in let set = b.2 in
-      omega (arith, ap flag (some-injective b.0 p (sym b.1 ∙ e)), ap flag c)) in
-      inl (c, nil_from_length (kept_for i es) no_kept, nil_from_length (arrivals_for i es) (omega (arith, arrivals_long i es))))
+      omega (arith, ap flag (some-injective b.0 p (sym b.1 ∙ e)), ap flag c)) in let all = arrivals_long i es in
+      inl (c, nil_from_length (kept_for i es) no_kept, nil_from_length (arrivals_for i es) (omega arith)))
       (λ (x : (x : T) × Counted p x). let m = has_it (HasMade i x.0) (λ m. some-ne-none m.1 (sym m.2))
       (src.holding x.0 x.1.4).1 in let k =
-      carried _ _ x.0 (λ m. (m.source ≡ i) × (m.outbox ≡ x.0)) (λ e. kept_by i x.0 e.source e.outbox e.answer) es m.0 m.1
-      m.2 (m.3, m.4) in inr (x.0, x.1, lone (kept_for i es) k.0 x.0 k.1 (long ∙ x.1.3))) (by_phase p (none_away i p e))
+      carried (λ e. only (eqb e.source i) (if_kept e.outbox e.answer)) (λ e. made_by e.source e.outbox e.answer) x.0
+      (λ m. (m.source ≡ i) × (m.outbox ≡ x.0)) (λ e. kept_by i x.0 e.source e.outbox e.answer) es m.0 m.1 m.2
+      (m.3, m.4) in inr (x.0, x.1, lone (kept_for i es) k.0 x.0 k.1 (long ∙ x.1.3))) (by_phase p (none_away i p e))
 
   whole_kept : kept_from 0 (length ps) es ≡ outs ps
   whole_kept = outs_kept ps 0 es (λ i p e j is. let same : i ≡ j = omega arith in

@@ -1,6 +1,6 @@
 -- The slots of the last, while it empties one after the other.
-use Rattle.std.proofs.Common.{◌≡◌, ℕ, suc, ◌+◌, ◌<◌, List, [], ◌∷◌, ◌++◌, map, length, drop, take, replicate, sym}
-use Rattle.std.proofs.Common.{refl, ap, ◌∙◌, subst, arith, Option, Some, None, append_assoc, add-one}
+use Rattle.std.proofs.Common.{◌≡◌, ℕ, suc, ◌+◌, ◌<◌, List, [], ◌∷◌, ◌++◌, map, length, drop, take, replicate, sym, refl}
+use Rattle.std.proofs.Common.{ap, ◌∙◌, subst, arith, Option, Some, None, append_assoc, add-one}
 use Rattle.atomic_table.proofs.Lists.{drop_at}
 use Rattle.rq_pool.proofs.Countdowns.Words.{rest, indexed, outboxes_in, length-replicate, replicate_more}
 use Rattle.rq_pool.proofs.Totals.{there, read}

@@ -1,12 +1,13 @@
--- The table at the start, a view that is cut in two, and two views that are made one.
+-- The table at the start, a view that is cut in two, and views that are made one.
 use Rattle.std.proofs.Common.{◌≡◌, ◌⊎◌, ℕ, zero, suc, ◌+◌, ◌<◌, List, [], ◌∷◌, ◌++◌, map, set, replicate, sym, refl, ap}
-use Rattle.std.proofs.Common.{◌∙◌, subst, ⊎_elim, inl, inr, arith, Option, Some, None}
+use Rattle.std.proofs.Common.{◌∙◌, subst, ⊎_elim, inl, inr, arith, Option, Some, None, append_assoc, append-nil, flat_map}
 use Rattle.std.proofs.lemmas.List.{get_or-replicate}
 use Rattle.rq_pool.proofs.Countdowns.Words.{some, some-injective, some-ne-none, dite, ℕ_discrete, get_elem?, State}
-use Rattle.rq_pool.proofs.Countdowns.Words.{opening, Splits, Joins, set_here, set_else, at_longer, Made, View, Terms, total}
-use Rattle.rq_pool.proofs.Countdowns.Words.{Phase, clear, flag, is_shut, place, count, here, parts, stands_at, names}
-use Rattle.rq_pool.proofs.Countdowns.Words.{made_for, times_told, lasts, view, HasMade, HasLast, SomeView, AtSource, Knows}
-use Rattle.rq_pool.proofs.Countdowns.Words.{Held, left_of, right_of, both_of, spent_view, length-replicate}
+use Rattle.rq_pool.proofs.Countdowns.Words.{opening, Splits, Joins, set_here, set_else, at_longer, Made, View, Terms}
+use Rattle.rq_pool.proofs.Countdowns.Words.{total, Phase, clear, flag, is_shut, place, count, here, parts, stands_at}
+use Rattle.rq_pool.proofs.Countdowns.Words.{names, made_for, times_told, lasts, view, HasMade, HasLast, SomeView}
+use Rattle.rq_pool.proofs.Countdowns.Words.{AtSource, Knows, Held, left_of, right_of, both_of, spent_view}
+use Rattle.rq_pool.proofs.Countdowns.Words.{length-replicate, all_made, all_refused, map_push, flat_map-append}
 use Rattle.rq_pool.proofs.Totals.{read, total_set, total_append, Each, each_set, each_snoc}
 use Rattle.rq_pool.proofs.Countdowns.Views.{some_set, knows_still, knows_spent, told_still}
 
@@ -147,3 +148,33 @@ module _ {T K : Type 0} (fits : K → ℕ → T → Type 0) (terms : Terms K) wh
       (λ k i g. ⊎_elim (λ (n : (l : ℕ) × (get_elem? w.refused l ≡ some i)). (each other w was).set_before n.0 i n.1)
       (λ (n : (l : ℕ) × (get_elem? v.refused l ≡ some i)). (each id v at).set_before n.0 i n.1)
       (at_either w.refused v.refused k i g))) (λ k z _. each k z) j y))
+
+module _ {A T K : Type 0} (g : A → View T K) where
+  further : {B : Type 0} (f : View T K → List B) (ys xs : List A) (x : A) (a b all : List B) → ys ≡ xs ++ x ∷ []
+      → b ≡ f (g x) ++ a → flat_map f (map g ys) ++ a ≡ all → flat_map f (map g xs) ++ b ≡ all
+  further f ys xs x a b all e is h = ap (λ l. flat_map f (map g xs) ++ l) is
+      ∙ sym (append_assoc (flat_map f (map g xs)) (f (g x)) a)
+      ∙ ap (λ l. (flat_map f (map g xs) ++ l) ++ a) (sym (append-nil (f (g x))))
+      ∙ ap (λ l. l ++ a) (sym (ap (λ l. flat_map f (map g l)) e ∙ ap (flat_map f) (map_push g xs x)
+      ∙ flat_map-append f (map g xs) (g x ∷ []))) ∙ h
+
+  -- v has what the others made; v and what is left of the passes make up all passes
+  abbrev pub Holds : List A → View T K → List A → Type 0
+  Holds xs v all = (total parts (map g xs) + v.parts ≡ total parts (map g all))
+      × (all_made (map g xs) ++ v.made ≡ all_made (map g all))
+      × (all_refused (map g xs) ++ v.refused ≡ all_refused (map g all))
+
+  pub goes_on : (all ys xs : List A) (x : A) (v w : View T K) → ys ≡ xs ++ x ∷ [] → w.parts ≡ v.parts + (g x).parts
+      → w.made ≡ (g x).made ++ v.made → w.refused ≡ (g x).refused ++ v.refused → Holds ys v all → Holds xs w all
+  goes_on all ys xs x v w e p m r h = (
+    (let a = ap (λ l. total parts (map g l)) e ∙ ap (total parts) (map_push g xs x)
+        ∙ total_append parts (map g xs) (g x ∷ []) in let d = h.0 in omega arith),
+    further (λ u. u.made) ys xs x v.made w.made (all_made (map g all)) e m h.1,
+    further (λ u. u.refused) ys xs x v.refused w.refused (all_refused (map g all)) e r h.2,
+  )
+
+  pub begins : (all xs : List A) (x : A) (v : View T K) → all ≡ xs ++ x ∷ [] → v ≡ g x → Holds xs v all
+  begins all xs x v e is = subst (λ (w : View T K). Holds xs w all) (sym is)
+      (goes_on all all xs x spent_view (g x) e (omega arith) (sym (append-nil (g x).made))
+      (sym (append-nil (g x).refused))
+      (omega arith, append-nil (all_made (map g all)), append-nil (all_refused (map g all))))

@@ -1,22 +1,22 @@
--- Each step of a pass keeps the rule: the swap on a source's flag, the fetch_sub on the count, and the load by which the
--- last gives all slots back.
+-- Each step of a pass keeps the rule: the swap on a source's flag, the fetch_sub on the count, and the load by
+-- which the last gives all slots back.
 use Rattle.std.proofs.Common.{◌≡◌, ◌≢◌, ◌⊎◌, ℕ, zero, suc, ◌+◌, ◌-◌, ◌%◌, ◌^◌, ◌<◌, eqb, eq-eqb, ne_eqb, List, [], ◌∷◌}
-use Rattle.std.proofs.Common.{◌++◌, map, length, get_or, set, replicate, sym, refl, ap, ◌∙◌, subst, ⊎_elim, inl, inr, arith}
-use Rattle.std.proofs.Common.{Option, Some, None, length-set, append-nil, append_assoc}
+use Rattle.std.proofs.Common.{◌++◌, map, length, get_or, set, replicate, sym, refl, ap, ◌∙◌, subst, ⊎_elim, inl, inr}
+use Rattle.std.proofs.Common.{arith, Option, Some, None, length-set, append-nil, append_assoc}
 use Rattle.std.proofs.lemmas.List.{set-get_or, set_at}
-use Rattle.rq_pool.proofs.Countdowns.Words.{some, none, some-injective, some-ne-none, dite, ℕ_discrete, get_elem?, map-set}
-use Rattle.rq_pool.proofs.Countdowns.Words.{map-set_same, map-map, get_or-map, length-map, length_push, State, Me, step, Act}
-use Rattle.rq_pool.proofs.Countdowns.Words.{keeps, takes, gives, chain, stepped, Valid, Allows, carried_after, homes_after}
-use Rattle.rq_pool.proofs.Countdowns.Words.{rest, at_snoc, at_map, at_longer, at_last, set_here, set_again, View}
-use Rattle.rq_pool.proofs.Countdowns.Words.{Terms, Phase, clear, away, home, gone, back, flag, waits, is_away, is_shut}
-use Rattle.rq_pool.proofs.Countdowns.Words.{place, count, indexed, one_if, here, parts, stands_at, names, lasts}
-use Rattle.rq_pool.proofs.Countdowns.Words.{view, made_of, after, HasMade, HasLast, AtSource, IsSet, Knows, IsOpen, IsShut}
-use Rattle.rq_pool.proofs.Countdowns.Words.{Held, Fit, claimed, tallied, hands_back}
+use Rattle.rq_pool.proofs.Countdowns.Words.{some, none, some-injective, some-ne-none, dite, ℕ_discrete, get_elem?}
+use Rattle.rq_pool.proofs.Countdowns.Words.{map-set, map-set_same, map-map, get_or-map, length-map, length_push, State}
+use Rattle.rq_pool.proofs.Countdowns.Words.{Me, step, Act, keeps, takes, gives, chain, stepped, Valid, Allows}
+use Rattle.rq_pool.proofs.Countdowns.Words.{carried_after, homes_after, rest, at_snoc, at_map, at_longer, at_last}
+use Rattle.rq_pool.proofs.Countdowns.Words.{set_here, set_again, View, Terms, Phase, clear, away, home, gone, back}
+use Rattle.rq_pool.proofs.Countdowns.Words.{flag, waits, is_away, is_shut, place, count, indexed, one_if, here, parts}
+use Rattle.rq_pool.proofs.Countdowns.Words.{stands_at, names, lasts, view, made_of, after, HasMade, HasLast, AtSource}
+use Rattle.rq_pool.proofs.Countdowns.Words.{IsSet, Knows, IsOpen, IsShut, Held, Fit, claimed, tallied, hands_back}
 use mathlib.Core.Option as maybe
 use Rattle.rq_pool.proofs.Totals.{there, read, from_map, total_set, total_at, total_append, Each, each_set}
 use Rattle.rq_pool.proofs.Countdowns.Views.{one_slot, set_still, Counts, words_counted, set_counted, shut_as, some_set}
-use Rattle.rq_pool.proofs.Countdowns.Views.{same_total, source_set, sources_counted, knows_still, passes_set, told_still}
-use Rattle.rq_pool.proofs.Countdowns.Views.{lasts_after}
+use Rattle.rq_pool.proofs.Countdowns.Views.{same_total, source_set, sources_counted, knows_still, passes_set}
+use Rattle.rq_pool.proofs.Countdowns.Views.{told_still, lasts_after}
 
 module _ {S : Type 0} where
   -- the last slot first, so that the first is the one taken last
@@ -52,7 +52,8 @@ module _ {S : Type 0} where
   giving [] front hs x k e is = (tt, is, refl)
   giving (h ∷ later) front hs x k e is = let q =
       giving later (front ++ some x ∷ []) (set hs k (some x)) x (suc k) (omega (arith, length_push front (some x)))
-      (ap (λ l. set l k (some x)) is ∙ set_at front h later (some x) k e ∙ sym (append_assoc front (some x ∷ []) later)) in
+      (ap (λ l. set l k (some x)) is ∙ set_at front h later (some x) k e
+      ∙ sym (append_assoc front (some x ∷ []) later)) in
       ((tt, q.0), q.1 ∙ append_assoc front (some x ∷ []) (map (λ (h : maybe.Option S). some x) later), q.2)
 
 module _ {T : Type 0} where
@@ -151,7 +152,8 @@ module _ {T K : Type 0} (fits : K → ℕ → T → Type 0) (terms : Terms K) wh
           words_are = ap (set s.words (suc i)) (sym found) ∙ set-get_or s.words (suc i) 0 ∙ h.words_are;
           homes_are = h.homes_are;
           all_parts = same_total parts s.views id v w at refl ∙ h.all_parts;
-          each_source = λ j q e. source_set (fits terms.key) s.views id v w j q q at (omega (arith, ap (here j) idle)) refl
+          each_source = λ j q e. source_set (fits terms.key) s.views id v w j q q at
+              (omega (arith, ap (here j) idle)) refl
               (λ x had. had) (λ x is. inl is) (h.each_source j q e);
           each_pass = passes_set terms.key ps ps s.views id w (λ j is. is)
               (knows_still terms.key ps ps v w part part refl old (λ k j e. ⊎_elim (old.set_before k j)
@@ -231,8 +233,8 @@ module _ {T K : Type 0} (fits : K → ℕ → T → Type 0) (terms : Terms K) wh
           (fit, (length v.made, made_of i x ys, at_last v.made (made_of i x ys) (length v.made) refl, refl, refl))))
           (h.each_source i away at_away))
           (λ j p other e. let z : one_if (eqb i j) ≡ 0 = ap one_if (ne_eqb i j (λ q. other (sym q))) in
-          source_set (fits terms.key) s.views id v w j p p at (omega (arith, ap (here j) stands)) (omega (arith, more j))
-          (grows j) (λ y is. inl is) (h.each_source j p e))
+          source_set (fits terms.key) s.views id v w j p p at (omega (arith, ap (here j) stands))
+          (omega (arith, more j)) (grows j) (λ y is. inl is) (h.each_source j p e))
 
       passes' : (qs : List (Phase T)) → ((j : ℕ) → IsSet ps j → IsSet qs j)
           → Each (λ _. Knows terms.key qs) (set s.views id w)
@@ -281,7 +283,8 @@ module _ {T K : Type 0} (fits : K → ℕ → T → Type 0) (terms : Terms K) wh
         all_home ps' (omega arith) none_shut' in let ys : List T = all.0 in let u : View T K = w (Some ys) in
         let in_home : map place (map home ys) ≡ map some (map Some ys) = simp map-map in
         let t : Act (Option T) = take_all 0 (map Some ys) in let took =
-        taking (map Some ys) [] (homes_after s.homes c gives) (rest c) 0 refl (homes' ∙ ap (map place) all.1 ∙ in_home) in
+        taking (map Some ys) [] (homes_after s.homes c gives) (rest c) 0 refl
+        (homes' ∙ ap (map place) all.1 ∙ in_home) in
         let at_home : Counts {T = T} home = λ y. (refl, refl, refl, refl, refl) in
         let now_gone : Counts {T = T} gone = λ y. (refl, refl, refl, refl, refl) in
         let words = words_counted gone now_gone ys in
@@ -357,33 +360,29 @@ module _ {T K : Type 0} (fits : K → ℕ → T → Type 0) (terms : Terms K) wh
       words_counted back now_back ys in let before = words_counted f.0 f.2 ys in
       let nothing : Option T = None in let g = giving s.homes [] s.homes nothing 0 refl refl in
       let c = has ∙ ap (λ n. indexed 0 (replicate n nothing)) (sym wide) in
-      let at_home : map place (map back ys) ≡ map (λ (h : maybe.Option (Option T)). some nothing) (map place (map f.0 ys)) =
-      simp map-map in (
+      let give : Act (Option T) = give_all (length s.homes) in let words : List ℕ =
+      set s.words 0 (get_or s.words 0 0) in let homes : List (maybe.Option (Option T)) =
+      homes_after s.homes me.1 give in
+      let same = sym (set_again s.views id me.0 at) in (
         me.0,
-        give_all (length s.homes),
-        subst (λ d. Valid s.homes d (give_all (length s.homes))) (sym c) g.0,
-        subst (λ views. H record {
-          words = set s.words 0 (get_or s.words 0 0);
-          homes =
-              homes_after s.homes me.1 (give_all (length s.homes));
-          views = views;
-        }) (sym (set_again s.views id me.0 at))
-            record {
-              phases = map back ys;
-              words_are = set-get_or s.words 0 0 ∙ h.words_are ∙ ap (λ l. count l ∷ map flag l) f.1
-                  ∙ (λ j. (before.0 ∙ sym now.0) j ∷ (before.1 ∙ sym now.1) j);
-              homes_are = ap (λ d. homes_after s.homes d (give_all (length s.homes))) c ∙ g.1
-                  ∙ ap (map (λ _. some nothing)) (h.homes_are ∙ ap (map place) f.1) ∙ sym at_home;
-              all_parts = h.all_parts;
-              each_source = sources_counted (fits terms.key) s.views f.0 back f.2 now_back ys
-                  (subst (Each (AtSource (fits terms.key) s.views)) f.1 h.each_source);
-              each_pass = λ j u e. let old = h.each_pass j u e in record {
-                same_key = old.same_key;
-                idle = old.idle;
-                set_before = λ k i is. set_counted f.0 back now_back ys i
-                    (subst (λ l. IsSet l i) f.1 (old.set_before k i is));
-              };
-              told_once = inr record { outboxes = ys; all_shut = inr refl; one = o.one; has_it = o.has_it };
-            },
-        λ j. (me.0, (ap (λ d. carried_after d (give_all (length s.homes))) c ∙ g.2) j),
+        give,
+        subst (λ d. Valid s.homes d give) (sym c) g.0,
+        subst (λ views. H record { words = words; homes = homes; views = views }) same record {
+          phases = map back ys;
+          words_are = set-get_or s.words 0 0 ∙ h.words_are ∙ ap (λ l. count l ∷ map flag l) f.1
+              ∙ (λ j. (before.0 ∙ sym now.0) j ∷ (before.1 ∙ sym now.1) j);
+          homes_are = ap (λ d. homes_after s.homes d give) c ∙ g.1
+              ∙ ap (map (λ _. some nothing)) (h.homes_are ∙ ap (map place) f.1) ∙ (simp map-map);
+          all_parts = h.all_parts;
+          each_source = sources_counted (fits terms.key) s.views f.0 back f.2 now_back ys
+              (subst (Each (AtSource (fits terms.key) s.views)) f.1 h.each_source);
+          each_pass = λ j u e. let old = h.each_pass j u e in record {
+            same_key = old.same_key;
+            idle = old.idle;
+            set_before = λ k i is. set_counted f.0 back now_back ys i
+                (subst (λ l. IsSet l i) f.1 (old.set_before k i is));
+          };
+          told_once = inr record { outboxes = ys; all_shut = inr refl; one = o.one; has_it = o.has_it };
+        },
+        λ j. (me.0, (ap (λ d. carried_after d give) c ∙ g.2) j),
       )

@@ -2,16 +2,16 @@
 use Rattle.std.proofs.Common.{◌≡◌, ◌⊎◌, ℕ, ◌+◌, ◌<◌, List, [], ◌∷◌, map, length, set, sym, refl, ap, ◌∙◌, subst, ⊎_elim}
 use Rattle.std.proofs.Common.{inl, inr, arith, Option, Some}
 use Rattle.rq_pool.proofs.Countdowns.Words.{some, some-injective, some-ne-none, dite, ℕ_discrete, get_elem?, at_map}
-use Rattle.rq_pool.proofs.Countdowns.Words.{set_here, set_else, Made, View, total, Phase, back, gone, flag, waits, count}
-use Rattle.rq_pool.proofs.Countdowns.Words.{is_away, is_done, is_shut, outbox_of, stands_at, made_for, times_told, lasts}
-use Rattle.rq_pool.proofs.Countdowns.Words.{count_told, after, made_of, spent_view, HasMade, HasLast, SomeView}
-use Rattle.rq_pool.proofs.Countdowns.Words.{AtSource, IsSet, Knows, IsOpen, IsShut}
+use Rattle.rq_pool.proofs.Countdowns.Words.{set_here, set_else, Made, View, total, Phase, back, gone, flag, waits}
+use Rattle.rq_pool.proofs.Countdowns.Words.{count, is_away, is_done, is_shut, outbox_of, stands_at, made_for}
+use Rattle.rq_pool.proofs.Countdowns.Words.{times_told, lasts, count_told, after, made_of, spent_view, HasMade, HasLast}
+use Rattle.rq_pool.proofs.Countdowns.Words.{SomeView, AtSource, IsSet, Knows, IsOpen, IsShut}
 use Rattle.rq_pool.proofs.Totals.{read, from_map, total_set, total_append, Each, each_set}
 
 -- what one slot is known to hold in two ways
 pub one_slot : {T : Type 0} (i j : ℕ) (x y : T) (r s : List (ℕ × Option T)) → (i, Some x) ∷ r ≡ (j, Some y) ∷ s
     → (i ≡ j) × (x ≡ y)
-one_slot {T} i j x y r s e = let both : (i, Some x) ≡ (j, Some y) = cc in
+one_slot {T} i j x y r s e = let both : ◌≡◌ {A = ℕ × Option T} (i, Some x) (j, Some y) = cc in
     let same : Some x ≡ Some y = ap (λ (z : ℕ × Option T). z.1) both in (ap (λ (z : ℕ × Option T). z.0) both, cc)
 
 module _ {T : Type 0} where

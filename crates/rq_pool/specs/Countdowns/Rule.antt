@@ -1,15 +1,19 @@
--- The rule of a countdown, and what each of its steps tells.
+-- The rule of a countdown, what each of its steps tells, and what the view of a pass has of the
+-- arrivals that the pass remembers.
 -- Word 0 is the number of sources that were not counted, word 1 + i the flag of the source i, and
 -- slot i its outbox.
 use Rattle.std.specs.Prelude.{◌≡◌, ℕ, ◌+◌, ◌-◌, ◌<◌, ◌⊎◌, ◌≢◌, eqb, Bool, true, false, List, []}
-use Rattle.std.specs.Prelude.{◌∷◌, ◌++◌, map, length, Option, Some, None}
+use Rattle.std.specs.Prelude.{◌∷◌, ◌++◌, map, length, Option, Some, None, flat_map}
 use mathlib.Core.Option.{some}
 use lib.ListN.{get_elem?}
 use Rattle.atomic_table.specs.Table.{State, Me, Step}
-use Rattle.rq_pool.specs.declared.countdown.view.Made.{Made}
-use Rattle.rq_pool.specs.declared.countdown.view.View.{View}
-use Rattle.rq_pool.specs.declared.countdown.view.Terms.{Terms}
-use Rattle.rq_pool.specs.Countdowns.History.{Fit}
+use Rattle.rq_pool.specs.declared.countdown.arrival.Entry.{Entry}
+use Rattle.rq_pool.specs.declared.countdown.arrival.Arrival.{Arrival}
+use Rattle.rq_pool.specs.declared.countdown.arrival.Arrival.TheVariants.{Twice, NotLast, Last}
+use Rattle.rq_pool.specs.declared.countdown.plays.Made.{Made}
+use Rattle.rq_pool.specs.declared.countdown.plays.View.{View}
+use Rattle.rq_pool.specs.declared.countdown.plays.Terms.{Terms}
+use Rattle.rq_pool.specs.Countdowns.History.{Fit, if_twice}
 use Rattle.rq_pool.specs.Countdowns.Phases.{total, Phase, gone, back, flag, is_away, is_done}
 use Rattle.rq_pool.specs.Countdowns.Phases.{is_shut, outbox_of, place, count, indexed}
 
@@ -142,3 +146,27 @@ module _ {T K : Type 0} where
   abbrev pub hands_back : Step (Option T) → Me (Option T) (View T K)
       → ℕ → Me (Option T) (View T K) → Type 0
   hands_back st me found me' = me' ≡ (me.0, [])
+
+module _ {T : Type 0} where
+  -- the arrival, if it was not answered Twice
+  abbrev pub made_by : ℕ → T → Arrival T → List (Made T)
+  made_by i x (Twice y) = []
+  made_by i x NotLast = made_of i x None ∷ []
+  made_by i x (Last ys) = made_of i x (Some ys.items) ∷ []
+
+  -- the arrivals that were not answered Twice
+  abbrev pub made_in : List (Entry T) → List (Made T)
+  made_in = flat_map (λ e. made_by e.source e.outbox e.answer)
+
+  -- the sources of the arrivals that were answered Twice
+  abbrev pub refused_in : List (Entry T) → List ℕ
+  refused_in = flat_map (λ e. if_twice e.source e.answer)
+
+module _ {T K : Type 0} where
+  -- what the passes made, in their order
+  abbrev pub all_made : List (View T K) → List (Made T)
+  all_made = flat_map (λ v. v.made)
+
+  -- the sources for which they were answered Twice
+  abbrev pub all_refused : List (View T K) → List ℕ
+  all_refused = flat_map (λ v. v.refused)

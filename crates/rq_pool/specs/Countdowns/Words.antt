@@ -2,6 +2,7 @@
 use Rattle.std.specs.Prelude.{◌≡◌, ℕ, ◌<◌, List, [], length, All, Option, Some, None, slice_index_or, flat_map}
 use Rattle.rq_pool.specs.declared.countdown.fits.Fits.{Ghosts}
 use Rattle.rq_pool.specs.declared.countdown.arrival.Entry.{Entry}
+use Rattle.rq_pool.specs.declared.countdown.closing.Closing.{Closing}
 use Rattle.rq_pool.specs.declared.countdown.pass.Pass.{Pass}
 use Rattle.rq_pool.specs.declared.countdown.Countdown.{Countdown}
 use Rattle.rq_pool.specs.Countdowns.Arrivals.{last_lists}
@@ -38,3 +39,20 @@ module _ {T K : Type 0} {g : Ghosts T K} where
   TellsLast passes (Some k) = (k < length passes)
       × ((d : Pass T K g) → length (last_lists (history_of (slice_index_or passes k d))) ≡ 1)
   TellsLast passes None = All (λ p. last_lists (history_of p) ≡ []) passes
+
+module _ {T : Type 0} where
+  -- how many sources had an arrival
+  abbrev pub arrived_of : Closing T → ℕ
+  arrived_of closing = closing.arrived
+
+  -- the index of the pass that was answered Last
+  abbrev pub last_in : Closing T → Option ℕ
+  last_in closing = closing.last
+
+  -- the outboxes that nobody was given
+  abbrev pub home_of : Closing T → List T
+  home_of closing = closing.home.items
+
+  -- the arrivals of each pass, in the order in which the passes were handed in
+  abbrev pub histories_of : Closing T → List (List (Entry T))
+  histories_of closing = closing.histories

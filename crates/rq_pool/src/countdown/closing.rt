@@ -29,7 +29,7 @@ impl<T: Fits> Listing<Vec<Pass<T>>, LinkedList<Entry<T>>> for Arrivals {
 }
 
 impl<T> Closing<T> {
-    ghost use Rattle.rq_pool.specs.Countdowns.Closings.{arrived_of, last_in, home_of};
+    ghost use Rattle.rq_pool.specs.Countdowns.Words.{arrived_of, last_in, home_of};
 
     /// How many sources had an arrival.
     pub fn arrived(&self) -> u32

@@ -2,9 +2,8 @@
 
 ghost use Rattle.std.specs.Prelude.{◌≡◌, ◌<◌, [], All, map, length, slice_index_or, None};
 ghost use Rattle.std.specs.Option.{ForSome, ForNone};
-ghost use Rattle.rq_pool.specs.Countdowns.Rule.{parts, lasts};
+ghost use Rattle.rq_pool.specs.Countdowns.Rule.{parts, lasts, all_made, all_refused};
 ghost use Rattle.rq_pool.specs.Countdowns.Phases.{total};
-ghost use Rattle.rq_pool.specs.Countdowns.Views.{all_made, all_refused};
 
 use crate::countdown::fits::Fits;
 use crate::countdown::pass::Pass;

@@ -3,8 +3,7 @@
 ghost use Rattle.std.specs.Prelude.{◌≡◌, ◌≤◌, [], replicate, None, vec_capacity};
 ghost use Rattle.std.specs.Option.{ForSome, ForNone};
 ghost use Rattle.rq_pool.specs.Countdowns.Phases.{indexed};
-ghost use Rattle.rq_pool.specs.Countdowns.Rule.{lasts};
-ghost use Rattle.rq_pool.specs.Countdowns.Views.{made_in, refused_in};
+ghost use Rattle.rq_pool.specs.Countdowns.Rule.{lasts, made_in, refused_in};
 ghost use Rattle.rq_pool.specs.Countdowns.History.{back_in, refused_outboxes};
 
 use crate::countdown::arrival::Entry;

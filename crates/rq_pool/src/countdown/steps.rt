@@ -7,8 +7,7 @@ ghost use Rattle.rq_pool.specs.Countdowns.History.{Fit};
 ghost use Rattle.rq_pool.specs.Countdowns.Phases.{indexed};
 
 use crate::countdown::fits::Fits;
-use crate::countdown::plays::{Claim, Count, Counts};
-use crate::countdown::view::{Terms, View};
+use crate::countdown::plays::{Claim, Count, Counts, Terms, View};
 use atomic_table::{Seat, Shared};
 
 pub(crate) type Board<T> = Shared<
@@ -43,19 +42,7 @@ pub(crate) fn claim<T: Fits>(board: &Board<T>, seat: &mut Chair<T>, source: u32)
     board.swap::<Claim>(seat, source as usize + 1, 1) == 0
 }
 
-/// Puts the outbox into the slot that the seat has.
-pub(crate) fn place<T: Fits>(board: &Board<T>, seat: &mut Chair<T>, source: u32, outbox: T)
-    requires { (seat.old.table_id ≡ board.now.table_id) × (seat.old.me.1 ≡ (source, None) ∷ []) }
-    ensures own { (seat.new.table_id ≡ seat.old.table_id) × (seat.new.id ≡ seat.old.id) }
-    ensures slot { (seat.new.me.0 ≡ seat.old.me.0) × (seat.new.me.1 ≡ (source, Some outbox) ∷ []) }
-{
-    match board.exchange(seat, source as usize, Some(outbox)) {
-        None => {}
-        Some(_) => unreachable!(),
-    }
-}
-
-/// Hands the outbox in and counts its source. Says whether the source was the last; if it was, the
+/// Puts the outbox into the slot that the seat has, and counts its source. Says whether the source was the last; if it was, the
 /// seat has all slots.
 pub(crate) fn hand_in<T: Fits>(
     board: &Board<T>,
@@ -76,6 +63,8 @@ pub(crate) fn hand_in<T: Fits>(
         × (length ys ≡ board.now.table_id.slots) × Fit (T.fits board.now.key.key) ys
         × (seat.new.me ≡ (after seat.old.me.0 source outbox (Some ys), indexed 0 (map Some ys)))) }
 {
-    place(board, seat, source, outbox);
+    let None = board.exchange(seat, source as usize, Some(outbox)) else {
+        unreachable!()
+    };
     board.fetch_sub::<Count<T>>(seat, 0, 1) == 1
 }

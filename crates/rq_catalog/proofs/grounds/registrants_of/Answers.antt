@@ -1,9 +1,8 @@
-use Rattle.std.proofs.Common.{◌≡◌, ◌∙◌, ◌+◌, ◌<◌, ◌||◌, ℕ, suc, Bool, true, false, List, cond, length, take}
-use Rattle.std.proofs.Common.{get_or, refl, sym, ap, subst, arith}
+use Rattle.std.proofs.Common.{◌≡◌, ◌∙◌, ◌+◌, ◌<◌, ◌||◌, ℕ, suc, Bool, true, false, List, cond, length, take, get_or}
+use Rattle.std.proofs.Common.{refl, sym, ap, subst, arith}
 use Rattle.std.specs.List.{list_any}
 use Rattle.std.proofs.Math.Seq.{take-suc}
-use Rattle.rq_catalog.specs.Members.{has_key}
-use Rattle.rq_catalog.specs.Registered.{is_registered_in, key_eq}
+use Rattle.rq_catalog.specs.Grounds.{has_key, is_registered_in, key_eq}
 use Rattle.rq_catalog.proofs.Runs.{any_push}
 use Rattle.rq_catalog.proofs.grounds.registrants_of.Goals as goal
 

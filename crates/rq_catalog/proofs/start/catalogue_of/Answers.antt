@@ -1,5 +1,5 @@
 use Rattle.std.proofs.Common.{rules, ◌∙◌}
-use Rattle.rq_catalog.proofs.Begins.{starts, engaged_in_turn}
+use Rattle.rq_catalog.proofs.Ends.{starts, engaged_in_turn}
 use Rattle.rq_catalog.proofs.start.catalogue_of.Goals as goal
 
 pub returns-in_err-touching-clause-refused : goal.returns-in_err-touching-clause-refused

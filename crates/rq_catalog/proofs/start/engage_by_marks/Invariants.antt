@@ -1,7 +1,6 @@
 use Rattle.std.proofs.Common.{take}
 use Rattle.std.specs.List.{list_any}
-use Rattle.rq_catalog.specs.Members.{is_marked_at}
-use Rattle.rq_catalog.specs.Units.{EngagesToo}
+use Rattle.rq_catalog.specs.Units.{is_marked_at, EngagesToo}
 use Rattle.rq_catalog.proofs.start.engage_by_marks.Given as goal
 
 abbrev pub invariant-loop-element : goal.invariant-loop-element

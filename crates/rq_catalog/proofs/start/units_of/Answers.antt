@@ -3,7 +3,7 @@ use Rattle.std.proofs.Common.{if◌then◌else◌}
 use Rattle.std.specs.Prelude.{◌==◌}
 use Rattle.std.specs.List.{AllByRecursion, list_any}
 use Rattle.rq_record.specs.declared.record.UnitNo.{UnitNo}
-use Rattle.rq_catalog.specs.declared.outcome.Outcome.TheVariants.{Open}
+use Rattle.rq_catalog.specs.declared.units.Outcome.TheVariants.{Open}
 use Rattle.rq_catalog.proofs.Seen.{below_next, one_more, one_open}
 use Rattle.rq_catalog.proofs.start.units_of.Goals as goal
 

@@ -2,7 +2,7 @@ use Rattle.std.proofs.Common.{◌≡◌, ℕ, Some, None, false, map, take, if�
 use Rattle.std.specs.Prelude.{◌==◌}
 use Rattle.std.specs.List.{list_any}
 use Rattle.rq_state.specs.Views.{unit_of}
-use Rattle.rq_catalog.specs.declared.outcome.Outcome.TheVariants.{Open}
+use Rattle.rq_catalog.specs.declared.units.Outcome.TheVariants.{Open}
 use Rattle.rq_catalog.specs.Units.{numbers, outcome_at, engages_at}
 use Rattle.rq_catalog.proofs.start.units_of.Given as goal
 

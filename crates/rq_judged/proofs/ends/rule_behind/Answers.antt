@@ -2,7 +2,7 @@ use Rattle.std.proofs.Common.{List, ℕ, drop, subst, sym}
 use Rattle.rq_model.specs.Spelling.{Spells}
 use Rattle.rq_model.specs.Fronts.{IsWhy, Law}
 use Rattle.rq_judged.specs.Views.{why_of}
-use Rattle.rq_judged.specs.declared.why.Why.{Why}
+use Rattle.rq_judged.specs.declared.ends.Why.{Why}
 use Rattle.rq_judged.proofs.ends.rule_behind.Goals as goal
 
 pub body_at-requires : goal.body_at-requires

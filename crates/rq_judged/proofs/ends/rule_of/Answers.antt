@@ -1,5 +1,6 @@
-use Rattle.std.proofs.Common.{subst}
-use Rattle.std.specs.Prelude.{Err}
+use Rattle.std.proofs.Common.{◌∙◌, ap, subst}
+use Rattle.std.specs.Prelude.{Err, not}
+use Rattle.std.proofs.lemmas.Bool.{false≢true}
 use Rattle.rq_model.specs.Records as records
 use Rattle.rq_model.specs.Spelling.{Spells}
 use Rattle.rq_record.specs.Reading.{Decodes}
@@ -9,16 +10,17 @@ use Rattle.rq_record.specs.declared.fault.Fault.TheVariants.{Form}
 use Rattle.rq_judged.proofs.FrontEnds.{not_lawful}
 use Rattle.rq_judged.proofs.ends.rule_of.Goals as goal
 
-pub broken_rule-requires : goal.broken_rule-requires
-broken_rule-requires c =
+pub unreachable-requires : goal.unreachable-requires
+unreachable-requires c =
     let (version, s, stands, r, spells, breaks) = c.requires in
     let x = record_of c.in-Ok.record in
     let spelled = subst (λ (v : records.Version). Spells v x c.args.body.now) (c.version.ensures version s stands)
     c.in-Ok.ensures.decodes in
-    (version, s, stands, not_lawful version s c.args.body.now r x spells breaks spelled)
+    false≢true (c.in-None.ensures.exact version s stands
+    ∙ ap not (not_lawful version s c.args.body.now r x spells breaks spelled))
 
-pub unreachable-requires : goal.unreachable-requires
-unreachable-requires c =
+pub unreachable-requires-in-Err-Form : goal.unreachable-requires-in-Err-Form
+unreachable-requires-in-Err-Form c =
     let (version, s, stands, r, spells, breaks) = c.requires in
     let none : Decodes (version_of c.version.result) c.args.body.now (Err Form) =
     subst (λ (e : Fault). Decodes (version_of c.version.result) c.args.body.now (Err e)) c.in-Err-Form.field-0-is

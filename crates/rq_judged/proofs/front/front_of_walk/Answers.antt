@@ -4,7 +4,7 @@ use Rattle.rq_record.specs.Views.{version_of}
 use Rattle.rq_front.specs.Chains.{body_at, bodies_at}
 use Rattle.rq_front.specs.Walks.{Walks, spans_of}
 use Rattle.rq_front.specs.declared.spans.Span.{Span}
-use Rattle.rq_judged.specs.Ends.{IsChain}
+use Rattle.rq_judged.specs.FrontEnds.{IsChain}
 use Rattle.rq_judged.specs.Readings.{IsKnownOfBodies, KnowsBodies, AreApart}
 use Rattle.rq_judged.proofs.front.front_of_walk.Goals as goal
 

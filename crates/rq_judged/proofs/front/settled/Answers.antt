@@ -7,7 +7,7 @@ use Rattle.rq_record.specs.Views.{record_of}
 use Rattle.rq_front.specs.Chains.{rest_of}
 use Rattle.rq_catalog.specs.Analyses.{IsAnalysis}
 use Rattle.rq_catalog.proofs.Fronts.{kept_is, analysis_of_front}
-use Rattle.rq_judged.specs.Ends.{IsFrontFrom, end_at}
+use Rattle.rq_judged.specs.FrontEnds.{IsFrontFrom, end_at}
 use Rattle.rq_judged.specs.Views.{why_of}
 use Rattle.rq_judged.proofs.Fronts.{front_from, bodies_kept}
 use Rattle.rq_judged.proofs.front.settled.Goals as goal

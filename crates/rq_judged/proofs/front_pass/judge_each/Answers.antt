@@ -3,7 +3,7 @@ use Rattle.rq_model.specs.Machine.{run}
 use Rattle.rq_front.specs.Chains.{body_at}
 use Rattle.rq_front.specs.declared.spans.Span.{Span}
 use Rattle.rq_judged.specs.Passes.{IsVerdict}
-use Rattle.rq_judged.proofs.Judgings.{one_more, stops_unlawful, stops_unread, all_judged}
+use Rattle.rq_judged.proofs.Readings.{one_more, stops_unlawful, stops_unread, all_judged}
 use Rattle.rq_judged.proofs.front_pass.judge_each.Goals as goal
 
 abbrev none : Span

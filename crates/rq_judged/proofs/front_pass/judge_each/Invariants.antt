@@ -3,7 +3,7 @@ use Rattle.rq_model.specs.Records as records
 use Rattle.rq_model.specs.States as model
 use Rattle.rq_front.specs.Chains.{bodies_at}
 use Rattle.rq_catalog.specs.Judges.{StandsIn}
-use Rattle.rq_judged.proofs.Judgings.{AreLawful}
+use Rattle.rq_judged.proofs.Readings.{AreLawful}
 use Rattle.rq_judged.proofs.front_pass.judge_each.Given as goal
 
 abbrev pub invariant-loop-lawful : goal.invariant-loop-lawful

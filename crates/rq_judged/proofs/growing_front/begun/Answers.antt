@@ -7,7 +7,7 @@ use Rattle.rq_record.specs.Views.{version_of}
 use Rattle.rq_judged.specs.declared.window.WindowPass.{WindowPass}
 use Rattle.rq_judged.specs.GrowingFronts.{RefusesMore}
 use Rattle.rq_judged.specs.Windows.{IsFed, log_origin}
-use Rattle.rq_judged.proofs.Headers.{first_forty, forty_again, refuses, two_parts}
+use Rattle.rq_judged.proofs.Pieces.{first_forty, forty_again, refuses, two_parts}
 use Rattle.rq_judged.proofs.growing_front.begun.Goals as goal
 
 pub returns-in_default-clause-refused : goal.returns-in_default-clause-refused
@@ -34,11 +34,11 @@ returns-in_err-feed-clause-refused g c =
     let a = c.args.first.now in
     let b = c.args.more.now in
     let (rs, rest, at) = c.new-pass.ensures in
-    let size : c.new-pass.result.total + length c.behind.result.now ≡ length (a ++ b) =
+    let size : c.new-pass.result.total + length c.split_at.result.1.now ≡ length (a ++ b) =
     omega (
       arith,
       at.total,
-      ap length c.behind.ensures,
+      ap length c.split_at.ensures.back,
       length-drop (40 - length a) b,
       length-append a b,
       c.requires.first,
@@ -46,7 +46,7 @@ returns-in_err-feed-clause-refused g c =
     ) in
     let answer : c.from_residual-in_err-feed.result ≡ Err c.in_err-feed.field-0.0 = search rules in
     subst (λ (r : Result WindowPass Fault). IfErr r (RefusesMore (a ++ b))) (sym answer)
-    (refuses (c.new-pass.result.total + length c.behind.result.now) (a ++ b) c.in_err-feed.field-0.0 size
+    (refuses (c.new-pass.result.total + length c.split_at.result.1.now) (a ++ b) c.in_err-feed.field-0.0 size
     c.in_err-feed.ensures.refused)
 
 pub returns-clause-begun : goal.returns-clause-begun
@@ -66,6 +66,6 @@ returns-clause-begun g c =
       version,
       left,
       whole,
-      subst (λ (z : List ℕ). IsFed (log_origin version) z c.feed.new.self) c.behind.ensures
+      subst (λ (z : List ℕ). IsFed (log_origin version) z c.feed.new.self) c.split_at.ensures.back
           (c.in_ok-feed.ensures.taken (log_origin version) [] c.new-pass.ensures),
     )

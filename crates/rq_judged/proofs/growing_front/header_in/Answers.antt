@@ -1,5 +1,5 @@
 use Rattle.std.proofs.Common.{◌≡◌, ◌-◌, ◌++◌, List, ℕ, length, take, ap, ◌∙◌}
-use Rattle.rq_judged.proofs.Headers.{first_forty}
+use Rattle.rq_judged.proofs.Pieces.{first_forty}
 use Rattle.rq_judged.proofs.growing_front.header_in.Goals as goal
 
 pub returns-clause-header : goal.returns-clause-header

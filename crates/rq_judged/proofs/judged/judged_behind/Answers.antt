@@ -5,7 +5,7 @@ use Rattle.rq_front.specs.declared.spans.Span.{Span}
 use Rattle.rq_judged.specs.Checkpoints.{IsBegun}
 use Rattle.rq_judged.specs.Passes.{AreJudged}
 use Rattle.rq_judged.specs.Views.{why_of}
-use Rattle.rq_judged.proofs.FromCheckpoints.{IsJudgedFrom, judged_from}
+use Rattle.rq_judged.proofs.Checkpoints.{IsJudgedFrom, judged_from}
 use Rattle.rq_judged.proofs.judged.judged_behind.Goals as goal
 use Rattle.rq_judged.proofs.judged.judged_behind.Goals.{After-end_of-end}
 

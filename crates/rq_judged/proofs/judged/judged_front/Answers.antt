@@ -1,20 +1,24 @@
-use Rattle.std.proofs.Common.{◌∙◌, arith, length}
+use Rattle.std.proofs.Common.{◌∙◌, refl, arith, length}
 use Rattle.rq_record.specs.Views.{version_of}
 use Rattle.rq_judged.specs.Views.{why_of}
 use Rattle.rq_judged.specs.Passes.{StopsIn}
-use Rattle.rq_judged.proofs.Passes.{HasStopped, has_stopped}
+use Rattle.rq_judged.proofs.Passes.{HasStopped, has_stopped, starts}
 use Rattle.rq_judged.proofs.judged.judged_front.Goals as goal
 use Rattle.rq_judged.proofs.judged.judged_front.Goals.{In_ok-why}
 
 pub finish-requires-clause-passes : goal.finish-requires-clause-passes
 finish-requires-clause-passes g c κs within =
-    (version_of c.in_ok-version.version, c.new-pass.ensures c.args.bytes.now c.in_ok-version.ensures.header)
+    let version = version_of c.in_ok-version.version in (
+      version,
+      starts version c.frames_join.ensures.end c.args.bytes.now _ c.in_ok-version.ensures.header refl refl c.new.ensures,
+    )
 
 -- how the pass stopped
 stop : (g : _) (c : In_ok-why g) → StopsIn (version_of c.in_ok-version.version) c.args.bytes.now
     (length c.args.bytes.now) c.finish.new.self (why_of c.in_ok-why.why)
 stop g c = c.in_ok-why.ensures.stops (version_of c.in_ok-version.version)
-    (c.new-pass.ensures c.args.bytes.now c.in_ok-version.ensures.header)
+    (starts (version_of c.in_ok-version.version) c.frames_join.ensures.end c.args.bytes.now _
+    c.in_ok-version.ensures.header refl refl c.new.ensures)
 
 has : (g : _) (c : In_ok-why g) → HasStopped (version_of c.in_ok-version.version) c.args.bytes.now
     c.finish.new.self (why_of c.in_ok-why.why) (stop g c).0

@@ -2,8 +2,8 @@ use Rattle.std.proofs.Common.{ℕ, List, sym, subst}
 use Rattle.std.proofs.lemmas.Result.{IfOk-weaker}
 use Rattle.rq_record.specs.Views.{version_of}
 use Rattle.rq_restart.specs.Audits.{IsAuditedFrom}
-use Rattle.rq_judged.specs.Ends.{IsChain}
-use Rattle.rq_restart.proofs.AuditedFronts.{audits_at}
+use Rattle.rq_judged.specs.FrontEnds.{IsChain}
+use Rattle.rq_restart.proofs.Audited.{audits_at}
 use Rattle.rq_restart.proofs.audits.audit_at.Goals as goal
 
 pub checkpoints_of-requires-clause-chain : goal.checkpoints_of-requires-clause-chain

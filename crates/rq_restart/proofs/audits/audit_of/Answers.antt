@@ -5,7 +5,7 @@ use Rattle.rq_model.specs.Frames.{HasHeader}
 use Rattle.rq_model.specs.States.{State}
 use Rattle.rq_record.specs.Views.{version_of}
 use Rattle.rq_restart.specs.Audits.{IsAuditedFrom}
-use Rattle.rq_judged.specs.Ends.{IsChain}
+use Rattle.rq_judged.specs.FrontEnds.{IsChain}
 use Rattle.rq_restart.proofs.Audited.{audits_are}
 use Rattle.rq_judged.proofs.Starts.{log_chain}
 use Rattle.rq_restart.proofs.audits.audit_of.Goals as goal

@@ -2,7 +2,7 @@ use Rattle.std.proofs.Common.{◌≡◌, ◌∙◌, ℕ, map, ap}
 use Rattle.std.proofs.lemmas.Result.{IfOk-weaker}
 use Rattle.rq_record.specs.Views.{record_of, version_of}
 use Rattle.rq_restart.specs.Audits.{StandInFrames, IsAuditedFrom, audited_of, audits}
-use Rattle.rq_judged.specs.Ends.{IsChain}
+use Rattle.rq_judged.specs.FrontEnds.{IsChain}
 use Rattle.rq_judged.specs.Views.{why_of}
 use Rattle.rq_restart.proofs.Walks.{framed}
 use Rattle.rq_restart.proofs.audits.checkpoints_of.Goals as goal

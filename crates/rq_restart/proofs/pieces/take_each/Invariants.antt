@@ -1,4 +1,4 @@
-use Rattle.rq_restart.proofs.TakenPieces.{HasTaken}
+use Rattle.rq_restart.proofs.Keepers.{HasTaken}
 use Rattle.rq_restart.proofs.pieces.take_each.Given as goal
 
 abbrev pub invariant-loop-place : goal.invariant-loop-place

@@ -1,5 +1,5 @@
 use Rattle.std.proofs.Common.{List, ℕ, subst}
-use Rattle.rq_restart.specs.FoundFronts.{IsFoundFront}
+use Rattle.rq_restart.specs.RedoneFronts.{IsFoundFront}
 use Rattle.rq_restart.proofs.RedoneFronts.{redoes}
 use Rattle.rq_restart.proofs.redone.redone_front.Goals as goal
 use Rattle.rq_restart.proofs.redone.redone_front.Goals.{In_ok-from}

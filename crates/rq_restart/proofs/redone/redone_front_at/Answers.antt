@@ -1,5 +1,5 @@
 use Rattle.std.proofs.Common.{List, ℕ, subst}
-use Rattle.rq_restart.specs.FoundFronts.{IsFoundAt}
+use Rattle.rq_restart.specs.RedoneFronts.{IsFoundAt}
 use Rattle.rq_restart.proofs.RedoneFronts.{redoes_at}
 use Rattle.rq_restart.proofs.redone.redone_front_at.Goals as goal
 use Rattle.rq_restart.proofs.redone.redone_front_at.Goals.{In_ok-from}

@@ -6,8 +6,8 @@ use Rattle.rq_model.specs.Machine.{run, all_lawful}
 use Rattle.rq_record.specs.Views.{record_of}
 use Rattle.rq_exchange.specs.Agendas.{IsAgenda}
 use Rattle.rq_exchange.specs.Gathering.{IsRedoneTo}
-use Rattle.rq_restart.specs.Cleared.{first_cleared}
-use Rattle.rq_restart.proofs.Clearing.{run_cleared, lawful_cleared, agenda_cleared, length_cleared}
+use Rattle.rq_restart.specs.Restarts.{first_cleared}
+use Rattle.rq_restart.proofs.Closings.{run_cleared, lawful_cleared, agenda_cleared, length_cleared}
 use Rattle.rq_restart.proofs.restart_ends.redone.Goals as goal
 use Rattle.rq_restart.proofs.restart_ends.redone.Goals.{After-deref}
 

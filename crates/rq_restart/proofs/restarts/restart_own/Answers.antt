@@ -1,6 +1,6 @@
 use Rattle.std.proofs.Common.{◌≡◌, ◌∙◌, List, ℕ, length, subst}
-use Rattle.rq_restart.specs.FoundFronts.{IsFoundFront}
-use Rattle.rq_restart.proofs.ByFronts.{restarts}
+use Rattle.rq_restart.specs.RedoneFronts.{IsFoundFront}
+use Rattle.rq_restart.proofs.RedoneFronts.{restarts}
 use Rattle.rq_restart.proofs.restarts.restart_own.Goals as goal
 use Rattle.rq_restart.proofs.restarts.restart_own.Goals.{In_ok-from}
 

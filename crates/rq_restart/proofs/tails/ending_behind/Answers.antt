@@ -9,7 +9,7 @@ use Rattle.rq_record.specs.Views.{record_of, version_of}
 use Rattle.rq_state.specs.Views.{unit_of}
 use Rattle.rq_catalog.proofs.Runs.{front_whole}
 use Rattle.rq_judged.specs.Views.{why_of}
-use Rattle.rq_restart.proofs.ByFronts.{from_empty}
+use Rattle.rq_restart.proofs.RedoneFronts.{from_empty}
 use Rattle.rq_restart.proofs.Endings.{is_ending, no_memory, too_large}
 use Rattle.rq_restart.proofs.tails.ending_behind.Goals as goal
 use Rattle.rq_restart.proofs.tails.ending_behind.Goals.{In_ok-units}

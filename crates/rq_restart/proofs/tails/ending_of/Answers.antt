@@ -1,5 +1,5 @@
 use Rattle.std.proofs.Common.{List, ℕ, subst}
-use Rattle.rq_restart.specs.FoundFronts.{IsFoundFront}
+use Rattle.rq_restart.specs.RedoneFronts.{IsFoundFront}
 use Rattle.rq_restart.proofs.tails.ending_of.Goals as goal
 
 pub ending_behind-requires : goal.ending_behind-requires

@@ -2,7 +2,7 @@ use Rattle.std.proofs.Common.{◌≡◌, length, map, refl, arith}
 use Rattle.std.proofs.lemmas.List.{length-map}
 use Rattle.rq_record.specs.Views.{record_of, version_of}
 use Rattle.rq_judged.specs.Views.{why_of}
-use Rattle.rq_restart.proofs.ByFronts.{from_empty}
+use Rattle.rq_restart.proofs.RedoneFronts.{from_empty}
 use Rattle.rq_restart.proofs.Upgradings.{is_extent}
 use Rattle.rq_restart.proofs.upgrades.extent_of.Goals as goal
 

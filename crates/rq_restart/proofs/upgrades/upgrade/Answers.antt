@@ -1,6 +1,6 @@
 use Rattle.std.proofs.Common.{List, ℕ, ap, subst}
 use Rattle.rq_record.specs.Views.{version_of}
-use Rattle.rq_restart.specs.FoundFronts.{IsFoundFront}
+use Rattle.rq_restart.specs.RedoneFronts.{IsFoundFront}
 use Rattle.rq_restart.proofs.Upgradings.{extent_in, chained_upgrades, copied_upgrades}
 use Rattle.rq_restart.proofs.upgrades.upgrade.Goals as goal
 use Rattle.rq_restart.proofs.upgrades.upgrade.Goals.{In_ok-from}

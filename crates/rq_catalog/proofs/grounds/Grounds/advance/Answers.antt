@@ -3,8 +3,7 @@ use Rattle.rq_model.specs.States.{State}
 use Rattle.rq_model.specs.Machine.{step}
 use Rattle.rq_record.specs.Views.{Record, record_of}
 use Rattle.rq_catalog.specs.declared.grounds.Grounds.{Grounds}
-use Rattle.rq_catalog.specs.Grounds.{AreGroundsOf}
-use Rattle.rq_catalog.specs.Registered.{key_eq, is_registered_in}
+use Rattle.rq_catalog.specs.Grounds.{AreGroundsOf, key_eq, is_registered_in}
 use Rattle.rq_catalog.proofs.Knowing.{registers, deregisters, quiet, on_ok}
 use Rattle.rq_catalog.proofs.grounds.Grounds.advance.Goals as goal
 

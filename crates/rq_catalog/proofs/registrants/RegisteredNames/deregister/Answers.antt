@@ -1,5 +1,5 @@
 use Rattle.std.proofs.Common.{arith}
-use Rattle.rq_catalog.proofs.Registered.{changed, beyond}
+use Rattle.rq_catalog.proofs.Knowing.{changed, beyond}
 use Rattle.rq_catalog.proofs.registrants.RegisteredNames.deregister.Goals as goal
 
 pub returns-then-queue-len : goal.returns-then-queue-len

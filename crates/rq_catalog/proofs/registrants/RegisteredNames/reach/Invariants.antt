@@ -1,5 +1,5 @@
 use Rattle.std.proofs.Common.{◌≡◌, ◌+◌, ◌-◌, ℕ, List, length}
-use Rattle.rq_catalog.specs.Registered.{is_registered_in}
+use Rattle.rq_catalog.specs.Grounds.{is_registered_in}
 use Rattle.rq_catalog.proofs.registrants.RegisteredNames.reach.Given as goal
 
 abbrev pub invariant-loop-self : goal.invariant-loop-self

@@ -1,6 +1,6 @@
 use Rattle.std.proofs.Common.{◌≡◌, ◌∙◌, cond, true, ℕ, List, slice_set}
-use Rattle.rq_catalog.specs.Registered.{key_eq, is_registered_in, is_on_roll}
-use Rattle.rq_catalog.proofs.Registered.{changed, same_names, if_err}
+use Rattle.rq_catalog.specs.Grounds.{key_eq, is_registered_in, is_on_roll}
+use Rattle.rq_catalog.proofs.Knowing.{changed, same_names, if_err}
 use Rattle.rq_catalog.proofs.registrants.RegisteredNames.register.Goals as goal
 
 pub returns-clause-registered : goal.returns-clause-registered

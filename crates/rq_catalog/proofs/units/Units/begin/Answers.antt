@@ -1,5 +1,5 @@
 use Rattle.std.proofs.Common.{ap, ◌∙◌, sym, subst, cond, nat_eq, Some}
-use Rattle.rq_catalog.specs.declared.outcome.Outcome.TheVariants.{Open}
+use Rattle.rq_catalog.specs.declared.units.Outcome.TheVariants.{Open}
 use Rattle.rq_catalog.specs.Units.{outcome_at, engages_at}
 use Rattle.rq_catalog.proofs.Rising.{Rises, begun, rises_more, outcomes_more, engaged_alike}
 use Rattle.rq_catalog.proofs.units.Units.begin.Goals as goal

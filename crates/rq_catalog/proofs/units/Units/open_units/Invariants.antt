@@ -1,7 +1,6 @@
 use Rattle.std.proofs.Common.{◌≡◌, map, filter, take}
 use Rattle.rq_state.specs.Views.{unit_of}
-use Rattle.rq_catalog.specs.Outcomes.{is_open_in}
-use Rattle.rq_catalog.specs.Units.{numbers, outcome_at}
+use Rattle.rq_catalog.specs.Units.{is_open_in, numbers, outcome_at}
 use Rattle.rq_catalog.proofs.units.Units.open_units.Given as goal
 
 abbrev pub invariant-loop-unit : goal.invariant-loop-unit

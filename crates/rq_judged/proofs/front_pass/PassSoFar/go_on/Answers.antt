@@ -1,7 +1,7 @@
-use Rattle.std.proofs.Common.{rules, ℕ, ◌+◌, List, length, ap, subst, arith}
+use Rattle.std.proofs.Common.{rules, ℕ, ◌+◌, List, length, take, refl, ap, subst, arith}
 use Rattle.std.proofs.lemmas.List.{length-take}
 use Rattle.rq_model.specs.Records.{Record, Version}
-use Rattle.rq_front.specs.Chains.{bodies_at, Refused}
+use Rattle.rq_front.specs.Chains.{bodies_at}
 use Rattle.rq_front.specs.declared.spans.Span.{Span}
 use Rattle.rq_model.specs.Machine.{run}
 use Rattle.rq_model.specs.States.{empty}
@@ -15,7 +15,7 @@ further : (g : _) (c : goal.After-drop-found-2 g) (version : Version) (rs : List
     → HasGoneOn version c.args.bytes.now c.args.limit c.end_of-end.result.0
     (why_of c.end_of-end.result.1) c.judge_each.new.judge (c.args.self.now.records + c.in_ok-reach.reach.lawful)
 further g c version rs has =
-    let part = c.first-part.result.now in
+    let part : List ℕ = take c.args.limit c.args.bytes.now in
     let found = c.in_ok-found.found in
     let are = subst (λ (ss : List Span). AreJudged version (run empty rs)
     (bodies_at part ss) c.judge_each.new.judge c.in_ok-reach.reach) c.deref.ensures.value
@@ -23,7 +23,7 @@ further g c version rs has =
     gone_on version c.frames_join.ensures.end c.frames_join.ensures.log c.frames_join.ensures.frames
     c.frames_are_right.ensures.right c.one_front.ensures.from_run
     c.args.bytes.now part rs c.args.self.now c.args.limit found c.judge_each.new.judge c.in_ok-reach.reach
-    c.requires.short has c.requires.after c.requires.within c.first-part.ensures
+    c.requires.short has c.requires.after c.requires.within refl
     c.in_ok-found.ensures.run c.in_ok-found.ensures.spans c.in_ok-found.ensures.inside are
     (c.end_of-end.result.0, why_of c.end_of-end.result.1) c.end_of-end.ensures
 
@@ -38,11 +38,9 @@ returns-clause-offset g c = (further g c c.requires.passes.0 c.requires.passes.1
 pub returns-in_err-found-clause-refused : goal.returns-in_err-found-clause-refused
 returns-in_err-found-clause-refused g c =
     let has = c.requires.passes.1.1 in
-    let refused = subst (λ (x : List ℕ). Refused x c.in_err-found.field-0.0) c.first-part.ensures
-    c.in_err-found.ensures.refused in
     let only = only_resources c.frames_join.ensures.end c.requires.passes.0 c.args.bytes.now c.requires.passes.1.0
     c.args.self.now.offset c.args.limit c.in_err-found.field-0.0 c.requires.short has.passed c.requires.after
-    c.requires.within refused in
+    c.requires.within c.in_err-found.ensures.refused in
     search (rules, only, c.from_residual.ensures)
 
 pub overflow_add-self : goal.overflow_add-self
@@ -55,7 +53,6 @@ overflow_add-self g c =
       c.in_ok-found.ensures.few,
       c.in_ok-reach.ensures.few,
       ap length c.deref.ensures.value,
-      ap length c.first-part.ensures,
       length-take c.args.limit c.args.bytes.now,
       c.requires.short,
     )

@@ -6,7 +6,7 @@ use Rattle.rq_model.proofs.Restarts.{header_long}
 use Rattle.rq_record.specs.declared.fault.Fault.{Fault}
 use Rattle.rq_judged.specs.GrowingFronts.{GoesAlong, IsStageOf, RefusesMore}
 use Rattle.rq_judged.specs.Windows.{log_origin}
-use Rattle.rq_judged.proofs.Headers.{refuses}
+use Rattle.rq_judged.proofs.Pieces.{refuses}
 use Rattle.std.proofs.lemmas.Result.{IfErr-weaker, on_ok_weaker}
 use Rattle.rq_judged.proofs.growing_front.GrowingFront.feed.Goals as goal
 

@@ -2,7 +2,7 @@ use Rattle.std.proofs.Common.{List, ℕ, subst, arith}
 use Rattle.std.specs.Prelude.{IfOk}
 use Rattle.rq_judged.specs.GrowingFronts.{IsStageOf}
 use Rattle.rq_judged.specs.Windows.{IsFed, IsStoppedFront, Origin, log_origin}
-use Rattle.rq_judged.proofs.Headers.{judges, too_few}
+use Rattle.rq_judged.proofs.Pieces.{judges, too_few}
 use Rattle.std.proofs.lemmas.Result.{IfOk-weaker}
 use Rattle.rq_judged.proofs.growing_front.GrowingFront.judged.Goals as goal
 

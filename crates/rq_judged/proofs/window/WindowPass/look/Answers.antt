@@ -1,10 +1,17 @@
-use Rattle.std.proofs.Common.{◌≡◌, ℕ, ◌-◌, ◌≤◌, List, length, ap, subst, sym, arith}
+use Rattle.std.proofs.Common.{◌≡◌, ℕ, ◌-◌, ◌≤◌, Bool, true, false, List, length, refl, ap, subst, sym, arith}
+use Rattle.std.specs.Bool.{then_some}
 use Rattle.rq_front.specs.declared.spans.Span.{Span}
 use Rattle.rq_front.specs.Chains.{rest_of}
 use Rattle.rq_judged.specs.Views.{why_of}
-use Rattle.rq_judged.specs.Windows.{AreFramed}
+use Rattle.rq_judged.specs.declared.ends.Why.{Why}
+use Rattle.rq_judged.specs.Passes.{stays}
+use Rattle.rq_judged.specs.Windows.{AreFramed, IsLasting}
 use Rattle.rq_judged.proofs.Pieces.{framed, has_place, known, settled}
 use Rattle.rq_judged.proofs.window.WindowPass.look.Goals as goal
+
+lasts : (why : Why) (b : Bool) → b ≡ stays (why_of why) → IsLasting (why_of why) (then_some b why)
+lasts why false is = tt
+lasts why true is = (refl, sym is)
 
 pub judge_frames-requires-clause-frames : goal.judge_frames-requires-clause-frames
 judge_frames-requires-clause-frames g c =
@@ -42,8 +49,9 @@ returns-clause-stopped g c = λ o x h.
     let long : c.len.result ≡ length f.window.items = omega (arith, c.len.ensures) in
     let used : f.total - (c.len.result - f.place) ≡ f.total - (length f.window.items - f.place) =
     ap (λ (n : ℕ). f.total - (n - f.place)) long in
-    settled o x f (why_of c.in_ok-why.why) c.lasting-self.result _ _ c.judge_frames.ensures.going used
-    c.lasting-self.ensures (c.in_ok-why.ensures.stops o x h)
+    settled o x f (why_of c.in_ok-why.why) c.then_some-self.result _ _ c.judge_frames.ensures.going used
+    (subst (IsLasting (why_of c.in_ok-why.why)) (sym c.then_some-self.ensures)
+    (lasts c.in_ok-why.why c.stays.result c.stays.ensures)) (c.in_ok-why.ensures.stops o x h)
 
 pub returns-in-Some-clause-stopped : goal.returns-in-Some-clause-stopped
 returns-in-Some-clause-stopped g c = λ o x h. known o x c.args.self.now _ c.in-Some.is h

@@ -1,13 +1,13 @@
 use Rattle.std.proofs.Common.{arith, ap, sym, ◌∙◌, flat_map, inl, inr, ◌≤◌}
 use Rattle.rq_pool.proofs.Countdowns.Words.{times_told, total, slots_items}
 use Rattle.rq_pool.proofs.countdown.Countdown.close.Goals.{in-None, in-Some}
-use Rattle.rq_pool.proofs.Countdowns.Histories.{all_made_in, all_refused_in, all_back}
-use Rattle.rq_pool.proofs.Countdowns.Closes.{parts_long}
-use Rattle.rq_pool.proofs.Countdowns.Endings.{word_small, settles, none_last, one_last, tells_last}
+use Rattle.rq_pool.proofs.Countdowns.Endings.{all_made_in, all_refused_in, all_back}
+use Rattle.rq_pool.proofs.Countdowns.Endings.{parts_long, word_small, settles, none_last, one_last, tells_last}
 use Rattle.rq_pool.proofs.countdown.Countdown.close.Goals as goal
 
 pub overflow_sub-arrived : goal.overflow_sub-arrived
-overflow_sub-arrived g c = let z = c.close_with-closed in word_small g.T.Fits.fits c.args.self.table.shared.key _ _ _ _ _ _
+overflow_sub-arrived g c = let z = c.close_with-closed in
+    word_small g.T.Fits.fits c.args.self.table.shared.key _ _ _ _ _ _
     (sym z.result.slots.ok.0 ∙ z.ensures.counts.1 ∙ c.args.self.sized.1) c.word-waiting.ensures z.ensures.values.2
 
 pub overflow_cast-waiting : goal.overflow_cast-waiting

@@ -1,7 +1,6 @@
 use Rattle.std.proofs.Common.{arith, ap, ◌∙◌, ◌≡◌, ◌+◌, ◌++◌, Some}
 use Rattle.rq_pool.proofs.Countdowns.Words.{All-pop}
-use Rattle.rq_pool.proofs.Countdowns.Closes.{begins, goes_on}
-use Rattle.rq_pool.proofs.Countdowns.Joins.{joins}
+use Rattle.rq_pool.proofs.Countdowns.Joins.{begins, goes_on, joins}
 use Rattle.rq_pool.proofs.countdown.joined.join_all.Goals as goal
 
 pub loop-pass-init : goal.loop-pass-init

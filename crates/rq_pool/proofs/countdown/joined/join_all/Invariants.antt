@@ -1,5 +1,5 @@
 use Rattle.std.proofs.Common.{◌≡◌, ◌<◌, [], All, None}
-use Rattle.rq_pool.proofs.Countdowns.Closes.{Holds}
+use Rattle.rq_pool.proofs.Countdowns.Joins.{Holds}
 use Rattle.rq_pool.proofs.countdown.joined.join_all.Given as goal
 
 abbrev pub invariant-loop-pass : goal.invariant-loop-pass

@@ -1,5 +1,5 @@
 use Rattle.std.proofs.Common.{◌<◌, ◌∷◌, [], ◌++◌, length, map, get_or, ap, sym, ◌∙◌, arith}
-use Rattle.rq_pool.proofs.Words.{length-map, get_or-map, list_in, source_id, stolen, ids_of, map-set_same, map-set}
+use Rattle.rq_pool.proofs.Words.{length-map, get_or-map, list_in, stolen, ids_of, map-set}
 use Rattle.rq_pool.proofs.Taking.{stole}
 use Rattle.rq_pool.proofs.Sources.{less_than_dealt}
 use Rattle.rq_pool.proofs.deque_seat.DequeSeat.steal.Goals as goal
@@ -19,15 +19,3 @@ returns-in-Some-clause-some c =
     (c.in-Some.x ∷ []) (stolen c.steal.new.self) c.loop-j.j c.requires.holds
     (λ e. c.if-j-self.false (e ∙ sym inv.number))
     (let l = ap length inv.stolens in omega (arith, length-map c.loop-j.self.sources.items stolen)) is less)
-
-pub loop-j-preserved : goal.loop-j-preserved
-loop-j-preserved c = record {
-  taken = c.loop-j.invariant.taken;
-  number = c.loop-j.invariant.number;
-  owner = c.loop-j.invariant.owner;
-  count = c.loop-j.invariant.count;
-  sources = map-set_same source_id c.loop-j.self.sources.items c.loop-j.j c.steal.new.self c.index_mut.result.now
-      (c.steal.ensures.same ∙ ap source_id c.index_mut.ensures.value) ∙ c.loop-j.invariant.sources;
-  stolens = map-set_same stolen c.loop-j.self.sources.items c.loop-j.j c.steal.new.self c.index_mut.result.now
-      (c.in_default.ensures.none ∙ ap stolen c.index_mut.ensures.value) ∙ c.loop-j.invariant.stolens;
-}

@@ -7,11 +7,9 @@ use Rattle.rq_model.specs.Machine.{all_lawful, run}
 use Rattle.rq_record.specs.Views.{record_of, version_of}
 use Rattle.rq_standing.specs.Stands.{Stands}
 use Rattle.rq_standing.specs.declared.standing.Standing.{Standing}
-use Rattle.rq_restart.specs.declared.position.Position.{Position}
-use Rattle.rq_restart.specs.Keepers.{KeptState, StandsFurther}
-use Rattle.rq_restart.specs.Pieces.{IsPosition}
-use Rattle.rq_restart.proofs.Keepers.{further, if_followed, is_second, run_noted}
-use Rattle.rq_restart.proofs.TakenPieces.{first_are, first_lawful, within}
+use Rattle.rq_restart.specs.declared.keeper.Position.{Position}
+use Rattle.rq_restart.specs.Keepers.{KeptState, StandsFurther, IsPosition}
+use Rattle.rq_restart.proofs.Keepers.{further, if_followed, is_second, run_noted, first_are, first_lawful, within}
 use Rattle.rq_restart.proofs.keeper.Keeper.go_along.Goals as goal
 
 pub take_each-requires : goal.take_each-requires

@@ -8,8 +8,8 @@ use Rattle.rq_model.specs.WellFormed.{IsWellFormed}
 use Rattle.rq_model.specs.Machine.{is_lawful, step}
 use Rattle.rq_model.specs.Queues.{transfers_at}
 use Rattle.rq_standing.specs.Parts.{Ended, Send}
-use Rattle.rq_standing.specs.Standings.{May}
-use Rattle.rq_standing.proofs.Closing.{Aborting, all_send, can_arrive, aborted_parts, room_of}
+use Rattle.rq_standing.specs.Stands.{May}
+use Rattle.rq_standing.proofs.UnitEnds.{Aborting, all_send, can_arrive, aborted_parts, room_of}
 use Rattle.rq_standing.proofs.Units.{units_ended}
 use Rattle.rq_standing.proofs.queues.Queues.abort.Goals as goal
 use Rattle.rq_standing.proofs.queues.Queues.abort.Goals.{In_ok-sent}

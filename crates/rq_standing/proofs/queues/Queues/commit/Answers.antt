@@ -4,7 +4,7 @@ use Rattle.std.specs.List.{list_any}
 use Rattle.std.specs.Prelude.{◌==◌}
 use Rattle.rq_model.specs.Records.{Commit}
 use Rattle.rq_model.specs.Machine.{is_lawful}
-use Rattle.rq_standing.proofs.Closing.{committed_parts}
+use Rattle.rq_standing.proofs.UnitEnds.{committed_parts}
 use Rattle.rq_standing.proofs.Units.{units_ended}
 use Rattle.rq_standing.proofs.queues.Queues.commit.Goals as goal
 

@@ -8,7 +8,7 @@ use Rattle.rq_model.proofs.StateCodes.{are_few}
 use Rattle.rq_state.specs.Comparing.{left_after}
 use Rattle.rq_state.specs.Orders.{put_in_order}
 use Rattle.rq_state.proofs.Behind.{counted_follow, still_differ}
-use Rattle.rq_standing.specs.Standings.{HoldsState}
+use Rattle.rq_standing.specs.Stands.{HoldsState}
 use Rattle.rq_standing.proofs.Together.{elements_in_order}
 use Rattle.rq_standing.proofs.queues.Queues.compare_elements.Goals as goal
 use Rattle.rq_standing.proofs.queues.Queues.compare_elements.Goals.{In_ok-elements}

@@ -5,7 +5,7 @@ use Rattle.rq_model.specs.Records as records
 use Rattle.rq_model.specs.States.{State}
 use Rattle.rq_record.specs.Views.{Record, record_of}
 use Rattle.rq_state.specs.Views.{id_of}
-use Rattle.rq_standing.specs.Standings.{May, Moved, taken}
+use Rattle.rq_standing.specs.Stands.{May, Moved, taken}
 use Rattle.rq_standing.proofs.queues.Queues.does.Goals as goal
 
 pub define-requires : goal.define-requires

@@ -2,7 +2,7 @@ use Rattle.std.proofs.Common.{◌≡◌, ◌+◌, ◌*◌, ◌-◌, ◌≤◌, �
 use Rattle.rq_model.specs.States.{Definition}
 use Rattle.rq_queue.specs.Rooms.{member_bytes}
 use Rattle.rq_standing.specs.Spelled.{least_bytes}
-use Rattle.rq_standing.proofs.Lengths.{of_all}
+use Rattle.rq_standing.proofs.Spellings.{of_all}
 use Rattle.rq_standing.proofs.queues.Queues.fits.Goals as goal
 
 room_behind : (lists members len : ℕ) → lists ≤ len → nat_le members (len - lists) ≡ nat_le (lists + members) len

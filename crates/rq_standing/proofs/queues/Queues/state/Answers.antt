@@ -10,7 +10,8 @@ use Rattle.rq_state.specs.Laws.{HasSame}
 use Rattle.rq_state.specs.Orders.{state_in_order, place_before}
 use Rattle.rq_queue.proofs.Gathered.{members, is_same}
 use Rattle.rq_standing.specs.Parts.{ArePartsOf}
-use Rattle.rq_standing.specs.Standings.{HoldsState}
+use Rattle.rq_standing.specs.Stands.{HoldsState}
+use Rattle.rq_standing.proofs.Units.{keys_are}
 use Rattle.rq_standing.proofs.queues.Queues.state.Goals as goal
 use Rattle.rq_standing.proofs.queues.Queues.state.Goals.{In_ok-fields}
 
@@ -30,7 +31,8 @@ same c t holds =
           ∙ c.in_ok-definitions.ensures.copied ∙ c.deref.ensures.value ∙ holds.definitions;
       units = is_same t.units (map unit_of c.in_ok-fields.fields.units.items)
           (ap (λ (v : Vec UnitNo Global). map unit_of v.items) poured.units
-          ∙ c.in_ok-units.ensures.numbers t holds.well holds.units);
+          ∙ (c.in_ok-units.ensures.numbers
+          ∙ keys_are c.args.self.now.units t holds.well c.in_ok-units.ensures.ordered holds.units));
       registrants = members registrant_before t.registrants
           (gathered (λ (p : Part). p.registrants) (part_of t) (length t.definitions)) c.new.result.items
           c.in_ok-fields.fields.registrants.items (ap (λ (s : State). s.registrants) whole) c.new.ensures.items
