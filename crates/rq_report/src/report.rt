@@ -32,8 +32,8 @@ fn put_registrants(text: &mut String, queue: QueueNo, state: &State) -> Result<(
     ensures { OnOk result (string_bytes text.new ≡ string_bytes text.old
         ++ flat_map registrant_line (filter (λ r. r.queue == queue.0) state.now.registrants)) }
 {
-    for at in state.registrants_of(queue) {
-        put_registrant_line(text, state.registrant(*at))?;
+    for r in state.registrants_of(queue) {
+        put_registrant_line(text, r)?;
     }
     Ok(())
 }
