@@ -1,5 +1,5 @@
 use Rattle.std.proofs.Common.{◌+◌, ◌*◌}
-use Rattle.rq_report.proofs.pieces.+halves.Given as goal
+use Rattle.rq_report.proofs.report.+halves.Given as goal
 
 -- half of the queues are put in fewer pieces
 abbrev pub decreases-queue_pieces : goal.decreases-queue_pieces

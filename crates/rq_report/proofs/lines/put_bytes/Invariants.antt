@@ -1,7 +1,7 @@
 use Rattle.std.proofs.Common.{◌≡◌, ◌++◌, length, string_bytes}
 use Rattle.std.specs.List.{flat_map}
 use Rattle.rq_model.specs.Reports.{hex_of}
-use Rattle.rq_report.proofs.hexes.put_bytes.Given as goal
+use Rattle.rq_report.proofs.lines.put_bytes.Given as goal
 
 -- the digits so far, and those of the rest, are the digits of all
 abbrev pub invariant-loop-rest : goal.invariant-loop-rest

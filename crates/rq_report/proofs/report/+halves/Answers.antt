@@ -3,7 +3,7 @@ use Rattle.std.specs.List.{flat_map}
 use Rattle.std.proofs.lemmas.Grind.{flat_map-append}
 use Rattle.rq_report.specs.Pieces.{AreLinesOf}
 use Rattle.rq_report.proofs.Queues.{both_are}
-use Rattle.rq_report.proofs.pieces.+halves.Goals as goal
+use Rattle.rq_report.proofs.report.+halves.Goals as goal
 
 pub returns : goal.returns
 returns g t c =
