@@ -1,4 +1,2 @@
-mod Sound
-mod Bodies
 mod Ends
-mod Seeking
+mod Sound

@@ -6,8 +6,8 @@ ghost use Rattle.rq_front.specs.Walks.{IsRight};
 ghost use Rattle.rq_record.specs.Views.{version_of};
 ghost use Rattle.rq_behind.specs.Behind.{StandApart, AreRightFrames, frame_bytes, looked_to};
 
-use crate::frames::length_at;
 use crate::places::{SearchEnd, next_place};
+use crate::runs::length_at;
 use rq_front::Span;
 use rq_record::Version;
 use std::alloc::{AllocError, Global};
@@ -28,10 +28,6 @@ pub struct Found {
     /// The offset at which the search gave up, if it did: what stands there and behind it was not
     /// looked at.
     pub gave_up: Option<usize>,
-}
-
-fn budget_of(count: usize) -> usize {
-    count.saturating_mul(TIMES).saturating_add(MORE)
 }
 
 // The body of the frame at an offset.
@@ -70,7 +66,9 @@ pub fn behind(
     ensures rest { IfOk result (λ f. from + (f.unfit + frame_bytes f.spans.items)
         ≡ looked_to bytes.now f.gave_up) }
 {
-    let mut budget = budget_of(bytes.len() - from);
+    let mut budget = (bytes.len() - from)
+        .saturating_mul(TIMES)
+        .saturating_add(MORE);
     let mut spans = Vec::new(alloc);
     let mut at = from;
     let mut unfit = 0;
@@ -82,18 +80,12 @@ pub fn behind(
                 at = span.start + span.len + 32;
                 spans.push(span)?;
             }
-            SearchEnd::Nowhere => {
+            SearchEnd::Nowhere(gave_up) => {
+                unfit += gave_up.unwrap_or(bytes.len()) - at;
                 return Ok(Found {
                     spans,
-                    unfit: unfit + (bytes.len() - at),
-                    gave_up: None,
-                });
-            }
-            SearchEnd::GaveUp(place) => {
-                return Ok(Found {
-                    spans,
-                    unfit: unfit + (place - at),
-                    gave_up: Some(place),
+                    unfit,
+                    gave_up,
                 });
             }
         }

@@ -2,7 +2,7 @@ use Rattle.std.proofs.Common.{◌≡◌, ◌+◌, ◌-◌, ◌↔◌, arith, rul
 use Rattle.std.specs.Prelude.{slice_range}
 use Rattle.sha2.specs.Sha256.{sha256}
 use Rattle.rq_front.proofs.Framing.{right_exactly}
-use Rattle.rq_behind.proofs.frames.has_right_digest.Goals as goal
+use Rattle.rq_behind.proofs.runs.has_right_digest.Goals as goal
 
 pub returns : goal.returns
 returns c =
