@@ -1,4 +1,4 @@
-use Rattle.rq_journal.proofs.Standing.{opened, opened_at}
+use Rattle.rq_journal.proofs.Openings.{opened, opened_at}
 use Rattle.rq_journal.proofs.opened_logs.opened_behind.Goals as goal
 
 pub returns-clause-whole : goal.returns-clause-whole

@@ -1,7 +1,7 @@
 use Rattle.std.proofs.Common.{◌≡◌, ℕ, ◌++◌, List, length, take, ap, ◌∙◌, arith}
 use Rattle.rq_model.specs.Frames.{frame}
 use Rattle.rq_journal.proofs.WithCheckpoint.{framed_long}
-use Rattle.rq_journal.proofs.marks.framed.Goals as goal
+use Rattle.rq_journal.proofs.checkpoints.framed.Goals as goal
 
 pub returns-then-body-used : goal.returns-then-body-used
 returns-then-body-used c =

@@ -5,8 +5,8 @@ use Rattle.rq_model.specs.Records as model
 use Rattle.rq_record.specs.Views.{Record, record_of}
 use Rattle.rq_journal.specs.declared.appender.NotTaken.{NotTaken}
 use Rattle.rq_journal.specs.Appenders.{AppendsEach, AppendsUpTo}
-use Rattle.rq_journal.proofs.Behind.{all_taken, behind, held_back}
-use Rattle.rq_journal.proofs.batches.frames_behind.Goals as goal
+use Rattle.rq_journal.proofs.Openings.{all_taken, behind, held_back}
+use Rattle.rq_journal.proofs.opened_logs.frames_behind.Goals as goal
 
 pub returns-in-None : goal.returns-in-None
 returns-in-None g c =
