@@ -1,4 +1,4 @@
-use Rattle.rq_tool.proofs.acts.act.Goals as goal
+use Rattle.rq_tool.proofs.commands.act.Goals as goal
 
 pub returns-in-RestartAt-clause-acts : goal.returns-in-RestartAt-clause-acts
 returns-in-RestartAt-clause-acts g c = rw c.in-RestartAt.is

@@ -1,6 +1,6 @@
 use Rattle.std.proofs.Common.{subst}
 use Rattle.rq_model.specs.Frames.{AreBytes}
-use Rattle.rq_tool.proofs.remade_logs.closed_log.Goals as goal
+use Rattle.rq_tool.proofs.works.closed_log.Goals as goal
 
 pub returns-clause-made : goal.returns-clause-made
 returns-clause-made g c =

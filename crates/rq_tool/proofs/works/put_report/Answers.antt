@@ -1,8 +1,8 @@
 use Rattle.std.proofs.lemmas.Result.{err_from_is_err_and}
 use Rattle.rq_model.specs.Reports.{IsReport}
 use Rattle.rq_front.specs.Chains.{IsLog, Refused}
-use Rattle.rq_tool.proofs.Writing.{puts_none, reports_puts}
-use Rattle.rq_tool.proofs.engine.put_report.Goals as goal
+use Rattle.rq_tool.proofs.Made.{puts_none, reports_puts}
+use Rattle.rq_tool.proofs.works.put_report.Goals as goal
 
 pub returns-in_err-restarted : goal.returns-in_err-restarted
 returns-in_err-restarted g c =

@@ -4,9 +4,8 @@ use Rattle.rq_model.specs.Checkpoints.{IsReportAt}
 use Rattle.rq_model.specs.Frames.{AreBytes}
 use Rattle.rq_front.specs.Chains.{IsLog}
 use Rattle.rq_tool.specs.Works.{HasNoReportAt}
-use Rattle.rq_tool.proofs.Made.{no_report_at}
-use Rattle.rq_tool.proofs.Writing.{puts_none, reports_puts}
-use Rattle.rq_tool.proofs.engine.put_report_at.Goals as goal
+use Rattle.rq_tool.proofs.Made.{no_report_at, puts_none, reports_puts}
+use Rattle.rq_tool.proofs.works.put_report_at.Goals as goal
 
 pub returns-in_err-from_there : goal.returns-in_err-from_there
 returns-in_err-from_there g c =

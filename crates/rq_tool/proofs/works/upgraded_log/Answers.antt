@@ -1,4 +1,4 @@
-use Rattle.rq_tool.proofs.remade_logs.upgraded_log.Goals as goal
+use Rattle.rq_tool.proofs.works.upgraded_log.Goals as goal
 
 pub returns-clause-made : goal.returns-clause-made
 returns-clause-made g c =
