@@ -6,7 +6,7 @@ ghost use Rattle.std.specs.List.{flat_map};
 ghost use Rattle.rq_model.specs.Checkpoints.{IsReportAt};
 ghost use Rattle.rq_model.specs.Reports.{IsReport};
 ghost use Rattle.rq_front.specs.Chains.{IsLog, Refused};
-ghost use Rattle.rq_restart.specs.Audits.{Audits, audited_of};
+ghost use Rattle.rq_restart.specs.Audits.{audited_of};
 ghost use Rattle.rq_tool.specs.Streams.{PutsText};
 ghost use Rattle.rq_tool.specs.Works.{HasNoReportAt, IsTextOf, IsWhyNot, audit_line};
 ghost use Rattle.rq_tool.specs.declared.works.Work.TheVariants.{Audit, Close, Upgrade};
