@@ -29,6 +29,7 @@ pub struct Opened {
 }
 
 /// Stands behind a front that was judged.
+#[tactic(auto, using(crate::proofs::Openings::opened, crate::proofs::Openings::opened_at))]
 pub fn opened_behind(front: JudgedFront) -> Opened
     ensures whole { (b : List ℕ) → IsJudged b front → IsOpened b result }
     ensures from { (b : List ℕ) (offset : ℕ) → IsJudgedAt b offset front → IsOpenedAt b offset result }
