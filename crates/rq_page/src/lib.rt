@@ -18,7 +18,6 @@ mod summaries;
 mod surveys;
 mod tables;
 mod units;
-mod walks;
 
 pub use markup::put_text;
 pub use pages::page;
