@@ -77,8 +77,9 @@ fn put_registrants(text: &mut String, shown: &Linked<'_>, lives: &Lives) -> Put 
     )?;
     for ((queue, name), steps) in &lives.registrants {
         let (number, name) = (Number(u64::from(*queue)), Text(name.text()));
-        let head = "<tr id=\"g{}-{}\"><th scope=\"row\">{}</th><td>{}</td><td>";
-        put_html(text, head, &[number, name, name, shown.queue_link(*queue)])?;
+        let head = "<tr id=\"g{}-{}\"><th scope=\"row\">{}</th><td>";
+        put_html(text, head, &[number, name, name])?;
+        put_html(text, "{}</td><td>", &[shown.queue_link(*queue)])?;
         put_life(text, shown, steps)?;
     }
     text.push_str(BOTTOM)

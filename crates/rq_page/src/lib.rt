@@ -9,7 +9,6 @@ mod markup;
 mod pages;
 mod payloads;
 mod pictures;
-mod questions;
 mod records;
 mod shown;
 mod steps;
@@ -20,5 +19,4 @@ mod tables;
 mod units;
 
 pub use markup::put_text;
-pub use pages::page;
-pub use questions::{Asked, Order};
+pub use pages::{Asked, Order, page};

@@ -6,7 +6,7 @@ ghost use Rattle.rq_found.specs.Refusals.{IsBroken};
 
 use crate::records::{Happening, put_row};
 use crate::shown::{Linkable, Linked};
-use crate::steps::{At, STEPS, Step, step_of};
+use crate::steps::{At, STEPS, Step, step_of, step_of_operation, step_of_unit};
 use rq_found::{
     End, Event, FollowedQueues, Numbered, PlacedFrames, Trouble, front_frames, unit_of,
 };
@@ -65,30 +65,6 @@ fn begun(alloc: Global, asked: &[u64]) -> Result<BTreeMap<u64, Vec<Step>>, Alloc
     Ok(lives)
 }
 
-// What a unit does by a record that has no element, if it is one of a unit.
-fn step_of_unit(it: &Numbered) -> Option<Step> {
-    let at = At::Record(it.number);
-    match &it.record {
-        KeptRecord::Begin { .. } => Some(Step::of("begins", "begins", at)),
-        KeptRecord::Commit { .. } => Some(Step::of("free", "commits", at)),
-        KeptRecord::Abort { .. } => Some(Step::of("back", "aborts", at)),
-        _ => None,
-    }
-}
-
-// What an operation does: it has one event.
-fn step_of_operation(it: &Numbered, events: &[Event]) -> Step {
-    let at = At::Record(it.number);
-    let step = match events.first() {
-        Some(event) => step_of(event, at),
-        None => Step::of("none", "does nothing", at),
-    };
-    Step {
-        unit: unit_of(&it.record).map(|unit| unit.0),
-        ..step
-    }
-}
-
 impl Lives {
     /// Before the first record.
     pub(crate) fn new(alloc: Global, shown: &Linked<'_>) -> Result<Lives, AllocError> {
@@ -125,7 +101,7 @@ impl Lives {
             let Event::To(element, _) = event else {
                 continue;
             };
-            if shown.has(Linkable::Element, *element) {
+            if shown.shows(Linkable::Element, *element) {
                 let step = Step {
                     element: None,
                     unit,
@@ -149,7 +125,7 @@ impl Lives {
         let Some(unit) = unit_of(&it.record) else {
             return Ok(false);
         };
-        if !shown.has(Linkable::Unit, unit.0) {
+        if !shown.shows(Linkable::Unit, unit.0) {
             return Ok(false);
         }
         let step = match (step_of_unit(it), events.first()) {
@@ -266,7 +242,7 @@ impl Lives {
         for unit in machine.open_units()? {
             machine.abort(unit)?;
             self.take_elements(alloc, shown, machine.events(), At::Restart, Some(unit))?;
-            if shown.has(Linkable::Unit, unit) {
+            if shown.shows(Linkable::Unit, unit) {
                 let step = Step::of("back", "aborted", At::Restart);
                 add(alloc, &mut self.units, unit, &step)?;
             }

@@ -178,8 +178,8 @@ pub(crate) fn put_rect(
     )
 }
 
-// What stands before the front's summary. No part of the page may be loaded from anywhere, no script
-// runs, and no style but that of a sum.
+// What stands before the front's summary: up to the name of the log, and behind it. No part of the page
+// may be loaded from anywhere, no script runs, and no style but that of a sum.
 const HEAD: &str = "<!DOCTYPE html>
 <html lang=\"en\">
 <head>
@@ -188,7 +188,9 @@ const HEAD: &str = "<!DOCTYPE html>
 <meta name=\"referrer\" content=\"no-referrer\">
 <meta name=\"color-scheme\" content=\"light dark\">
 <meta name=\"viewport\" content=\"width=device-width, initial-scale=1\">
-<title>{}</title>
+<title>";
+
+const STYLED: &str = "{}</title>
 <style>{}</style>
 </head>
 <body>
@@ -197,7 +199,8 @@ const HEAD: &str = "<!DOCTYPE html>
 /// Puts what stands before the front's summary of the log of this name.
 pub(crate) fn put_head(alloc: Global, text: &mut String, name: &str) -> Put {
     let sum = sum_of_style(alloc)?;
-    put_html(text, HEAD, &[Text(sum.as_str()), Text(name), Tag(STYLE)])
+    put_html(text, HEAD, &[Text(sum.as_str())])?;
+    put_html(text, STYLED, &[Text(name), Tag(STYLE)])
 }
 
 /// Puts what stands behind the last part.

@@ -12,7 +12,6 @@ use crate::histories::put_histories;
 use crate::lives::{Lives, lives_of};
 use crate::markup::{put_foot, put_head};
 use crate::pictures::put_picture;
-use crate::questions::{Asked, Order};
 use crate::records::put_record_rows;
 use crate::shown::Linked;
 use crate::summaries::{put_header, put_parts, put_summary};
@@ -25,6 +24,32 @@ use rq_state::State;
 use std::alloc::Global;
 use std::io::Write;
 use std::thread::Threads;
+
+/// In which order the queues of a page stand.
+#[derive(Clone, Copy, Debug, PartialEq, Eq)]
+pub enum Order {
+    /// The one with the most free elements first, and by number if they have as many.
+    Depth,
+    /// By number.
+    Number,
+    /// By name, and by number if they have the same.
+    Name,
+}
+
+/// What a page is asked to show, and what it says of itself.
+#[derive(Clone, Copy, Debug)]
+pub struct Asked<'a> {
+    /// The name of the log.
+    pub name: &'a str,
+    /// The version of the program that makes the page.
+    pub version: &'a str,
+    /// The order of the queues.
+    pub order: Order,
+    /// Elements whose lives are shown, however long the log is.
+    pub elements: &'a [u64],
+    /// Units whose lives are shown, however long the log is.
+    pub units: &'a [u64],
+}
 
 // What is found of a log: its restart, where its front ends, and which checkpoints are true.
 #[derive(Drop)]
@@ -41,6 +66,9 @@ struct Contents {
     found: RestartedLog,
     first: State,
     seen: Survey,
+    // The elements and the units that were asked for.
+    elements: Vec<u64>,
+    units: Vec<u64>,
 }
 
 // The same, with the lives that stand on the page, and whether these are all.
@@ -86,33 +114,45 @@ fn found_in<R: Threads + Sync>(
     })
 }
 
-fn contents_of(alloc: Global, bytes: &[u8], found: RestartedLog) -> Result<Contents, Trouble>
+fn contents_of(
+    alloc: Global,
+    bytes: &[u8],
+    found: RestartedLog,
+    asked: &Asked<'_>,
+) -> Result<Contents, Trouble>
     ensures { IfErr result IsBroken }
 {
+    let elements = asked.elements.to_vec(alloc)?;
+    let units = asked.units.to_vec(alloc)?;
     let first = first_state(alloc, bytes, found.end.at)?;
     let seen = surveyed(alloc, bytes, &first, &found.end, found.restarted.state())?;
-    Ok(Contents { found, first, seen })
+    Ok(Contents {
+        found,
+        first,
+        seen,
+        elements,
+        units,
+    })
 }
 
 // What is shown, as far as it is known before lives are gathered: whether those of all may be.
-fn begun<'a>(contents: &'a Contents, asked: &Asked<'a>) -> Linked<'a> {
+fn begun(contents: &Contents) -> Linked<'_> {
     let found = &contents.found;
+    let (elements, units) = (contents.elements.as_slice(), contents.units.as_slice());
     let count = found.end.records.saturating_sub(contents.first.next());
-    let definitions = found.restarted.state().definitions();
-    Linked::of(definitions, asked.elements, asked.units, count)
+    Linked::of(
+        found.restarted.state().definitions(),
+        elements,
+        units,
+        count,
+    )
 }
 
 // The lives of all, or of those that were asked for.
-fn gathered(
-    alloc: Global,
-    bytes: &[u8],
-    contents: &Contents,
-    asked: &Asked<'_>,
-    all: bool,
-) -> Result<Lives, Trouble>
+fn gathered(alloc: Global, bytes: &[u8], contents: &Contents, all: bool) -> Result<Lives, Trouble>
     ensures { IfErr result IsBroken }
 {
-    let mut shown = begun(contents, asked);
+    let mut shown = begun(contents);
     shown.all = all;
     let (first, found) = (&contents.first, &contents.found);
     lives_of(
@@ -126,19 +166,14 @@ fn gathered(
 }
 
 // Shows the lives of all, if they may be shown and fit.
-fn told_of(
-    alloc: Global,
-    bytes: &[u8],
-    contents: Contents,
-    asked: &Asked<'_>,
-) -> Result<PageContents, Trouble>
+fn told_of(alloc: Global, bytes: &[u8], contents: Contents) -> Result<PageContents, Trouble>
     ensures { IfErr result IsBroken }
 {
-    let may_be_all = begun(&contents, asked).all;
-    let mut lives = gathered(alloc, bytes, &contents, asked, may_be_all)?;
+    let may_be_all = begun(&contents).all;
+    let mut lives = gathered(alloc, bytes, &contents, may_be_all)?;
     let all = may_be_all && lives.more == 0;
     if may_be_all && !all {
-        lives = gathered(alloc, bytes, &contents, asked, false)?;
+        lives = gathered(alloc, bytes, &contents, false)?;
     }
     Ok(PageContents {
         contents,
@@ -197,7 +232,7 @@ fn put_all(
 ) -> Put
     ensures { OnOk result ((put : List ℕ) × (string_bytes text.new ≡ put ++ page_foot)) }
 {
-    let mut shown = begun(&told.contents, asked);
+    let mut shown = begun(&told.contents);
     let lives = Some(&told.lives);
     shown.all = told.all;
     shown.lives = lives;
@@ -250,7 +285,7 @@ pub fn page<R: Threads + Sync, W: Write>(
         (W.contents output.old) (W.contents output.new)) }
 {
     let found = found_in(rt, alloc, log)?;
-    let contents = contents_of(alloc, log.bytes, found)?;
-    let told = told_of(alloc, log.bytes, contents, asked)?;
+    let contents = contents_of(alloc, log.bytes, found, asked)?;
+    let told = told_of(alloc, log.bytes, contents)?;
     put_page(alloc, log.bytes, &told, asked, output)
 }

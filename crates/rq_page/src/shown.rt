@@ -61,7 +61,7 @@ impl<'a> Linked<'a> {
 
     /// Whether the page shows what a number names. Of a log that was carried on there may be elements
     /// to which nothing happens.
-    pub(crate) fn has(&self, kind: Linkable, number: u64) -> bool {
+    pub(crate) fn shows(&self, kind: Linkable, number: u64) -> bool {
         match (kind, self.lives) {
             (Linkable::Element, Some(lives)) => lives.elements.contains_key(&number),
             (Linkable::Element, None) => self.all || self.elements.contains(&number),
@@ -109,7 +109,7 @@ impl<'a> Linked<'a> {
 
     /// What a number names, with a link to it if that is shown.
     pub(crate) fn link(&self, kind: Linkable, number: u64) -> Html<'static> {
-        if !self.has(kind, number) {
+        if !self.shows(kind, number) {
             return Html::Number(number);
         }
         match kind {

@@ -3,7 +3,8 @@
 use crate::markup::Html::{Count, Number, Tag};
 use crate::markup::{put_html, put_optional};
 use crate::shown::{Linkable, Linked};
-use rq_found::{Effect, Event, Put};
+use rq_found::{Effect, Event, Numbered, Put, unit_of};
+use rq_record::KeptRecord;
 
 /// As many steps of one life are kept.
 pub(crate) const STEPS: usize = 10_000;
@@ -90,6 +91,30 @@ pub(crate) fn step_of(event: &Event, at: At) -> Step {
             element: Some(*element),
             ..step_of_effect(*effect, at)
         },
+    }
+}
+
+/// What a unit does by a record that has no element, if it is one of a unit.
+pub(crate) fn step_of_unit(it: &Numbered) -> Option<Step> {
+    let at = At::Record(it.number);
+    match &it.record {
+        KeptRecord::Begin { .. } => Some(Step::of("begins", "begins", at)),
+        KeptRecord::Commit { .. } => Some(Step::of("free", "commits", at)),
+        KeptRecord::Abort { .. } => Some(Step::of("back", "aborts", at)),
+        _ => None,
+    }
+}
+
+/// What an operation does: it has one event.
+pub(crate) fn step_of_operation(it: &Numbered, events: &[Event]) -> Step {
+    let at = At::Record(it.number);
+    let step = match events.first() {
+        Some(event) => step_of(event, at),
+        None => Step::of("none", "does nothing", at),
+    };
+    Step {
+        unit: unit_of(&it.record).map(|unit| unit.0),
+        ..step
     }
 }
 

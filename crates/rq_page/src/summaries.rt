@@ -3,7 +3,7 @@
 use crate::lives::Lives;
 use crate::markup::Html::{Count, Number, Tag, Text};
 use crate::markup::{Html, put_html, put_optional};
-use crate::questions::Asked;
+use crate::pages::Asked;
 use rq_found::{End, Put, is_whole};
 use rq_report::why_word;
 use rq_restart::Restarted;
@@ -42,25 +42,11 @@ const RESTART: &str = "<tr><th scope=\"row\">after the restart</th>\
 
 const WRONG: &str = ", <span class=\"bad\">of which {} do not spell the state before them</span>";
 
-// Puts with which checkpoint a log begins that was carried on, how long its front is, and what stands
-// behind that.
-fn put_front_end(text: &mut String, end: &End) -> Put {
+// Puts what stands behind the front.
+fn put_reason(text: &mut String, end: &End) -> Put {
     let class = if is_whole(end.why) { "whole" } else { "bad" };
-    put_optional(text, CARRIED, end.at.map(|at| Number(at)))?;
-    put_html(
-        text,
-        FRONT,
-        &[Count(end.records), Count(end.used), Count(end.total)],
-    )?;
-    put_html(
-        text,
-        BEHIND,
-        &[
-            Tag(class),
-            Text(why_word(end.why)),
-            Text(end.reason.as_str()),
-        ],
-    )
+    let (why, reason) = (Text(why_word(end.why)), Text(end.reason.as_str()));
+    put_html(text, BEHIND, &[Tag(class), why, reason])
 }
 
 // Puts the digest of the front's last frame, by which a log is known; of a front without records it
@@ -110,7 +96,10 @@ pub(crate) fn put_summary(
     checkpoints: &[(u64, bool)],
 ) -> Put {
     text.push_str(TOP)?;
-    put_front_end(text, end)?;
+    put_optional(text, CARRIED, end.at.map(|at| Number(at)))?;
+    let front = [Count(end.records), Count(end.used), Count(end.total)];
+    put_html(text, FRONT, &front)?;
+    put_reason(text, end)?;
     put_digest(alloc, text, bytes, end)?;
     let units = [Count(r.committed()), Count(r.aborted()), Count(r.cut_off())];
     put_html(text, UNITS, &units)?;

@@ -4,7 +4,7 @@ use crate::curves::{Canvas, Curve, along, put_axis};
 use crate::holdings::{put_fold, put_more};
 use crate::markup::Html::{Count, Number, Tag, Text};
 use crate::markup::put_html;
-use crate::questions::Order;
+use crate::pages::Order;
 use crate::shown::{Linked, QUEUES};
 use crate::surveys::{FEW_BINS, Survey};
 use rq_found::{End, Put, registrants_shown};
@@ -20,9 +20,9 @@ const OPEN: usize = 100;
 // The width and the height of a queue's curve.
 const SIZE: (u64, u64) = (128, 24);
 
-// The row of a queue, up to its greatest depth.
+// The row of a queue, up to its error queue.
 const ROW: &str = "<tr class=\"queue\" id=\"q{}\"><th scope=\"row\">{} <strong>{}</strong>\
-    <small>limit {}, error queue {}</small></th><td>{}</td>";
+    <small>limit {}, error queue ";
 
 // A queue, by what queues are put in order.
 #[derive(Clone, Copy)]
@@ -95,11 +95,12 @@ fn put_curve(text: &mut String, hall: &Hall<'_>, number: u32) -> Put {
 fn put_row(text: &mut String, hall: &Hall<'_>, line: &QueueRow, definition: &Definition) -> Put {
     let (number, name) = (Number(u64::from(line.number)), Text(definition.name.text()));
     let limit = Number(u64::from(definition.limit));
+    put_html(text, ROW, &[number, number, name, limit])?;
     let (error, depth) = (
         hall.shown.error_link(definition.error),
         Count(line.depth as u64),
     );
-    put_html(text, ROW, &[number, number, name, limit, error, depth])?;
+    put_html(text, "{}</small></th><td>{}</td>", &[error, depth])?;
     put_curve(text, hall, line.number)?;
     text.push_str("</tr>\n")
 }
