@@ -58,12 +58,14 @@ fn put_bars(text: &mut String, seen: &Survey, end: &End) -> Put {
 
 // Puts which units these are, and where they began.
 fn put_names(text: &mut String, shown: &Linked<'_>, seen: &Survey, end: &End) -> Put {
-    let mut before = "<p>Open where the front ends, and aborted by the restart: ";
+    text.push_str("<p>Open where the front ends, and aborted by the restart: ")?;
+    let mut is_first = true;
     for (unit, begun) in seen.begun.iter().take(SHOWN) {
+        let before = if is_first { "" } else { ", " };
         let (word, at) = begun_at(*begun, end);
         let unit = shown.link(Linkable::Unit, *unit);
         put_html(text, "{}{} ({}{})", &[Tag(before), unit, word, at])?;
-        before = ", ";
+        is_first = false;
     }
     let more = seen.begun.len().saturating_sub(SHOWN) as u64;
     if more > 0 {

@@ -100,8 +100,7 @@ pub(crate) fn close_carried<R: Threads + Sync>(
     plan: &Plan,
 ) -> Result<(), Refusal> {
     let mut log = front_of(rt, alloc, bytes, plan)?;
-    let front = redone_behind(rt, alloc, bytes, plan)?;
-    let aborts = aborts_of(alloc, &front.state)?;
+    let aborts = aborts_of(alloc, &redone_behind(rt, alloc, bytes, plan)?.state)?;
     append_all(alloc, &mut log, &aborts)?;
     bytes.truncate(log.opened.used);
     bytes.append(&mut log.frames)?;

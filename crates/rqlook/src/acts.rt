@@ -119,23 +119,41 @@ where
     perform(rt, asked, &mut output)
 }
 
-// Does the command on its log.
-fn act_on<R>(rt: &R, asked: &Request<'_, '_>, watch: Watch) -> Result<bool, Failure>
+// Does the command of these words on the log.
+fn act_on<'a, R>(
+    rt: &R,
+    name: &'a str,
+    words: &'a ArgMatches<'_>,
+    log: ShownLog<'a>,
+    watch: Watch,
+) -> Result<bool, Failure>
 where
     R: Files + Print + Eprint + Clock + AllocGlobal + Threads + Sync,
     R::File: AsFd,
 {
+    let file = file_of(words);
+    let asked = Request {
+        name,
+        words,
+        file,
+        log,
+    };
     // These begin with the first record, and so show no log that was carried on.
-    if asked.log.at.is_some() && matches!(asked.name, "script" | "salvage") {
-        return Err(of_file(rt, asked.file, FileTrouble::Carried));
+    if asked.log.at.is_some() && matches!(name, "script" | "salvage") {
+        return Err(of_file(rt, file, FileTrouble::Carried));
     }
-    if let Some(to) = asked.words.get_str("OUT") {
-        return make_file(rt, asked, to);
+    if let Some(to) = words.get_str("OUT") {
+        return make_file(rt, &asked, to);
     }
-    match print_shown(rt, asked, watch) {
+    match print_shown(rt, &asked, watch) {
         Ok(fine) => Ok(fine),
-        Err(trouble) => Err(of_file(rt, asked.file, FileTrouble::Refused(trouble))),
+        Err(trouble) => Err(of_file(rt, file, FileTrouble::Refused(trouble))),
     }
+}
+
+// The file that the log is in.
+fn file_of<'a>(words: &'a ArgMatches<'_>) -> &'a str {
+    words.get_str("LOG").unwrap_or("-")
 }
 
 /// Does the command of the words on its log. False answers that something is wrong with the log.
@@ -150,19 +168,12 @@ where
     let Some(plan) = plan_of(words) else {
         return Err(Failure::Workers);
     };
-    let file = words.get_str("LOG").unwrap_or("-");
-    let bytes = read_log_file(rt, file, watch)?;
+    let bytes = read_log_file(rt, file_of(words), watch)?;
     watch.begins(rt, &bytes);
     let log = ShownLog {
         bytes: &bytes,
         at: begins_at(&bytes),
         plan: &plan,
     };
-    let asked = Request {
-        name,
-        words,
-        file,
-        log,
-    };
-    act_on(rt, &asked, watch)
+    act_on(rt, name, words, log, watch)
 }
