@@ -208,7 +208,7 @@ impl Lives {
         Ok(())
     }
 
-    // All records of the front, and which of its checkpoints are not true.
+    // All records of the front, of whose checkpoints it is known whether they are true.
     fn walk(
         &mut self,
         alloc: Global,
