@@ -153,7 +153,10 @@ where
 
 // The file that the log is in.
 fn file_of<'a>(words: &'a ArgMatches<'_>) -> &'a str {
-    words.get_str("LOG").unwrap_or("-")
+    match words.get_str("LOG") {
+        Some(file) => file,
+        None => "-",
+    }
 }
 
 /// Does the command of the words on its log. False answers that something is wrong with the log.
