@@ -1,7 +1,7 @@
-use Rattle.std.proofs.Common.{◌≡◌, ◌∙◌, All, arith, rules}
+use Rattle.std.proofs.Common.{◌∙◌, All, arith}
 use Rattle.rq_exchange.proofs.Words.{common_steps, IsPart, map_push}
-use Rattle.rq_exchange.proofs.Loops.{next_has, all_came}
-use Rattle.rq_exchange.proofs.board.placed.Goals as goal
+use Rattle.rq_exchange.proofs.Loops.{next_has}
+use Rattle.rq_exchange.proofs.gathered.placed.Goals as goal
 
 pub loop-done-preserved : goal.loop-done-preserved
 loop-done-preserved c = (
@@ -14,8 +14,3 @@ loop-done-preserved c = (
       let placed = c.place.ensures.placed t part in
       grind (arith, common_steps, map_push),
 )
-
-pub returns-clause-placed : goal.returns-clause-placed
-returns-clause-placed c = λ t all x h.
-    let came : c.loop-done.yielded ≡ c.args.all.items = search (rules, all_came) in
-    c.loop-done.invariant.1 t all x (rw came h)

@@ -1,7 +1,7 @@
 use Rattle.std.proofs.Common.{◌≡◌, ◌∙◌, arith, rules}
 use Rattle.rq_exchange.proofs.Words.{eqb_tells, common_steps, IsPart, map_push}
 use Rattle.rq_exchange.proofs.Loops.{next_has, all_came}
-use Rattle.rq_exchange.proofs.board.place.Goals as goal
+use Rattle.rq_exchange.proofs.gathered.place.Goals as goal
 
 pub loop-one-preserved : goal.loop-one-preserved
 loop-one-preserved c = (
