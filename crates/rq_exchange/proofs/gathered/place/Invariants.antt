@@ -1,4 +1,4 @@
-use Rattle.std.proofs.Common.{◌≡◌, ◌<◌, ℕ, All, map, length}
+use Rattle.std.proofs.Common.{◌≡◌, ◌<◌, ℕ, All, length}
 use Rattle.rq_exchange.proofs.Words.{State, times, IsPart, HasPart, redone_in}
 use Rattle.rq_exchange.proofs.gathered.place.Given as goal
 
