@@ -1,7 +1,7 @@
 use Rattle.std.proofs.Common.{Some, None, arith}
 use Rattle.std.proofs.lemmas.Bool.Decides.{nat_tests}
 use Rattle.rq_writer.proofs.Numbers.{number_is}
-use Rattle.rq_writer.proofs.decimals.decimal_number.Goals as goal
+use Rattle.rq_writer.proofs.fields.decimal_number.Goals as goal
 
 pub returns-then-not-is_decimal : goal.returns-then-not-is_decimal
 returns-then-not-is_decimal c =

@@ -1,6 +1,6 @@
-use Rattle.rq_writer.proofs.Answering.{every_script_has_answer}
+use Rattle.rq_writer.proofs.OneAnswer.{every_script_has_answer}
 use Rattle.rq_writer.proofs.OneAnswer.{one_answer}
-use Rattle.rq_writer.proofs.script_laws.one_answer.Goals as goal
+use Rattle.rq_writer.proofs.made_logs.one_answer.Goals as goal
 
 pub returns-clause-some : goal.returns-clause-some
 returns-clause-some c =
