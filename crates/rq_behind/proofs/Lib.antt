@@ -1,3 +1,2 @@
+mod Ends
 mod Sound
-mod Bodies
-mod Seeking

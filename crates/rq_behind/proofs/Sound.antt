@@ -1,15 +1,40 @@
--- What is found is right, in order and apart.
-use Rattle.std.proofs.Common.{◌≡◌, ℕ, ◌+◌, ◌-◌, ◌≤◌, List, [], ◌∷◌, ◌++◌, length, drop, Option}
-use Rattle.std.proofs.Common.{sym, subst, arith, inl, inr}
-use Rattle.std.specs.Prelude.{All}
+-- The search: what is found place by place, and that it is right, in order and apart.
+use Rattle.std.proofs.Common.{◌≡◌, ℕ, ◌+◌, ◌-◌, ◌<◌, ◌≤◌, List, [], ◌∷◌, ◌++◌, length, drop, Option, Some, None}
+use Rattle.std.proofs.Common.{sym, subst, arith, below_more, inl, inr}
+use Rattle.std.specs.Prelude.{All, MatchOption}
 use Rattle.std.proofs.lemmas.List.{length-drop, append-nil, append_assoc}
 use Rattle.std.proofs.lemmas.List.Elements.{All-nil, All-cons}
 use Rattle.rq_model.specs.Records.{Version}
 use Rattle.rq_model.specs.Frames.{HasFrame, stated}
 use Rattle.rq_front.specs.Walks.{IsRight}
 use Rattle.rq_front.specs.declared.spans.Span.{Span}
-use Rattle.rq_behind.specs.Runs.{IsRightAt, frame_end}
-use Rattle.rq_behind.specs.Behind.{StandApart, AreRightFrames, IsNext, Here, Led, Sought, LeadsFrom}
+use Rattle.rq_behind.specs.Runs.{IsRightAt, BeginsRun, frame_end}
+use Rattle.rq_behind.specs.Behind.{AreRightFrames, HasNoRunBefore, Here, IsFirstRun, IsNext, IsPlaceAt, IsRunPlace, Led}
+use Rattle.rq_behind.specs.Behind.{LeadsFrom, LeadsTo, Sought, StandApart}
+use Rattle.rq_behind.specs.declared.places.SearchEnd.{SearchEnd}
+use Rattle.rq_behind.specs.declared.places.SearchEnd.TheVariants.{At, Nowhere}
+
+-- no run begins at one place more
+pub none_more : (version : Version) (b : List ℕ) (from at : ℕ) → HasNoRunBefore version b from at
+    → (BeginsRun version b at → ⊥) → HasNoRunBefore version b from (at + 1)
+none_more version b from at none here = λ q low lt.
+    below_more (λ k. from ≤ k → BeginsRun version b k → ⊥) at (λ k less above. none k above less) (λ above. here) q lt low
+
+-- what is found at a place is what is found from the offset on
+pub run_place : (version : Version) (b : List ℕ) (from at : ℕ) (place : SearchEnd) → from ≤ at → at < length b
+    → HasNoRunBefore version b from at → IsPlaceAt version b at place → IsRunPlace version b from place
+run_place version b from at (At p) low high none found =
+    subst (IsFirstRun version b from) (sym found.0) (record { behind = low; run = found.1; first = none })
+run_place version b from at (Nowhere None) low high none found = absurd cc
+run_place version b from at (Nowhere (Some p)) low high none found =
+    let here : p ≡ at = cc in (omega (arith, here), omega (arith, here))
+
+-- a wrong frame leads to where the next one leads
+pub leads_on : (b : List ℕ) (at second : ℕ) (place : Option ℕ) → HasFrame (drop at b) → second ≡ frame_end b at
+    → MatchOption place ((p : ℕ) → LeadsFrom b second p → ⊥) (LeadsFrom b second)
+    → MatchOption place ((p : ℕ) → LeadsTo b at p → ⊥) (LeadsTo b at)
+leads_on b at second None frame e none = λ p led. none p (subst (λ (s : ℕ). LeadsFrom b s p) (sym e) led.1)
+leads_on b at second (Some p) frame e led = (frame, subst (λ (s : ℕ). LeadsFrom b s p) e led)
 
 -- what lengths lead to stands behind
 led_right : (b : List ℕ) (second p : ℕ) → LeadsFrom b second p → IsRightAt b p × (second ≤ p)

@@ -1,13 +1,13 @@
--- What stands behind the front of a log, and where a search for it ends.
+-- What stands behind the front of a log.
 use Rattle.std.specs.Prelude.{◌≡◌, ◌⊎◌, ℕ, ◌+◌, ◌-◌, ◌<◌, ◌≤◌, List, [], ◌∷◌, length, drop, Option}
-use Rattle.std.specs.Prelude.{Some, None}
+use Rattle.std.specs.Prelude.{Some, None, unwrap_or}
 use Rattle.std.specs.List.{sum_by}
 use Rattle.rq_model.specs.Records.{Version}
 use Rattle.rq_model.specs.Frames.{HasFrame, stated}
 use Rattle.rq_front.specs.declared.spans.Span.{Span}
-use Rattle.rq_behind.specs.declared.places.SearchEnd.{SearchEnd}
-use Rattle.rq_behind.specs.declared.places.SearchEnd.TheVariants.{At, Nowhere, GaveUp}
 use Rattle.rq_behind.specs.Runs.{IsRightAt, BeginsRun, frame_end}
+use Rattle.rq_behind.specs.declared.places.SearchEnd.{SearchEnd}
+use Rattle.rq_behind.specs.declared.places.SearchEnd.TheVariants.{At, Nowhere}
 
 -- the lengths of a wrong frame, and of a wrong one behind it, lead to a right frame: a damaged body
 -- spoils its own frame, a damaged digest its own and the next
@@ -65,23 +65,22 @@ frame_bytes ss = sum_by (λ s. 36 + s.len) ss
 
 -- up to where the bytes were looked at
 abbrev pub looked_to : List ℕ → Option ℕ → ℕ
-looked_to b None = length b
-looked_to b (Some place) = place
+looked_to b stop = unwrap_or stop (length b)
+
+-- Where a search ends.
 
 -- what stands at a place: a run begins there, or the search gave up there
 abbrev pub IsPlaceAt : Version → List ℕ → ℕ → SearchEnd → Type 0
 IsPlaceAt version b at (At p) = (p ≡ at) × BeginsRun version b at
-IsPlaceAt version b at Nowhere = ⊥
-IsPlaceAt version b at (GaveUp p) = p ≡ at
+IsPlaceAt version b at (Nowhere stop) = stop ≡ Some at
 
 -- the first run from an offset on, that there is none, or where the search for it gave up
 abbrev pub IsRunPlace : Version → List ℕ → ℕ → SearchEnd → Type 0
 IsRunPlace version b from (At p) = IsFirstRun version b from p
-IsRunPlace version b from Nowhere = HasNoRunBefore version b from (length b)
-IsRunPlace version b from (GaveUp p) = (from ≤ p) × (p ≤ length b)
+IsRunPlace version b from (Nowhere None) = HasNoRunBefore version b from (length b)
+IsRunPlace version b from (Nowhere (Some p)) = (from ≤ p) × (p ≤ length b)
 
 -- the next right frame from an offset on, that there is none, or where the search for it gave up
 abbrev pub IsNextPlace : Version → List ℕ → ℕ → SearchEnd → Type 0
 IsNextPlace version b at (At p) = IsNext version b at p
-IsNextPlace version b at Nowhere = HasNone version b at
-IsNextPlace version b at (GaveUp p) = (at ≤ p) × (p ≤ length b)
+IsNextPlace version b at (Nowhere stop) = AreRightFrames version b at [] stop

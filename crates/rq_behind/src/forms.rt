@@ -2,8 +2,7 @@
 
 ghost use Rattle.std.specs.Prelude.{◌≡◌, ◌↔◌, IsTrue, option_map, is_some};
 ghost use Rattle.rq_bytes.specs.Readers.{after_of};
-ghost use Rattle.rq_model.specs.Reading.{name_left, who_read, at_most, enqueue_read};
-ghost use Rattle.rq_model.specs.Reading.{dequeue_read, kill_read, record_behind, record_read};
+ghost use Rattle.rq_model.specs.Reading.{name_left, who_read, at_most, record_behind, record_read};
 ghost use Rattle.rq_record.specs.Views.{version_of};
 ghost use Rattle.rq_behind.specs.Runs.{SpellsSome};
 
@@ -51,40 +50,7 @@ fn at_most(limit: usize, bytes: Cursor<'_>) -> Option<()>
     }
 }
 
-#[tactic(auto, unfolding(rq_model::specs::Reading::enqueue_read))]
-fn enqueue(mut bytes: Cursor<'_>) -> Option<()>
-    ensures { is_some result ≡ is_some (enqueue_read bytes.entry) }
-{
-    bytes.u64()?;
-    bytes.u32()?;
-    bytes.u8()?;
-    who(&mut bytes)?;
-    at_most(PAYLOAD, bytes)
-}
-
-#[tactic(auto, unfolding(rq_model::specs::Reading::dequeue_read))]
-fn dequeue(mut bytes: Cursor<'_>) -> Option<()>
-    ensures { is_some result ≡ is_some (dequeue_read bytes.entry) }
-{
-    bytes.u64()?;
-    bytes.u32()?;
-    who(&mut bytes)?;
-    bytes.end()
-}
-
-#[tactic(auto, unfolding(rq_model::specs::Reading::kill_read))]
-fn kill(version: Version, mut bytes: Cursor<'_>) -> Option<()>
-    ensures { is_some result ≡ is_some (kill_read (version_of version) bytes.entry) }
-{
-    if version == Version::One {
-        return None;
-    }
-    bytes.u32()?;
-    bytes.u64()?;
-    bytes.end()
-}
-
-#[tactic(auto, unfolding(rq_model::specs::Reading::record_behind, rq_model::specs::Reading::define_read, rq_model::specs::Reading::registration_read, rq_model::specs::Reading::unit_read, rq_model::specs::Reading::checkpoint_read,))]
+#[tactic(auto, unfolding(rq_model::specs::Reading::record_behind, rq_model::specs::Reading::define_read, rq_model::specs::Reading::registration_read, rq_model::specs::Reading::unit_read, rq_model::specs::Reading::enqueue_read, rq_model::specs::Reading::dequeue_read, rq_model::specs::Reading::checkpoint_read, rq_model::specs::Reading::kill_read,))]
 fn fields(version: Version, kind: u8, mut bytes: Cursor<'_>) -> Option<()>
     ensures { is_some result ≡ is_some (record_behind (version_of version) kind bytes.entry) }
 {
@@ -102,10 +68,28 @@ fn fields(version: Version, kind: u8, mut bytes: Cursor<'_>) -> Option<()>
             bytes.u64()?;
             bytes.end()
         }
-        5 => enqueue(bytes),
-        6 => dequeue(bytes),
+        5 => {
+            bytes.u64()?;
+            bytes.u32()?;
+            bytes.u8()?;
+            who(&mut bytes)?;
+            at_most(PAYLOAD, bytes)
+        }
+        6 => {
+            bytes.u64()?;
+            bytes.u32()?;
+            who(&mut bytes)?;
+            bytes.end()
+        }
         9 => at_most(CHECKPOINT, bytes),
-        10 => kill(version, bytes),
+        10 => {
+            if version == Version::One {
+                return None;
+            }
+            bytes.u32()?;
+            bytes.u64()?;
+            bytes.end()
+        }
         _ => None,
     }
 }

@@ -4,7 +4,6 @@
 #![tactic(auto)]
 
 mod forms;
-mod frames;
 mod places;
 mod runs;
 mod search;

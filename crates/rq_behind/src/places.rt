@@ -3,11 +3,9 @@
 ghost use Rattle.std.specs.Prelude.{◌≡◌, ◌≤◌, ℕ, length, MatchOption};
 ghost use Rattle.rq_record.specs.Views.{version_of};
 ghost use Rattle.rq_behind.specs.Runs.{BeginsRun};
-ghost use Rattle.rq_behind.specs.Behind.{LeadsFrom, LeadsTo};
-ghost use Rattle.rq_behind.specs.Behind.{IsNextPlace, IsPlaceAt, IsRunPlace};
+ghost use Rattle.rq_behind.specs.Behind.{IsNextPlace, IsPlaceAt, IsRunPlace, LeadsFrom, LeadsTo};
 
-use crate::frames::{judge, length_at};
-use crate::runs::{judge_run, looks_like_run};
+use crate::runs::{judge, judge_run, length_at, looks_like_run};
 use rq_front::FRAME_LEN;
 use rq_record::Version;
 
@@ -19,10 +17,9 @@ const BLOCK: usize = 64;
 pub(crate) enum SearchEnd {
     /// A right frame stands here.
     At(usize),
-    /// No right frame is found any more.
-    Nowhere,
-    /// Too many bytes were looked at in vain to look at this place, too.
-    GaveUp(usize),
+    /// No right frame is found any more. If too many bytes were looked at in vain, this is the place
+    /// that is not looked at, too.
+    Nowhere(Option<usize>),
 }
 
 // Takes the cost of a digest that was made in vain from what may be spent.
@@ -43,7 +40,7 @@ fn place_at(version: Version, bytes: &[u8], at: usize, budget: &mut usize) -> Op
         return None;
     }
     if *budget == 0 {
-        return Some(SearchEnd::GaveUp(at));
+        return Some(SearchEnd::Nowhere(Some(at)));
     }
     let judged = judge_run(bytes, at);
     if judged.is_right {
@@ -64,7 +61,7 @@ fn run_from(version: Version, bytes: &[u8], from: usize, budget: &mut usize) -> 
             None => {}
         }
     }
-    SearchEnd::Nowhere
+    SearchEnd::Nowhere(None)
 }
 
 // The right frame to which lengths lead, and where the bytes end that were looked at for it.
@@ -136,7 +133,7 @@ pub(crate) fn next_place(version: Version, bytes: &[u8], at: usize, budget: &mut
     }
     spend(budget, at, led.end);
     if at == bytes.len() {
-        return SearchEnd::Nowhere;
+        return SearchEnd::Nowhere(None);
     }
     run_from(version, bytes, at + 1, budget)
 }

@@ -1,13 +1,80 @@
-//! Runs of frames: at which places one begins. What needs no digest is asked first.
+//! Frames that are right in themselves, and runs of them: at which places one begins. What needs no
+//! digest is asked first.
 
-ghost use Rattle.std.specs.Prelude.{◌≡◌, ◌↔◌, ◌≤◌, ◌⊎◌, length, IsTrue, MatchOption};
+ghost use Rattle.std.specs.Prelude.{◌≡◌, ◌↔◌, ◌≤◌, ◌+◌, ◌⊎◌, length, drop, IsTrue, MatchOption};
+ghost use Rattle.rq_model.specs.Frames.{HasFrame, HasRightFrame, before, stated};
 ghost use Rattle.rq_record.specs.Views.{version_of};
 ghost use Rattle.rq_behind.specs.Runs.{EndsOr, IsRightAt, LooksLikeRun, LooksRight, RightRun, frame_end};
 
 use crate::forms::spells_some;
-use crate::frames::{Judged, judge, length_at};
+use byteorder::{BigEndian, ByteOrder};
 use rq_front::FRAME_LEN;
 use rq_record::Version;
+use sha2::{Digest, Sha256};
+
+// The most bytes of a body.
+const BODY_LIMIT: usize = 268_435_456;
+
+/// The length of the body of the frame at an offset, whatever its digest; none if no frame stands
+/// there.
+pub(crate) fn length_at(bytes: &[u8], at: usize) -> Option<usize>
+    requires { at ≤ length bytes.now }
+    ensures { MatchOption result (HasFrame (drop at bytes.now) → ⊥)
+        (λ len. HasFrame (drop at bytes.now) × (len ≡ stated (drop at bytes.now))
+        × (at + (36 + len) ≤ length bytes.now)) }
+{
+    let rest = bytes.split_at(at).1;
+    if rest.len() < 4 {
+        return None;
+    }
+    let len = BigEndian::read_u32(rest) as usize;
+    if len == 0 || len > BODY_LIMIT || rest.len() < FRAME_LEN + len {
+        return None;
+    }
+    Some(len)
+}
+
+// Whether the digest of the frame at an offset is right. The 32 bytes before it, the length and the
+// body are side by side.
+fn has_right_digest(bytes: &[u8], at: usize, len: usize) -> bool
+    requires after { 32 ≤ at }
+    requires frame { HasFrame (drop at bytes.now) }
+    requires size { len ≡ stated (drop at bytes.now) }
+    requires within { at + (36 + len) ≤ length bytes.now }
+    ensures { IsTrue result ↔ HasRightFrame (before at bytes.now) (drop at bytes.now) }
+{
+    let digest = Sha256::digest(&bytes[at - 32..at + 4 + len]);
+    digest.as_slice() == &bytes[at + 4 + len..at + FRAME_LEN + len]
+}
+
+/// A frame that was looked at: whether it is right in itself, and where the bytes end that were
+/// looked at for that.
+#[derive(Clone, Copy, Debug)]
+pub(crate) struct Judged {
+    pub(crate) is_right: bool,
+    pub(crate) end: usize,
+}
+
+/// The frame at an offset. If it is right in itself, it ends where the bytes end that were looked at.
+pub(crate) fn judge(bytes: &[u8], at: usize) -> Judged
+    requires after { 32 ≤ at }
+    requires within { at ≤ length bytes.now }
+    ensures right { IsTrue result.is_right ↔ IsRightAt bytes.now at }
+    ensures end { IsTrue result.is_right → result.end ≡ frame_end bytes.now at }
+    ensures low { at ≤ result.end }
+    ensures high { result.end ≤ length bytes.now }
+{
+    let Some(len) = length_at(bytes, at) else {
+        return Judged {
+            is_right: false,
+            end: at,
+        };
+    };
+    Judged {
+        is_right: has_right_digest(bytes, at, len),
+        end: at + FRAME_LEN + len,
+    }
+}
 
 // Where the frame at an offset ends whose body spells a record, whatever its digest; none if none
 // stands there.
@@ -25,13 +92,6 @@ fn likely_end(version: Version, bytes: &[u8], at: usize) -> Option<usize>
     }
 }
 
-fn is_likely(version: Version, bytes: &[u8], at: usize) -> bool
-    requires { at ≤ length bytes.now }
-    ensures { IsTrue result ↔ LooksRight (version_of version) bytes.now at }
-{
-    likely_end(version, bytes, at).is_some()
-}
-
 // Whether such a frame stands at an offset, and another behind it, if the bytes do not end there.
 fn are_two_likely(version: Version, bytes: &[u8], second: usize) -> bool
     requires { second ≤ length bytes.now }
@@ -39,7 +99,7 @@ fn are_two_likely(version: Version, bytes: &[u8], second: usize) -> bool
         × EndsOr (LooksRight (version_of version) bytes.now) bytes.now second) }
 {
     match likely_end(version, bytes, second) {
-        Some(third) => third == bytes.len() || is_likely(version, bytes, third),
+        Some(third) => third == bytes.len() || likely_end(version, bytes, third).is_some(),
         None => false,
     }
 }
@@ -55,21 +115,6 @@ pub(crate) fn looks_like_run(version: Version, bytes: &[u8], at: usize) -> bool
     }
 }
 
-// The frame at an offset and the one behind it, if the bytes do not end there.
-fn judge_two(bytes: &[u8], second: usize) -> Judged
-    requires after { 32 ≤ second }
-    requires within { second ≤ length bytes.now }
-    ensures right { IsTrue result.is_right
-        ↔ (IsRightAt bytes.now second × EndsOr (IsRightAt bytes.now) bytes.now second) }
-    ensures low { second ≤ result.end }
-{
-    let first = judge(bytes, second);
-    if !first.is_right || first.end == bytes.len() {
-        return first;
-    }
-    judge(bytes, first.end)
-}
-
 /// The digests of the run that may begin at an offset, up to the first wrong one.
 pub(crate) fn judge_run(bytes: &[u8], at: usize) -> Judged
     requires after { 32 ≤ at }
@@ -81,5 +126,9 @@ pub(crate) fn judge_run(bytes: &[u8], at: usize) -> Judged
     if !first.is_right || first.end == bytes.len() {
         return first;
     }
-    judge_two(bytes, first.end)
+    let second = judge(bytes, first.end);
+    if !second.is_right || second.end == bytes.len() {
+        return second;
+    }
+    judge(bytes, second.end)
 }

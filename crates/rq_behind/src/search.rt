@@ -6,8 +6,8 @@ ghost use Rattle.rq_front.specs.Walks.{IsRight};
 ghost use Rattle.rq_record.specs.Views.{version_of};
 ghost use Rattle.rq_behind.specs.Behind.{StandApart, AreRightFrames, frame_bytes, looked_to};
 
-use crate::frames::length_at;
 use crate::places::{SearchEnd, next_place};
+use crate::runs::length_at;
 use rq_front::Span;
 use rq_record::Version;
 use std::alloc::{AllocError, Global};
@@ -80,18 +80,12 @@ pub fn behind(
                 at = span.start + span.len + 32;
                 spans.push(span)?;
             }
-            SearchEnd::Nowhere => {
+            SearchEnd::Nowhere(gave_up) => {
+                unfit += gave_up.unwrap_or(bytes.len()) - at;
                 return Ok(Found {
                     spans,
-                    unfit: unfit + (bytes.len() - at),
-                    gave_up: None,
-                });
-            }
-            SearchEnd::GaveUp(place) => {
-                return Ok(Found {
-                    spans,
-                    unfit: unfit + (place - at),
-                    gave_up: Some(place),
+                    unfit,
+                    gave_up,
                 });
             }
         }

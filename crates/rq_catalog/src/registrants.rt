@@ -10,8 +10,7 @@ use std::collections::BTreeSet;
 
 /// The names that are registered with each queue, in order, so that a binary search finds one.
 /// Whoever writes a log chooses the names, and could choose names that a hash table puts into one
-/// place. If names come in order, a set has room for about twice as many as it holds. So each takes
-/// 16 bytes there; a `Name` would take 65.
+/// place. Each takes 16 bytes there; a `Name` would take 65.
 #[derive(Drop)]
 pub(crate) struct RegisteredNames {
     alloc: Global,

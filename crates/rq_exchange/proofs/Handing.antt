@@ -77,10 +77,10 @@ same_lists f d (x ∷ xs) (y ∷ ys) e h =
     λ i. sym (h 0 x refl) i ∷ same_lists f d xs ys (omega (arith, e)) (λ k z is. h (suc k) z is) i
 
 module _ (job : Job) (chain : CountdownChain) (is : IsChainOf job chain) (q e : ℕ)
-    (near : q < length job.definitions.now)
-    (err : e ≡ at (errors_in job) q) (within : e < length job.definitions.now) where
+    (close : q < length job.definitions.now) (err : e ≡ at (errors_in job) q)
+    (within : e < length job.definitions.now) where
   fed : 0 < length (listed job.sources.now e)
-  fed = rw err (omega (arith, (is.web.ranked q near (omega (arith, err, within))).0))
+  fed = rw err (omega (arith, (is.web.ranked q close (omega (arith, err, within))).0))
 
   -- the last is given what left the sources
   pub given : (cd : Countdown Outbox Target) (k : ℕ) (a : Arrival Outbox) (x : Outbox) → k ≡ at chain.slots.items e
@@ -101,16 +101,7 @@ module _ (job : Job) (chain : CountdownChain) (is : IsChainOf job chain) (q e : 
       → length ps ≡ length chain.countdowns.items → HandsOn (web_of job chain) q e (boxes_of a) (diaries_of ps)
       (diaries_of (slice_set ps k p'))
   handed {g} k ps p p' x a slot told each starts begun redone t =
-      let there = is.web.fed e within fed in
-      rw (
-        map-set,
-        told,
-        ← get_or-map (λ (y : Pass Outbox Target g). history_of y) ps k p [] (omega (
-          arith,
-          slot,
-          each,
-          there,
-        )),
-        slot,
-      )
-      (arrives (web_of job chain) is.web q e near (sym err) within there starts begun redone (diaries_of ps) x a t)
+      let near : k < length ps = omega (arith, slot, each, is.web.fed e within fed) in
+      rw (map-set, told, ← get_or-map (λ (y : Pass Outbox Target g). history_of y) ps k p [] near, slot)
+      (arrives (web_of job chain) is.web q e close (sym err) within (is.web.fed e within fed) starts begun redone
+      (diaries_of ps) x a t)

@@ -1,17 +1,10 @@
 pub mod Words
-pub mod Arriving
 pub mod Cases
 pub mod Counting
 pub mod Courses
-pub mod Covering
 pub mod Handing
-pub mod Indices
 pub mod Loops
 pub mod Openings
 pub mod Pairs
-pub mod Settles
 pub mod Sources
-pub mod Tasks
-pub mod Webs
-pub mod Wholes
 pub mod Working

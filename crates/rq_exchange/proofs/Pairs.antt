@@ -47,14 +47,9 @@ module _ {A B : Type 0} (R : A → B → Type 0) where
   pairs_sum f g h each [] [] e = refl
   pairs_sum f g h each [] (y ∷ ys) e = absurd e
   pairs_sum f g h each (x ∷ xs) [] e = absurd e
-  pairs_sum f g h each (x ∷ xs) (y ∷ ys) e = omega (
-    arith,
-    sum_by-cons h y ys,
-    sum_by-cons f x xs,
-    sum_by-cons g y ys,
-    each x y e.0,
-    pairs_sum f g h each xs ys e.1,
-  )
+  pairs_sum f g h each (x ∷ xs) (y ∷ ys) e =
+      let rest = pairs_sum f g h each xs ys e.1 in
+      omega (arith, sum_by-cons h y ys, sum_by-cons f x xs, sum_by-cons g y ys, each x y e.0)
 
 -- what a column has at the index of a row is what the row has at that of the column
 pub column_at : {T : Type 0} (rows columns : List (Vec T Global)) (count : ℕ) → AreColumns rows count columns

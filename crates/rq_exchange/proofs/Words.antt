@@ -1,5 +1,5 @@
 -- The words of these proofs, passed on from one place.
-pub use Rattle.rq_exchange.specs.Boards.{HasPart, IsPart, queue_of}
+pub use Rattle.rq_exchange.specs.Gathering.{HasPart, IsPart}
 pub use Rattle.rq_exchange.specs.Chains.{AreBoxes, ArePasses, HasFollowed, HasPasses, IsChainOf, IsColumn}
 pub use Rattle.rq_exchange.specs.Chains.{IsCountdownOf, IsRedone, IsSettled, boxes_of, diaries_of, due, redone_in}
 pub use Rattle.rq_exchange.specs.Chains.{web_of}
@@ -19,7 +19,7 @@ pub use Rattle.rq_exchange.specs.declared.jobs.Job.{Job}
 pub use Rattle.rq_exchange.specs.declared.outboxes.Outbox.{Outbox}
 pub use Rattle.rq_exchange.specs.declared.outboxes.Target.{Target}
 pub use Rattle.rq_model.proofs.Lists.{by_cases, each_weaker, filter_none, map_same}
-pub use Rattle.rq_model.specs.Laws.{AreAfter, AreSources, merged, move_before}
+pub use Rattle.rq_model.specs.Laws.{AreSources, merged, move_before}
 pub use Rattle.rq_model.specs.Machine.{all_lawful, lawful_front, run}
 pub use Rattle.rq_model.specs.Laws.{Rise, earlier}
 pub use Rattle.rq_model.specs.Queues.{Move, Op, Part, arrivals, defined_by, moves, part_of, touches, touching}
@@ -40,7 +40,6 @@ pub use Rattle.rq_pool.specs.declared.room.Room.{Room}
 pub use Rattle.rq_queue.proofs.Gathered.{is_same, members, poured_more}
 pub use Rattle.rq_queue.specs.Case.{IsCase}
 pub use Rattle.rq_record.specs.Views.{record_of, version_of}
-pub use Rattle.rq_state.proofs.Listings.{listed_at, listed_push}
 pub use Rattle.rq_state.specs.Orders.{indices_of, listed, place_before, state_in_order}
 pub use Rattle.std.proofs.lemmas.Bool.{cases_Bool, cases_eq, cases_lt, eqb-true, ne_eqb}
 pub use Rattle.std.proofs.lemmas.Bool.Decides.{eqb_tells, nat_tests}

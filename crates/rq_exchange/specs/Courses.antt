@@ -2,7 +2,7 @@
 use Rattle.std.specs.Prelude.{◌≡◌, ◌≢◌, ◌<◌, ℕ, List, [], length, map, slice_index_or, flat_map}
 use Rattle.rq_pool.specs.declared.countdown.arrival.Entry.{Entry}
 use Rattle.rq_pool.specs.Countdowns.Arrivals.{Settled, arrivals_for, last_lists}
-use Rattle.rq_pool.specs.Countdowns.Closings.{histories_of}
+use Rattle.rq_pool.specs.Countdowns.Words.{histories_of}
 use Rattle.rq_pool.specs.Ledger.{times}
 use Rattle.rq_exchange.specs.declared.chain.CountdownChain.{CountdownChain}
 use Rattle.rq_exchange.specs.declared.course.Course.{Course}

@@ -1,4 +1,3 @@
-pub mod Boards
 pub mod Chains
 pub mod Courses
 pub mod Coverage

@@ -2,11 +2,10 @@
 
 ghost use Rattle.std.specs.Prelude.{◌≡◌, ◌<◌, ◌^◌, ◌+◌, ℕ, List, true, length, IfOk, IfErr};
 ghost use Rattle.rq_model.specs.Records.{Record, Two};
-ghost use Rattle.rq_model.specs.Machine.{run, all_lawful};
+ghost use Rattle.rq_model.specs.Machine.{all_lawful};
 ghost use Rattle.rq_catalog.specs.Analyses.{IsAnalysis};
 ghost use Rattle.rq_record.specs.declared.fault.Fault.TheVariants.{Resources};
 ghost use Rattle.rq_exchange.specs.Agendas.{IsAgenda};
-ghost use Rattle.rq_exchange.specs.Gathering.{HasAllButMembers};
 
 use rq_catalog::Analysis;
 use rq_record::Fault;
@@ -19,33 +18,6 @@ use std::alloc::Global;
 pub struct Agenda {
     pub(crate) fields: KeptFields,
     pub(crate) touching: Vec<Vec<(u64, usize)>>,
-}
-
-// The state after so many records, which are analysed, except its members.
-fn fields_after(
-    alloc: Global,
-    state: &State,
-    count: usize,
-    analysis: &Analysis,
-) -> Result<KeptFields, Fault>
-    requires fits { state.now.next + count < 2 ^ 64 }
-    ensures fields { IfOk result (λ f. (rs : List Record) → length rs ≡ count
-        → all_lawful Two state.now rs ≡ true → IsAnalysis Two state.now rs analysis.now
-        → HasAllButMembers (run state.now rs) f) }
-    ensures refused { IfErr result (λ e. e ≡ Resources) }
-{
-    rq_model::numbers_after();
-    Ok(KeptFields {
-        next: state.next() + count as u64,
-        greatest: analysis.greatest(),
-        committed: analysis.committed(),
-        aborted: analysis.aborted(),
-        definitions: copied_definitions(alloc, analysis.definitions())?,
-        units: analysis.open_units(alloc)?,
-        registrants: Vec::new(alloc),
-        elements: Vec::new(alloc),
-        notes: Vec::new(alloc),
-    })
 }
 
 impl Agenda {
@@ -64,7 +36,18 @@ impl Agenda {
             → IsAgenda state.now rs a) }
         ensures refused { IfErr result (λ e. e ≡ Resources) }
     {
-        let fields = fields_after(alloc, state, count, &analysis)?;
+        rq_model::numbers_after();
+        let fields = KeptFields {
+            next: state.next() + count as u64,
+            greatest: analysis.greatest(),
+            committed: analysis.committed(),
+            aborted: analysis.aborted(),
+            definitions: copied_definitions(alloc, analysis.definitions())?,
+            units: analysis.open_units(alloc)?,
+            registrants: Vec::new(alloc),
+            elements: Vec::new(alloc),
+            notes: Vec::new(alloc),
+        };
         let touching = analysis.into_touching();
         Ok(Agenda { fields, touching })
     }

@@ -4,7 +4,7 @@ ghost use Rattle.std.specs.Prelude.{◌≡◌, ◌<◌, ◌≤◌, [], length, A
 ghost use Rattle.rq_record.specs.declared.fault.Fault.TheVariants.{Resources};
 ghost use Rattle.rq_model.specs.Queues as queues;
 ghost use Rattle.rq_pool.specs.Countdowns.Words.{history_of};
-ghost use Rattle.rq_exchange.specs.Chains.{web_of, due, AreBoxes, IsChainOf, ArePasses, HasPasses};
+ghost use Rattle.rq_exchange.specs.Chains.{web_of, AreBoxes, IsChainOf, ArePasses, HasPasses};
 ghost use Rattle.rq_exchange.specs.Chains.{diaries_of, boxes_of};
 ghost use Rattle.rq_exchange.specs.Openings.{Opened};
 ghost use Rattle.rq_exchange.specs.Coverage.{HandsOn};
@@ -12,7 +12,7 @@ ghost use Rattle.rq_exchange.specs.Jobs.{IsJob, records_of, errors_in};
 ghost use Rattle.rq_exchange.specs.Links.{at};
 
 use crate::columns::columns;
-use crate::jobs::Job;
+use crate::jobs::{Job, listed_for};
 use crate::outboxes::{Outbox, Target};
 use diary::{Diary, Listing};
 use rq_pool::{Arrival, Countdown, Pass};
@@ -91,20 +91,6 @@ impl<'a> Listing<Aim<'a>, LinkedList<KeptMove>> for Due {
         (queues.moves a.state.now (map record_of a.records.now)) a.sources.now };
 }
 
-// The key of the countdown of a queue.
-fn target_of(job: &Job, queue: u32) -> Target
-    ensures { result.due ≡ due job.now queue }
-{
-    let aim = Aim {
-        state: job.state,
-        records: job.records,
-        sources: job.sources_of(queue),
-    };
-    Target {
-        due: Diary::of::<Aim, Due>(&aim),
-    }
-}
-
 // Opens the countdown of a queue that has sources, and answers its index. If the queue has none,
 // the index is past the last.
 #[tactic(auto, using(crate::proofs::Sources::sources_few))]
@@ -124,12 +110,19 @@ fn open_one(
         columns.old.items slot countdowns.new.items columns.new.items) }
     ensures refused { IfErr result (λ e. e ≡ Resources) }
 {
-    let sources = job.sources_of(queue).len();
-    if sources == 0 {
+    let sources = listed_for(job.sources, queue);
+    if sources.is_empty() {
         return Ok(job.definitions.len() as u32);
     }
-    let target = target_of(job, queue);
-    let (countdown, passes) = Countdown::open(alloc, target, sources as u32, workers)?;
+    let aim = Aim {
+        state: job.state,
+        records: job.records,
+        sources,
+    };
+    let target = Target {
+        due: Diary::of::<Aim, Due>(&aim),
+    };
+    let (countdown, passes) = Countdown::open(alloc, target, sources.len() as u32, workers)?;
     let slot = countdowns.len();
     countdowns.push(countdown)?;
     columns.push(passes)?;

@@ -2,8 +2,7 @@
 
 ghost use Rattle.std.specs.Prelude.{◌≡◌, ◌<◌, length, map, All, IfOk, IfErr};
 ghost use Rattle.rq_record.specs.declared.fault.Fault.TheVariants.{Resources};
-ghost use Rattle.rq_pool.specs.Countdowns.Closings.{histories_of};
-ghost use Rattle.rq_pool.specs.Countdowns.Words.{history_of};
+ghost use Rattle.rq_pool.specs.Countdowns.Words.{histories_of, history_of};
 ghost use Rattle.rq_exchange.specs.Chains.{ArePasses, HasPasses, IsColumn, IsSettled};
 ghost use Rattle.rq_exchange.specs.Courses.{Recounts};
 ghost use Rattle.rq_exchange.specs.Pairs.{EachWith};

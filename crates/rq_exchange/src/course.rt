@@ -1,7 +1,7 @@
 //! How a replay went, only for contracts.
 
 ghost use Rattle.std.specs.Prelude.{◌≡◌, [], map};
-ghost use Rattle.rq_exchange.specs.Boards.{queue_of};
+ghost use Rattle.rq_exchange.specs.Chains.{redone_in};
 
 use crate::outboxes::{Outbox, Redone};
 use diary::{Diary, Listing};
@@ -24,9 +24,9 @@ struct RedoneQueues;
 
 impl Listing<Vec<Vec<Redone>>, LinkedList<u32>> for RedoneQueues {
     ghost use Rattle.std.specs.Prelude.{map};
-    ghost use Rattle.rq_exchange.specs.Boards.{queue_of};
+    ghost use Rattle.rq_exchange.specs.Chains.{redone_in};
 
-    ghost list = { λ all. map (λ done. map queue_of done.items) all.items };
+    ghost list = { λ all. map (λ done. redone_in done.items) all.items };
 }
 
 impl Course {
@@ -50,7 +50,7 @@ impl Course {
     ) -> Course
         ensures closings { result.closings ≡ closings }
         ensures slots { result.slots ≡ slots }
-        ensures redone { result.redone ≡ map (λ done. map queue_of done.items) all.now.items }
+        ensures redone { result.redone ≡ map (λ done. redone_in done.items) all.now.items }
     {
         let redone = Diary::of::<Vec<Vec<Redone>>, RedoneQueues>(all);
         Course {

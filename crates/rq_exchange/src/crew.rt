@@ -114,6 +114,7 @@ fn finish<G: Gate>(
 }
 
 // A worker for each seat.
+#[tactic(auto, using(crate::proofs::Working::jobs_done))]
 fn run_seats<R: Threads + Sync, G: Gate + Sync>(
     rt: &R,
     alloc: Global,

@@ -1,8 +1,7 @@
 //! What the room deals: the queues that wait for nobody.
 
-ghost use Rattle.std.specs.Prelude.{◌≡◌, ◌≤◌, ◌<◌, ℕ, length, map, All, IfOk, IfErr, vec_len};
-ghost use Rattle.std.specs.Prelude.{vec_items};
-ghost use Rattle.rq_pool.specs.Ledger.{times, times_in, size};
+ghost use Rattle.std.specs.Prelude.{◌≡◌, ◌≤◌, ◌<◌, ℕ, length, All, IfOk, IfErr};
+ghost use Rattle.rq_pool.specs.Ledger.{times, times_in};
 ghost use Rattle.rq_pool.specs.Rooms.{deal_of, seats_of};
 ghost use Rattle.rq_record.specs.declared.fault.Fault.TheVariants.{Resources};
 ghost use Rattle.rq_exchange.specs.Links.{AreBare};
@@ -10,6 +9,7 @@ ghost use Rattle.rq_exchange.specs.Workers.{IsFreshSeat};
 
 use rq_pool::{Room, Seat};
 use rq_record::Fault;
+use rq_state::empty_lists;
 use std::alloc::Global;
 
 /// The queues that are no queue's error queue.
@@ -28,37 +28,7 @@ pub(crate) fn tasks_of(alloc: Global, sources: &[Vec<u32>]) -> Result<Vec<u32>, 
     Ok(tasks)
 }
 
-// A list for each worker, with no task in any.
-fn lists_for(alloc: Global, workers: usize) -> Result<Vec<Vec<u32>>, Fault>
-    ensures count { IfOk result (λ v. vec_len v ≡ workers) }
-    ensures empty { IfOk result (λ v. (x : ℕ) → times_in x (map vec_items v.items) ≡ 0) }
-    ensures size { IfOk result (λ v. size (map vec_items v.items) ≡ 0) }
-    ensures refused { IfErr result (λ e. e ≡ Resources) }
-{
-    let mut lists = Vec::new(alloc);
-    for _ in 0..workers {
-        lists.push(Vec::new(alloc))?;
-    }
-    Ok(lists)
-}
-
-// Task i goes to list i modulo the workers.
-fn deal(alloc: Global, workers: usize, tasks: &[u32]) -> Result<Vec<Vec<u32>>, Fault>
-    requires { 0 < workers }
-    ensures count { IfOk result (λ v. vec_len v ≡ workers) }
-    ensures deal { IfOk result
-        (λ v. (x : ℕ) → times_in x (map vec_items v.items) ≡ times x tasks.now) }
-    ensures size { IfOk result (λ v. size (map vec_items v.items) ≡ length tasks.now) }
-    ensures refused { IfErr result (λ e. e ≡ Resources) }
-{
-    let mut lists = lists_for(alloc, workers)?;
-    for (i, queue) in tasks.iter().enumerate() {
-        lists[i % workers].push(*queue)?;
-    }
-    Ok(lists)
-}
-
-/// A room that deals the tasks to this many seats.
+/// A room that deals the tasks to this many seats: task i goes to seat i modulo the workers.
 pub(crate) fn dealt_room(
     alloc: Global,
     workers: usize,
@@ -71,7 +41,10 @@ pub(crate) fn dealt_room(
     ensures seats { IfOk result (λ r. All (IsFreshSeat r.0) r.1.items) }
     ensures refused { IfErr result (λ e. e ≡ Resources) }
 {
-    let lists = deal(alloc, workers, tasks)?;
+    let mut lists = empty_lists(alloc, workers)?;
+    for (i, queue) in tasks.iter().enumerate() {
+        lists[i % workers].push(*queue)?;
+    }
     let (room, seats) = Room::open(alloc, lists)?;
     Ok((room, seats))
 }

@@ -8,8 +8,7 @@ ghost use Rattle.rq_exchange.specs.Jobs.{IsJob, records_of, errors_in};
 ghost use Rattle.rq_exchange.specs.Links.{at};
 ghost use Rattle.rq_exchange.specs.Chains.{AreBoxes, IsRedone};
 
-use crate::arrivals::{merged, unboxed};
-use crate::outboxes::{Outbox, Redone};
+use crate::outboxes::{Outbox, Redone, merged, unboxed};
 use rq_queue::{KeptMove, KeptOps, Part, redo_kept};
 use rq_record::{Fault, KeptRecord, QueueNo};
 use rq_state::{Definition, State};
@@ -26,28 +25,19 @@ pub(crate) struct Job<'a> {
     pub ranks: &'a [u32],
 }
 
+/// What a table has for a queue.
+pub(crate) fn listed_for<T>(table: &[Vec<T>], queue: u32) -> &[T]
+    ensures { result.now ≡ listed table.now queue }
+{
+    match table.get(queue as usize) {
+        Some(list) => list,
+        None => &[],
+    }
+}
+
 impl Job<'_> {
-    /// The queues whose error queue this is.
-    pub(crate) fn sources_of(&self, queue: u32) -> &[u32]
-        ensures { result.now ≡ listed self.now.sources.now queue }
-    {
-        match self.sources.get(queue as usize) {
-            Some(sources) => sources,
-            None => &[],
-        }
-    }
-
-    // The places and indices of the records that touch the queue.
-    fn touching_of(&self, queue: u32) -> &[(u64, usize)]
-        ensures { result.now ≡ listed self.now.touching.now queue }
-    {
-        match self.touching.get(queue as usize) {
-            Some(touching) => touching,
-            None => &[],
-        }
-    }
-
     // The part of the queue before the records; it is empty for a queue that the records define.
+    #[tactic(auto, using(crate::proofs::Cases::fresh_part))]
     fn part_before(&self, alloc: Global, queue: u32) -> Result<Part, Fault>
         requires job { IsJob self.now }
         requires defined { queue < length self.now.definitions.now }
@@ -94,7 +84,7 @@ impl Job<'_> {
         rq_model::moves_rise();
         let lists = unboxed(alloc, boxes)?;
         let arrivals = merged(alloc, lists)?;
-        let ops = KeptOps::new(self.records, self.touching_of(queue));
+        let ops = KeptOps::new(self.records, listed_for(self.touching, queue));
         let before = self.part_before(alloc, queue)?;
         let (part, moves) = redo_kept(alloc, before, &ops, arrivals)?;
         Ok((Redone { queue, part }, moves))

@@ -4,8 +4,6 @@
 #![tactic(auto)]
 
 mod agenda;
-mod arrivals;
-mod board;
 mod chain;
 mod closings;
 mod columns;

@@ -30,6 +30,7 @@ pub(crate) fn errors_of(alloc: Global, definitions: &[Definition]) -> Result<Vec
 }
 
 // Adds a queue to the list of a number, if there is one. Answers how many were there before it.
+#[tactic(auto, using(rq_state::proofs::Listings::listed_push))]
 fn list(lists: &mut Vec<Vec<u32>>, number: u32, queue: u32) -> Result<u32, Fault>
     requires few { number < length lists.old.items → length (listed lists.old.items number) ≤ 4096 }
     ensures len { length lists.new.items ≡ length lists.old.items }

@@ -12,13 +12,12 @@ ghost use Rattle.rq_exchange.specs.Gathering.{AreParts, ComesTo, IsRedoneTo};
 ghost use Rattle.rq_exchange.specs.Jobs.{IsJob, records_of, errors_in};
 
 use crate::agenda::Agenda;
-use crate::board::placed;
 use crate::chain::CountdownChain;
 use crate::closings::close_countdowns;
 use crate::course::Course;
 use crate::crew::all_kept;
 use crate::deals::tasks_of;
-use crate::gathered::AllRedone;
+use crate::gathered::{AllRedone, placed};
 use crate::jobs::Job;
 use crate::links::{errors_of, sources_of};
 use rq_catalog::{Analysis, analyse_kept};

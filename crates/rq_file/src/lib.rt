@@ -11,7 +11,8 @@ mod whole_files;
 
 pub use late::{Late, in_place};
 pub use named::NamedFile;
-pub use names::Names;
+pub use names::{Names, expect_under, name_one_file};
+pub use paths::folder_within;
 pub use patient::Patient;
 pub use version::VERSION;
-pub use whole_files::put_file;
+pub use whole_files::{LIMIT, put_file, read_limited};

@@ -42,16 +42,20 @@ fn give_to<F: OpenFile + AsFd>(file: &F, old: &Metadata) -> io::Result<()> {
     OpenFile::set_permissions(file, Permissions::from_mode(old.mode() & PERMISSIONS))
 }
 
+fn is_same(one: &Metadata, other: &Metadata) -> bool {
+    (one.dev(), one.ino()) == (other.dev(), other.ino())
+}
+
 /// Whether the open file stands under the name, and not something else that was put there.
 pub(crate) fn is_under<R: Files>(rt: &R, file: &R::File, name: &str) -> bool {
     match (OpenFile::metadata(file), fs::symlink_metadata(rt, name)) {
-        (Ok(file), Ok(named)) => (file.dev(), file.ino()) == (named.dev(), named.ino()),
+        (Ok(file), Ok(named)) => is_same(&file, &named),
         _ => false,
     }
 }
 
-/// Refuses a name under which something else stands than the open file.
-pub(crate) fn expect_under<R: Files>(rt: &R, file: &R::File, name: &str) -> io::Result<()> {
+/// Refuses with `NotFound` a name under which something else stands than the open file.
+pub fn expect_under<R: Files>(rt: &R, file: &R::File, name: &str) -> io::Result<()> {
     if is_under(rt, file, name) {
         return Ok(());
     }
@@ -59,6 +63,14 @@ pub(crate) fn expect_under<R: Files>(rt: &R, file: &R::File, name: &str) -> io::
         ErrorKind::NotFound,
         "somebody else put another file in its place",
     ))
+}
+
+/// Whether two paths name one file, also by links. No pipe or device is one.
+pub fn name_one_file<R: Files>(rt: &R, one: &str, other: &str) -> bool {
+    match (fs::metadata(rt, one), fs::metadata(rt, other)) {
+        (Ok(one), Ok(other)) => one.is_file() && is_same(&one, &other),
+        _ => false,
+    }
 }
 
 /// The name under which a file is written before it takes the place of the old one, and what that

@@ -29,7 +29,7 @@ pub(crate) fn folder_of(path: &str) -> &str {
 
 /// The folder that a path lies in, by a name that only a folder can have: to open it never waits,
 /// as it would for a pipe that somebody put in its place.
-pub(crate) fn folder_within(alloc: Global, path: &str) -> Result<String, AllocError> {
+pub fn folder_within(alloc: Global, path: &str) -> Result<String, AllocError> {
     let folder = folder_of(path);
     format!(in alloc; "{folder}/.")
 }

@@ -1,10 +1,20 @@
-//! A file of bytes that are all there.
+//! All bytes of a file, read or written.
 
 use crate::late::{Late, in_place};
 use crate::names::Names;
 use std::fs::Files;
-use std::io::{self, Write};
+use std::io::{self, Read, Write};
 use std::os::fd::AsFd;
+
+/// One byte more than the longest log has, and the longest script.
+pub const LIMIT: u64 = 4_294_967_296;
+
+/// All bytes that are read from here, but no more than `LIMIT`.
+pub fn read_limited<R: Read + Drop, A: AllocGlobal>(rt: &A, from: R) -> io::Result<Vec<u8>> {
+    let mut bytes = Vec::new(rt.alloc());
+    from.take(LIMIT).read_to_end(&mut bytes)?;
+    Ok(bytes)
+}
 
 /// Makes the file of the path, with these bytes: whole, or as it was, or not there. What is no file
 /// is written as it is.

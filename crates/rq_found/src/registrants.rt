@@ -118,8 +118,8 @@ pub fn registrants_shown(
         ≡ map registrant_entry (registrants_at queue.0 state.now.registrants)) }
 {
     let mut found = Vec::new(alloc);
-    for at in state.registrants_of(queue) {
-        found.push(registrant_shown(state.registrant(*at)))?;
+    for r in state.registrants_of(queue) {
+        found.push(registrant_shown(r))?;
     }
     Ok(found)
 }

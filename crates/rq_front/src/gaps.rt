@@ -1,7 +1,8 @@
 //! The gap of a log that was carried on into a file of its own.
 
-ghost use Rattle.std.specs.Prelude.{◌≡◌, true, take, drop};
+ghost use Rattle.std.specs.Prelude.{◌≡◌, ◌↔◌, IsTrue, take, drop};
 ghost use Rattle.rq_model.specs.Carrying as continuing;
+ghost use Rattle.rq_front.specs.Chains.{IsHeaded};
 
 use crate::HEADER_LEN;
 use crate::headers::version;
@@ -21,7 +22,8 @@ pub fn carried_gap() -> [u8; 24]
 /// Whether a log begins as one that was carried on: the gap of such logs stands behind its header.
 /// The first 64 bytes tell it.
 pub fn is_carried(bytes: &[u8]) -> bool
-    ensures { result ≡ true → take 24 (drop 40 bytes.now) ≡ continuing.carried_gap }
+    ensures { IsTrue result
+        ↔ (IsHeaded bytes.now × (take 24 (drop 40 bytes.now) ≡ continuing.carried_gap)) }
 {
     match bytes.get(HEADER_LEN..HEADER_LEN + 24) {
         Some(found) => version(bytes).is_some() && found == carried_gap().as_slice(),

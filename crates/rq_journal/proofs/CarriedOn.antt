@@ -1,5 +1,5 @@
 -- A log that goes on from the front of another.
-use Rattle.std.proofs.Common.{◌≡◌, ℕ, ◌-◌, ◌≤◌, List, [], ◌∷◌, ◌++◌, length, drop, refl, sym, ap, subst}
+use Rattle.std.proofs.Common.{◌≡◌, ℕ, ◌-◌, ◌<◌, ◌≤◌, List, [], ◌∷◌, ◌++◌, length, drop, refl, sym, ap, subst}
 use Rattle.std.proofs.Common.{◌∙◌, arith}
 use Rattle.std.specs.Prelude.{Result, Ok, Err}
 use Rattle.std.specs.Global.{Vec}
@@ -18,10 +18,12 @@ use Rattle.rq_model.proofs.Longest.{log_ends}
 use Rattle.rq_model.proofs.Restarts.{header_long}
 use Rattle.rq_record.specs.Views.{version_of}
 use Rattle.rq_record.specs.declared.fault.Fault.{Fault}
+use Rattle.rq_record.specs.declared.fault.Fault.TheVariants as faults
 use Rattle.rq_restart.specs.declared.redone.RedoneFront.{RedoneFront}
 use Rattle.rq_restart.specs.RedoneFronts.{IsRedoneFront}
-use Rattle.rq_journal.specs.Checkpoints.{IsCheckpointOf}
+use Rattle.rq_journal.specs.Checkpoints.{HasNoCheckpointOf, IsCheckpointOf}
 use Rattle.rq_journal.specs.Carries.{BeginsFile, IsBegunIn, IsCarriedOn, StaysHere, Carries}
+use Rattle.rq_journal.proofs.WithCheckpoint.{next_fits}
 
 -- how long it is
 anew_short : (version : Version) (p : List ℕ) (s : State) → length p ≡ 32 → length (state_bytes s) ≤ 268435455
@@ -72,6 +74,20 @@ module _ (version : Version) (p : List ℕ) (s : State) (body : List ℕ) (long 
         restart = made.2;
         loud = loud loud_law gap;
       })
+
+-- a log whose state has no checkpoint is not carried
+pub not_carried : (b : List ℕ) (f : RedoneFront) (e : Fault) → FrontsAreSpelt → IsRedoneFront b f
+    → HasNoCheckpointOf f.state e → StaysHere b e
+not_carried b f faults.TooLong spelt h high = let low = next_fits b f spelt h in absurd (omega (arith, high, low))
+not_carried b f faults.TooLarge spelt h large = (
+  version_of f.version,
+  h.records,
+  drop f.used b,
+  h.front,
+  subst (λ (z : State). 268435455 < length (state_bytes z)) h.state large.1,
+)
+not_carried b f faults.Resources spelt h none = tt
+not_carried b f _ spelt h none = absurd none
 
 module _ (b : List ℕ) (f : RedoneFront) (body : List ℕ) (h : IsRedoneFront b f) (is : IsCheckpointOf f.state body) where
   abbrev version : Version

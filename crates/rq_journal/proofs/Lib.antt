@@ -1,7 +1,5 @@
 mod Taking
-mod Standing
-mod Behind
+mod Openings
 mod WithCheckpoint
 mod CarriedOn
-mod AnyState
 mod CarriedAgain

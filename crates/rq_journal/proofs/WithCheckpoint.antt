@@ -1,9 +1,8 @@
--- A checkpoint of the state behind the front of a log.
+-- A checkpoint of a state, and of the one behind the front of a log.
 use Rattle.std.proofs.Common.{◌≡◌, ℕ, ◌+◌, ◌<◌, ◌≤◌, List, [], ◌∷◌, ◌++◌, length, take, drop, refl, sym, ap, subst, ◌∙◌}
-use Rattle.std.proofs.Common.{inr}
+use Rattle.std.proofs.Common.{inl, inr, arith}
 use Rattle.std.specs.Prelude.{Result, Ok, Err}
 use Rattle.std.specs.Global.{Vec}
-use Rattle.std.proofs.Common.{arith}
 use Rattle.std.proofs.lemmas.List.{append-nil, take_at, length-append, length-take}
 use Rattle.rq_model.specs.Records.{Record, Checkpoint, Version}
 use Rattle.rq_model.specs.Spelling.{body_of}
@@ -21,8 +20,15 @@ use Rattle.rq_record.specs.declared.fault.Fault.{Fault}
 use Rattle.rq_record.specs.declared.fault.Fault.TheVariants as faults
 use Rattle.rq_restart.specs.declared.redone.RedoneFront.{RedoneFront}
 use Rattle.rq_restart.specs.RedoneFronts.{IsRedoneFront}
-use Rattle.rq_journal.specs.Checkpoints.{IsCheckpointOf}
-use Rattle.rq_journal.specs.Marks.{PutsFrame, IsMarked, IsTooLargeToMark, Marks}
+use Rattle.rq_state.specs.Spelling.{Spelled}
+use Rattle.rq_journal.specs.Checkpoints.{HasNoCheckpointOf, IsCheckpointOf, IsMarked, IsTooLargeToMark, Marks, PutsFrame}
+use Rattle.rq_journal.specs.Checkpoints.{StaysUnmarked}
+
+-- a state that is not spelled has no checkpoint
+pub unspelled : (s : State) (e : Fault) → s.next ≤ 4294967295 → Spelled s (Err e) → HasNoCheckpointOf s e
+unspelled s faults.TooLarge low h = (low, h)
+unspelled s faults.Resources low h = tt
+unspelled s _ low h = absurd h
 
 -- how long the first bytes are with a frame behind them
 pub framed_long : (b link body : List ℕ) (used : ℕ) → used ≤ length b
@@ -36,6 +42,20 @@ next_fits b f spelt h =
     let v = version_of f.version in
     let all = subst (λ (z : List Record). IsFront b v z (drop f.used b)) (sym (append-nil h.records)) h.front in
     subst (λ (z : State). z.next ≤ 4294967295) (sym h.state) (spelt b v h.records [] (drop f.used b) all).next
+
+-- a log whose state has no checkpoint is not marked
+pub unmarked : (b : List ℕ) (f : RedoneFront) (e : Fault) → FrontsAreSpelt → IsRedoneFront b f
+    → HasNoCheckpointOf f.state e → StaysUnmarked b e
+unmarked b f faults.TooLong spelt h high = let low = next_fits b f spelt h in absurd (omega (arith, high, low))
+unmarked b f faults.TooLarge spelt h large = record {
+  version = version_of f.version;
+  records = h.records;
+  rest = drop f.used b;
+  front = h.front;
+  large = inl (subst (λ (z : State). 268435455 < length (state_bytes z)) h.state large.1);
+}
+unmarked b f faults.Resources spelt h none = tt
+unmarked b f _ spelt h none = absurd none
 
 module _ (b : List ℕ) (f : RedoneFront) (body : List ℕ) (h : IsRedoneFront b f) (is : IsCheckpointOf f.state body) where
   abbrev version : Version

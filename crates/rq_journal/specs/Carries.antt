@@ -1,9 +1,9 @@
--- A log that goes on from another.
-use Rattle.std.specs.Prelude.{◌≡◌, ◌<◌, ◌≤◌, ◌⊎◌, ◌-◌, ℕ, List, [], ◌∷◌, ◌++◌, length, drop, Result, Ok, Err}
+-- A log that goes on from another, and its audit.
+use Rattle.std.specs.Prelude.{◌≡◌, ◌<◌, ◌≤◌, ◌⊎◌, ◌-◌, ◌==◌, ℕ, Bool, if◌then◌else◌, List, [], ◌∷◌, ◌++◌}
+use Rattle.std.specs.Prelude.{length, drop, map, Result, Ok, Err}
 use Rattle.std.specs.Global.{Vec}
 use Rattle.rq_model.specs.Records.{Record, Checkpoint, Version}
-use Rattle.rq_model.specs.Frames.{log_limit, header, start, frame, frames_of, last_of, before}
-use Rattle.rq_model.specs.Frames.{Length, Whole}
+use Rattle.rq_model.specs.Frames.{log_limit, header, start, frame, frames_of, last_of, before, Length, Whole}
 use Rattle.rq_model.specs.States.{State, empty}
 use Rattle.rq_model.specs.Machine.{run}
 use Rattle.rq_model.specs.StateSpelling.{state_bytes, SpellsState}
@@ -16,6 +16,9 @@ use Rattle.rq_record.specs.declared.fault.Fault.{Fault}
 use Rattle.rq_record.specs.declared.fault.Fault.TheVariants.{Resources, TooLarge, TooLong}
 use Rattle.rq_front.specs.Chains.{Refused}
 use Rattle.rq_judged.specs.Refusals.{RefusedAt}
+use Rattle.rq_restart.specs.Audits.{IsAuditAt, audited_of}
+use Rattle.rq_journal.specs.declared.carried_logs.Truth.{Truth}
+use Rattle.rq_journal.specs.declared.carried_logs.Truth.TheVariants.{Carried, True, False}
 
 -- the first frame behind a header, the gap of carried files and these 32 bytes, or memory was
 -- refused
@@ -102,3 +105,17 @@ StaysThere b e = RefusedAt b 96 e
 abbrev pub CarriesAgain : List ℕ → Result (Vec ℕ) Fault → Type 0
 CarriesAgain b (Ok v) = IsCarriedAgain b v.items
 CarriesAgain b (Err e) = StaysThere b e
+
+-- What is told of the checkpoints of a log that was carried on.
+
+-- the log begins with the one at 96; any other is true or false
+abbrev pub truth_of : ℕ → Bool → Truth
+truth_of at is_true = if at == 96 then Carried else (if is_true then True else False)
+
+abbrev pub as_told : ℕ × Bool → ℕ × Truth
+as_told x = (x.0, truth_of x.0 x.1)
+
+-- that of each checkpoint of the front of b from the one at 96 on
+abbrev pub TellsAudit : List ℕ → List (ℕ × Truth) → Type 0
+TellsAudit b told = (found : List (ℕ × Bool)) × IsAuditAt b 96 (map audited_of found)
+    × (told ≡ map as_told found)

@@ -6,7 +6,7 @@ ghost use Rattle.rq_model.specs.Records as model;
 ghost use Rattle.rq_model.specs.Machine.{is_lawful, run};
 ghost use Rattle.rq_model.specs.Frames.{start};
 ghost use Rattle.rq_record.specs.Views.{record_of, version_of};
-ghost use Rattle.rq_journal.specs.Places.{Place, IsAppenderAt, behind_header};
+ghost use Rattle.rq_journal.specs.Appenders.{Place, IsAppenderAt, behind_header};
 ghost use Rattle.rq_journal.specs.Appenders.{Refuses, KeepsPlace, AppendsUpTo, AppendsOne, AppendsEach};
 
 use rq_catalog::{Judge, Rule};

@@ -1,14 +1,15 @@
-//! A log that goes on from the state behind the front of another.
+//! A log that goes on from the state behind the front of another, and its audit.
 
-ghost use Rattle.std.specs.Prelude.{length};
+ghost use Rattle.std.specs.Prelude.{◌≡◌, length, IfErr, IfOk};
 ghost use Rattle.rq_model.specs.Frames.{IsBodyLength};
 ghost use Rattle.rq_record.specs.Views.{version_of};
-ghost use Rattle.rq_journal.specs.Carries.{BeginsFile, Carries, CarriesAgain};
+ghost use Rattle.rq_judged.specs.Refusals.{RefusedAt};
+ghost use Rattle.rq_journal.specs.Carries.{BeginsFile, Carries, CarriesAgain, TellsAudit, truth_of};
 
-use crate::checkpoint::{body_of_any, checkpoint_body};
-use rq_front::{CARRIED_AT, FRAME_LEN, carried_gap, frame, header_of};
+use crate::checkpoints::checkpoint_body;
+use rq_front::{CARRIED_AT, carried_gap, frame, header_of};
 use rq_record::{Fault, Version};
-use rq_restart::{Plan, redone_front, redone_front_at};
+use rq_restart::{Plan, audit_at, redone_front, redone_front_at};
 use std::alloc::Global;
 use std::marker::Sync;
 use std::thread::Threads;
@@ -65,6 +66,50 @@ pub fn carried_again<R: Threads + Sync>(
     rq_model::logs_begun_anew();
     rq_model::continued_logs();
     let front = redone_front_at(rt, alloc, bytes, CARRIED_AT as u64, plan)?;
-    let checkpoint = body_of_any(alloc, &front.state)?;
+    let checkpoint = checkpoint_body(alloc, &front.state)?;
     begun(alloc, front.version, &front.last, &checkpoint)
+}
+
+/// What an audit says of a checkpoint.
+#[derive(Clone, Copy, Debug, PartialEq, Eq)]
+pub enum Truth {
+    /// The log begins with it: it is taken at its word.
+    Carried,
+    /// It spells the state before it.
+    True,
+    /// It does not.
+    False,
+}
+
+// What is said of the checkpoint at an offset, by whether it spells the state before it.
+fn truth_of(offset: u64, is_true: bool) -> Truth
+    ensures { result ≡ truth_of offset is_true }
+{
+    if offset == CARRIED_AT as u64 {
+        Truth::Carried
+    } else if is_true {
+        Truth::True
+    } else {
+        Truth::False
+    }
+}
+
+/// Where the checkpoints stand in the front of a log that was carried on, and which of them are
+/// true, with the state that it begins with taken at its word. Costs what `audit_at` does. Refused
+/// as `open_carried` is.
+pub fn audit_carried<R: Threads + Sync>(
+    rt: &R,
+    alloc: Global,
+    bytes: &[u8],
+    plan: &Plan,
+) -> Result<Vec<(usize, Truth)>, Fault>
+    ensures told { IfOk result (λ told. TellsAudit bytes.now told.items) }
+    ensures refused { IfErr result (RefusedAt bytes.now 96) }
+{
+    let found = audit_at(rt, alloc, bytes, CARRIED_AT as u64, plan)?;
+    let mut told = Vec::new(alloc);
+    for (offset, is_true) in &found {
+        told.push((*offset as usize, truth_of(*offset, *is_true)))?;
+    }
+    Ok(told)
 }

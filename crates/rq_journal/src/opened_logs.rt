@@ -1,13 +1,14 @@
-//! A log is opened to write behind its front.
+//! A log is opened to write behind its front, and records are written there.
 
-ghost use Rattle.std.specs.Prelude.{ℕ, List};
+ghost use Rattle.std.specs.Prelude.{ℕ, List, map};
 ghost use Rattle.rq_judged.specs.JudgedFronts.{IsJudged, IsJudgedAt};
-ghost use Rattle.rq_journal.specs.Openings.{IsOpened, IsOpenedAt, Opens, OpensCarried};
+ghost use Rattle.rq_record.specs.Views.{record_of};
+ghost use Rattle.rq_journal.specs.Openings.{IsOpened, IsOpenedAt, Opens, OpensCarried, WritesBehind};
 
-use crate::appender::Appender;
+use crate::appender::{Appender, NotTaken};
 use rq_front::CARRIED_AT;
 use rq_judged::{JudgedFront, judged_front, judged_front_at};
-use rq_record::Fault;
+use rq_record::{Fault, Record};
 use rq_restart::{Plan, Why};
 use std::alloc::Global;
 use std::marker::Sync;
@@ -28,6 +29,7 @@ pub struct Opened {
 }
 
 /// Stands behind a front that was judged.
+#[tactic(auto, using(crate::proofs::Openings::opened, crate::proofs::Openings::opened_at))]
 pub fn opened_behind(front: JudgedFront) -> Opened
     ensures whole { (b : List ℕ) → IsJudged b front → IsOpened b result }
     ensures from { (b : List ℕ) (offset : ℕ) → IsJudgedAt b offset front → IsOpenedAt b offset result }
@@ -81,4 +83,41 @@ pub fn open_carried<R: Threads + Sync>(
     ensures opens { OpensCarried bytes.now result }
 {
     Ok(opened_behind(judged_front_at(rt, alloc, bytes, CARRIED_AT as u64, plan)?))
+}
+
+/// Why records are not written.
+#[derive(Clone, Copy, PartialEq, Eq, Debug)]
+pub enum NotWritten {
+    /// The log is refused.
+    Log(Fault),
+    /// The record at this index is not taken behind those before it.
+    At(usize, NotTaken),
+}
+
+/// The frames of these records behind the front of a log, if all of them may follow it. Whatever
+/// beginning of the frames stands there, no record whose frame is wholly there is lost, and none is
+/// invented.
+///
+/// Refuses with `Log` what `open` refuses, and with `At` the first record that is not taken.
+pub fn frames_behind<R: Threads + Sync>(
+    rt: &R,
+    alloc: Global,
+    bytes: &[u8],
+    records: &[Record],
+    plan: &Plan,
+) -> Result<Vec<u8>, NotWritten>
+    ensures { WritesBehind bytes.now (map record_of records.now) result }
+{
+    rq_model::appended_logs();
+    let opened = match open(rt, alloc, bytes, plan) {
+        Ok(opened) => opened,
+        Err(fault) => return Err(NotWritten::Log(fault)),
+    };
+    let mut appender = opened.appender;
+    let mut out = Vec::new(alloc);
+    let (count, why) = appender.append_each(alloc, records, &mut out);
+    match why {
+        None => Ok(out),
+        Some(why) => Err(NotWritten::At(count, why)),
+    }
 }

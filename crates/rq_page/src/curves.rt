@@ -3,9 +3,14 @@
 ghost use Rattle.std.specs.Prelude.{◌≤◌};
 
 use crate::markup::Html::{Count, Number, Tag};
-use crate::markup::{NOTHING, put_pieces};
+use crate::markup::put_html;
 use rq_found::Put;
 use std::alloc::{AllocError, Global};
+
+// What stands before the line of a curve.
+const CURVE: &str = "<div class=\"plot\"><span class=\"scale\"><span>{}</span><span>0</span></span>\
+    <svg viewBox=\"0 0 {} {}\" preserveAspectRatio=\"none\" role=\"img\"><title>{}, at most {}</title>\
+    <path d=\"M0 {}";
 
 /// Where a part of a whole stands on a line of so many steps.
 pub(crate) fn along(part: u64, whole: u64, steps: u64) -> u64
@@ -106,34 +111,16 @@ impl Curve {
         self.set(number, value)
     }
 
-    // Puts the line through one bin.
-    fn put_bin(&self, text: &mut String, frame: &Canvas, bin: &Bin) -> Put {
-        let (from, to) = (frame.at(bin.number), frame.at(bin.number.saturating_add(1)));
-        let top = frame.below_top(bin.most, self.most);
-        let behind = frame.below_top(bin.last, self.most);
-        let (down, last) = if behind == top {
-            (NOTHING, NOTHING)
-        } else {
-            (Tag("V"), Number(behind))
-        };
-        put_pieces(
-            text,
-            &[
-                Tag("H"),
-                Number(from),
-                Tag("V"),
-                Number(top),
-                Tag("H"),
-                Number(to),
-                down,
-                last,
-            ],
-        )
-    }
-
+    // Puts the line through its bins.
     fn put_line(&self, text: &mut String, frame: &Canvas) -> Put {
         for bin in &self.changed {
-            self.put_bin(text, frame, bin)?;
+            let (from, to) = (frame.at(bin.number), frame.at(bin.number.saturating_add(1)));
+            let top = frame.below_top(bin.most, self.most);
+            let behind = frame.below_top(bin.last, self.most);
+            put_html(text, "H{}V{}H{}", &[Number(from), Number(top), Number(to)])?;
+            if behind != top {
+                put_html(text, "V{}", &[Number(behind)])?;
+            }
         }
         Ok(())
     }
@@ -142,47 +129,19 @@ impl Curve {
     /// title says what it shows.
     pub(crate) fn put(&self, text: &mut String, frame: &Canvas, title: &'static str) -> Put {
         let (width, height) = (Number(frame.width), Number(frame.height));
-        put_pieces(
-            text,
-            &[
-                Tag("<span class=\"scale\"><span>"),
-                Count(self.most),
-                Tag("</span><span>0</span></span><svg viewBox=\"0 0 "),
-                width,
-                Tag(" "),
-                height,
-                Tag("\" preserveAspectRatio=\"none\" role=\"img\"><title>"),
-                Tag(title),
-                Tag(", at most "),
-                Count(self.most),
-                Tag("</title><path d=\"M0 "),
-                height,
-            ],
-        )?;
+        let (title, most) = (Tag(title), Count(self.most));
+        put_html(text, CURVE, &[most, width, height, title, most, height])?;
         self.put_line(text, frame)?;
-        put_pieces(
+        put_html(
             text,
-            &[
-                Tag("H"),
-                Number(frame.end),
-                Tag("V"),
-                height,
-                Tag("Z\"/></svg>"),
-            ],
+            "H{}V{}Z\"/></svg></div>",
+            &[Number(frame.end), height],
         )
     }
 }
 
 /// Puts the scale below a picture of the whole log.
 pub(crate) fn put_axis(text: &mut String, total: u64) -> Put {
-    put_pieces(
-        text,
-        &[
-            Tag("<div class=\"axis\"><span>byte 0</span><span>"),
-            Count(total / 2),
-            Tag("</span><span>"),
-            Count(total),
-            Tag("</span></div>\n"),
-        ],
-    )
+    let axis = "<div class=\"axis\"><span>byte 0</span><span>{}</span><span>{}</span></div>\n";
+    put_html(text, axis, &[Count(total / 2), Count(total)])
 }

@@ -2,57 +2,23 @@
 
 use crate::lives::Lives;
 use crate::markup::Html::{Number, Tag, Text};
-use crate::markup::put_pieces;
+use crate::markup::put_html;
 use crate::shown::Linked;
 use crate::steps::{Step, put_steps};
 use rq_found::Put;
-use rq_record::Name;
 use std::collections::BTreeMap;
 
-// Of each part its name, its title, what it is about, and the heads of its columns.
-const ELEMENTS: [&str; 4] = [
-    "elements",
-    "Elements",
-    "What became of each element, record by record",
-    "<th scope=\"col\">element</th>",
-];
-
-const UNITS: [&str; 4] = [
-    "units",
-    "Units",
-    "What each unit did, record by record",
-    "<th scope=\"col\">unit</th>",
-];
-
-const REGISTRANTS: [&str; 4] = [
-    "registrants",
-    "Registrants",
-    "What each registrant did, record by record",
-    "<th scope=\"col\">registrant</th><th scope=\"col\">queue</th>",
-];
-
-// What stands before a table of lives.
-fn put_top(text: &mut String, words: &[&'static str; 4]) -> Put {
-    put_pieces(
-        text,
-        &[
-            Tag("<section id=\""),
-            Tag(words[0]),
-            Tag("\">\n<h2>"),
-            Tag(words[1]),
-            Tag("</h2>\n<div class=\"scroll\"><table class=\"lives\">\n<caption>"),
-            Tag(words[2]),
-            Tag("</caption>\n<tr>"),
-            Tag(words[3]),
-            Tag("<th scope=\"col\">life</th></tr>\n"),
-        ],
-    )
-}
+// What stands before a table of lives: its part's name and title, what it is about, and the heads of
+// its columns.
+const TOP: &str = "<section id=\"{}\">
+<h2>{}</h2>
+<div class=\"scroll\"><table class=\"lives\">
+<caption>{}, record by record</caption>
+<tr><th scope=\"col\">{}</th><th scope=\"col\">life</th></tr>
+";
 
 // What stands behind it.
-fn put_bottom(text: &mut String) -> Put {
-    text.push_str("</table></div>\n</section>\n")
-}
+const BOTTOM: &str = "</table></div>\n</section>\n";
 
 // Puts the steps of a life, and the end of its row.
 fn put_life(text: &mut String, shown: &Linked<'_>, steps: &[Step]) -> Put {
@@ -63,108 +29,72 @@ fn put_life(text: &mut String, shown: &Linked<'_>, steps: &[Step]) -> Put {
     text.push_str("</td></tr>\n")
 }
 
-// Puts the life of a number.
+// Puts a part of lives by number, if there is one: what stands in its top, and by which letter links
+// lead to it.
 fn put_numbered(
     text: &mut String,
     shown: &Linked<'_>,
-    kind: &'static str,
-    number: u64,
-    steps: &[Step],
-) -> Put {
-    let digits = Number(number);
-    put_pieces(
-        text,
-        &[
-            Tag("<tr id=\""),
-            Tag(kind),
-            digits,
-            Tag("\"><th scope=\"row\">"),
-            digits,
-            Tag("</th><td>"),
-        ],
-    )?;
-    put_life(text, shown, steps)
-}
-
-fn put_all_numbered(
-    text: &mut String,
-    shown: &Linked<'_>,
-    kind: &'static str,
     lives: &BTreeMap<u64, Vec<Step>>,
-) -> Put {
-    for (number, steps) in lives {
-        put_numbered(text, shown, kind, *number, steps)?;
-    }
-    Ok(())
-}
-
-// Puts a part of lives by number, if there is one.
-fn put_part(
-    text: &mut String,
-    shown: &Linked<'_>,
-    words: &[&'static str; 4],
-    kind: &'static str,
-    lives: &BTreeMap<u64, Vec<Step>>,
+    top: &[&'static str; 4],
+    letter: &'static str,
 ) -> Put {
     if lives.is_empty() {
         return Ok(());
     }
-    put_top(text, words)?;
-    put_all_numbered(text, shown, kind, lives)?;
-    put_bottom(text)
-}
-
-/// Puts what became of elements.
-pub(crate) fn put_elements(text: &mut String, shown: &Linked<'_>, lives: &Lives) -> Put {
-    put_part(text, shown, &ELEMENTS, "e", &lives.elements)
-}
-
-/// Puts what units did.
-pub(crate) fn put_unit_histories(text: &mut String, shown: &Linked<'_>, lives: &Lives) -> Put {
-    put_part(text, shown, &UNITS, "u", &lives.units)
-}
-
-fn put_queue(text: &mut String, shown: &Linked<'_>, queue: u32) -> Put {
-    put_pieces(text, &[shown.queue_link(queue), Tag("</td><td>")])
-}
-
-// Puts the life of a registrant.
-fn put_registrant(
-    text: &mut String,
-    shown: &Linked<'_>,
-    registrant: &(u32, Name),
-    steps: &[Step],
-) -> Put {
-    let (queue, name) = (registrant.0, registrant.1.text());
-    put_pieces(
+    put_html(
         text,
-        &[
-            Tag("<tr id=\"g"),
-            Number(u64::from(queue)),
-            Tag("-"),
-            Text(name),
-            Tag("\"><th scope=\"row\">"),
-            Text(name),
-            Tag("</th><td>"),
-        ],
+        TOP,
+        &[Tag(top[0]), Tag(top[1]), Tag(top[2]), Tag(top[3])],
     )?;
-    put_queue(text, shown, queue)?;
-    put_life(text, shown, steps)
-}
-
-fn put_all_registrants(text: &mut String, shown: &Linked<'_>, lives: &Lives) -> Put {
-    for (registrant, steps) in &lives.registrants {
-        put_registrant(text, shown, registrant, steps)?;
+    for (number, steps) in lives {
+        let pieces = [Tag(letter), Number(*number), Number(*number)];
+        put_html(
+            text,
+            "<tr id=\"{}{}\"><th scope=\"row\">{}</th><td>",
+            &pieces,
+        )?;
+        put_life(text, shown, steps)?;
     }
-    Ok(())
+    text.push_str(BOTTOM)
 }
 
-/// Puts what registrants did.
-pub(crate) fn put_registrants(text: &mut String, shown: &Linked<'_>, lives: &Lives) -> Put {
+// Puts what registrants did.
+fn put_registrants(text: &mut String, shown: &Linked<'_>, lives: &Lives) -> Put {
     if lives.registrants.is_empty() {
         return Ok(());
     }
-    put_top(text, &REGISTRANTS)?;
-    put_all_registrants(text, shown, lives)?;
-    put_bottom(text)
+    let heads = "registrant</th><th scope=\"col\">queue";
+    let about = "What each registrant did";
+    put_html(
+        text,
+        TOP,
+        &[
+            Tag("registrants"),
+            Tag("Registrants"),
+            Tag(about),
+            Tag(heads),
+        ],
+    )?;
+    for ((queue, name), steps) in &lives.registrants {
+        let (number, name) = (Number(u64::from(*queue)), Text(name.text()));
+        let head = "<tr id=\"g{}-{}\"><th scope=\"row\">{}</th><td>";
+        put_html(text, head, &[number, name, name])?;
+        put_html(text, "{}</td><td>", &[shown.queue_link(*queue)])?;
+        put_life(text, shown, steps)?;
+    }
+    text.push_str(BOTTOM)
+}
+
+/// Puts what became of elements, and what units and registrants did.
+pub(crate) fn put_histories(text: &mut String, shown: &Linked<'_>, lives: &Lives) -> Put {
+    let elements = [
+        "elements",
+        "Elements",
+        "What became of each element",
+        "element",
+    ];
+    put_numbered(text, shown, &lives.elements, &elements, "e")?;
+    let units = ["units", "Units", "What each unit did", "unit"];
+    put_numbered(text, shown, &lives.units, &units, "u")?;
+    put_registrants(text, shown, lives)
 }

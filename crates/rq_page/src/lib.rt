@@ -9,7 +9,6 @@ mod markup;
 mod pages;
 mod payloads;
 mod pictures;
-mod questions;
 mod records;
 mod shown;
 mod steps;
@@ -18,8 +17,6 @@ mod summaries;
 mod surveys;
 mod tables;
 mod units;
-mod walks;
 
 pub use markup::put_text;
-pub use pages::page;
-pub use questions::{Asked, Order};
+pub use pages::{Asked, Order, page};

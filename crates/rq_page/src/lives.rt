@@ -2,12 +2,16 @@
 
 ghost use Rattle.std.specs.Prelude.{◌≡◌, IfErr};
 ghost use Rattle.rq_record.specs.declared.fault.Fault.TheVariants.{Resources};
+ghost use Rattle.rq_found.specs.Refusals.{IsBroken};
 
 use crate::records::{Happening, put_row};
-use crate::shown::Linked;
-use crate::steps::{At, STEPS, Step, step_of};
-use rq_found::{Event, Numbered, unit_of};
-use rq_record::{Fault, KeptBy, KeptName, KeptRecord, Name, QueueNo};
+use crate::shown::{Linkable, Linked};
+use crate::steps::{At, STEPS, Step, step_of, step_of_operation, step_of_unit};
+use rq_found::{
+    End, Event, FollowedQueues, Numbered, PlacedFrames, Trouble, front_frames, unit_of,
+};
+use rq_record::{Fault, KeptRecord, Name};
+use rq_state::State;
 use std::alloc::{AllocError, Global};
 use std::collections::BTreeMap;
 
@@ -33,32 +37,22 @@ pub(crate) struct Lives {
     pub(crate) registrants: BTreeMap<(u32, Name), Vec<Step>>,
 }
 
-// Adds a step to a life, unless it has as many as are kept.
-fn keep(steps: &mut Vec<Step>, step: &Step) -> Result<(), AllocError> {
-    if steps.len() < STEPS {
-        steps.push(*step)?;
-    }
-    Ok(())
-}
-
-// A life with one step.
-fn first_of(alloc: Global, step: &Step) -> Result<Vec<Step>, AllocError> {
-    let mut steps = Vec::new(alloc);
-    steps.push(*step)?;
-    Ok(steps)
-}
-
-// Adds a step to the life of a number.
-fn add(
+// Adds a step to the life of this name, unless it has as many as are kept.
+fn add<K: Ord + Copy>(
     alloc: Global,
-    lives: &mut BTreeMap<u64, Vec<Step>>,
-    number: u64,
+    lives: &mut BTreeMap<K, Vec<Step>>,
+    name: K,
     step: &Step,
 ) -> Result<(), AllocError> {
-    if let Some(steps) = lives.get_mut(&number) {
-        return keep(steps, step);
+    if let Some(steps) = lives.get_mut(&name) {
+        if steps.len() < STEPS {
+            steps.push(*step)?;
+        }
+        return Ok(());
     }
-    lives.insert(number, first_of(alloc, step)?)?;
+    let mut steps = Vec::new(alloc);
+    steps.push(*step)?;
+    lives.insert(name, steps)?;
     Ok(())
 }
 
@@ -69,30 +63,6 @@ fn begun(alloc: Global, asked: &[u64]) -> Result<BTreeMap<u64, Vec<Step>>, Alloc
         lives.insert(number, Vec::new(alloc))?;
     }
     Ok(lives)
-}
-
-// What a unit does by a record that has no element, if it is one of a unit.
-fn step_of_unit(it: &Numbered) -> Option<Step> {
-    let at = At::Record(it.number);
-    match &it.record {
-        KeptRecord::Begin { .. } => Some(Step::of("begins", "begins", at)),
-        KeptRecord::Commit { .. } => Some(Step::of("free", "commits", at)),
-        KeptRecord::Abort { .. } => Some(Step::of("back", "aborts", at)),
-        _ => None,
-    }
-}
-
-// What an operation does: it has one event.
-fn step_of_operation(it: &Numbered, events: &[Event]) -> Step {
-    let at = At::Record(it.number);
-    let step = match events.first() {
-        Some(event) => step_of(event, at),
-        None => Step::of("none", "does nothing", at),
-    };
-    Step {
-        unit: unit_of(&it.record).map(|unit| unit.0),
-        ..step
-    }
 }
 
 impl Lives {
@@ -117,30 +87,6 @@ impl Lives {
         }
     }
 
-    // What happens to an element. Answers whether that is shown.
-    fn take_element(
-        &mut self,
-        alloc: Global,
-        shown: &Linked<'_>,
-        event: &Event,
-        at: At,
-        unit: Option<u64>,
-    ) -> Result<bool, AllocError> {
-        let Event::To(element, _) = event else {
-            return Ok(false);
-        };
-        if !shown.has_element(*element) {
-            return Ok(false);
-        }
-        let step = Step {
-            element: None,
-            unit,
-            ..step_of(event, at)
-        };
-        add(alloc, &mut self.elements, *element, &step)?;
-        Ok(true)
-    }
-
     // What happens to elements. Answers whether one of them is shown.
     fn take_elements(
         &mut self,
@@ -152,7 +98,16 @@ impl Lives {
     ) -> Result<bool, AllocError> {
         let mut is_shown = false;
         for event in events {
-            if self.take_element(alloc, shown, event, at, unit)? {
+            let Event::To(element, _) = event else {
+                continue;
+            };
+            if shown.shows(Linkable::Element, *element) {
+                let step = Step {
+                    element: None,
+                    unit,
+                    ..step_of(event, at)
+                };
+                add(alloc, &mut self.elements, *element, &step)?;
                 is_shown = true;
             }
         }
@@ -170,7 +125,7 @@ impl Lives {
         let Some(unit) = unit_of(&it.record) else {
             return Ok(false);
         };
-        if !shown.has_unit(unit.0) {
+        if !shown.shows(Linkable::Unit, unit.0) {
             return Ok(false);
         }
         let step = match (step_of_unit(it), events.first()) {
@@ -182,57 +137,41 @@ impl Lives {
         Ok(true)
     }
 
-    fn take_registrant(
-        &mut self,
-        alloc: Global,
-        queue: QueueNo,
-        name: &KeptName,
-        step: &Step,
-    ) -> Result<(), AllocError> {
-        let key = (queue.0, name.name());
-        if let Some(steps) = self.registrants.get_mut(&key) {
-            return keep(steps, step);
-        }
-        self.registrants.insert(key, first_of(alloc, step)?)?;
-        Ok(())
-    }
-
-    // An operation of a registrant, if it is one's.
-    fn take_operation(
-        &mut self,
-        alloc: Global,
-        queue: QueueNo,
-        by: &KeptBy,
-        step: &Step,
-    ) -> Result<(), AllocError> {
-        let Some(name) = by.name() else {
-            return Ok(());
-        };
-        let tag = by.by().map(|by| by.tag);
-        self.take_registrant(alloc, queue, name, &Step { tag, ..*step })
-    }
-
     // What a registrant does.
-    fn take_named(
+    fn take_registrant(
         &mut self,
         alloc: Global,
         it: &Numbered,
         events: &[Event],
     ) -> Result<(), AllocError> {
         let at = At::Record(it.number);
-        match &it.record {
+        let (queue, name, step) = match &it.record {
             KeptRecord::Register { queue, name } => {
-                let step = Step::of("begins", "is registered", at);
-                self.take_registrant(alloc, *queue, name, &step)
+                (queue, Some(name), Step::of("begins", "is registered", at))
             }
             KeptRecord::Deregister { queue, name } => {
-                let step = Step::of("gone", "is registered no more", at);
-                self.take_registrant(alloc, *queue, name, &step)
+                (
+                    queue,
+                    Some(name),
+                    Step::of("gone", "is registered no more", at),
+                )
             }
             KeptRecord::Enqueue { queue, by, .. } | KeptRecord::Dequeue { queue, by, .. } => {
-                self.take_operation(alloc, *queue, by, &step_of_operation(it, events))
+                let tag = by.by().map(|by| by.tag);
+                (
+                    queue,
+                    by.name(),
+                    Step {
+                        tag,
+                        ..step_of_operation(it, events)
+                    },
+                )
             }
-            _ => Ok(()),
+            _ => return Ok(()),
+        };
+        match name {
+            Some(name) => add(alloc, &mut self.registrants, (queue.0, name.name()), &step),
+            None => Ok(()),
         }
     }
 
@@ -252,13 +191,8 @@ impl Lives {
         put_row(alloc, &mut self.rows, shown, done)
     }
 
-    /// A record, and what happens at it.
-    pub(crate) fn take(
-        &mut self,
-        alloc: Global,
-        shown: &Linked<'_>,
-        done: &Happening<'_>,
-    ) -> Result<(), Fault>
+    // A record, and what happens at it.
+    fn take(&mut self, alloc: Global, shown: &Linked<'_>, done: &Happening<'_>) -> Result<(), Fault>
         ensures { IfErr result (λ e. e ≡ Resources) }
     {
         let (it, events) = (done.it, done.events);
@@ -266,7 +200,7 @@ impl Lives {
         let of_element = self.take_elements(alloc, shown, events, At::Record(it.number), unit)?;
         let of_unit = self.take_unit(alloc, shown, it, events)?;
         if shown.all {
-            self.take_named(alloc, it, events)?;
+            self.take_registrant(alloc, it, events)?;
         }
         if shown.all || of_element || of_unit {
             self.take_row(alloc, shown, done)?;
@@ -274,19 +208,81 @@ impl Lives {
         Ok(())
     }
 
-    /// What the restart does to a unit that is open.
-    pub(crate) fn take_restart(
+    // All records of the front, of whose checkpoints it is known whether they are true.
+    fn walk(
         &mut self,
         alloc: Global,
         shown: &Linked<'_>,
-        unit: u64,
-        events: &[Event],
-    ) -> Result<(), AllocError> {
-        self.take_elements(alloc, shown, events, At::Restart, Some(unit))?;
-        if shown.has_unit(unit) {
-            let step = Step::of("back", "aborted", At::Restart);
-            add(alloc, &mut self.units, unit, &step)?;
+        frames: PlacedFrames<'_>,
+        machine: &mut FollowedQueues,
+        truths: &BTreeMap<u64, bool>,
+    ) -> Result<(), Fault>
+        ensures { IfErr result (λ e. e ≡ Resources) }
+    {
+        for placed in frames {
+            let truth = truths.get(&placed.offset).copied().unwrap_or(true);
+            let it = machine.follow(placed)?;
+            let done = Happening {
+                it: &it,
+                events: machine.events(),
+                truth,
+            };
+            self.take(alloc, shown, &done)?;
         }
         Ok(())
     }
+
+    // What the restart does to the units that are open behind the front.
+    fn take_restart(
+        &mut self,
+        alloc: Global,
+        shown: &Linked<'_>,
+        machine: &mut FollowedQueues,
+    ) -> Result<(), AllocError> {
+        for unit in machine.open_units()? {
+            machine.abort(unit)?;
+            self.take_elements(alloc, shown, machine.events(), At::Restart, Some(unit))?;
+            if shown.shows(Linkable::Unit, unit) {
+                let step = Step::of("back", "aborted", At::Restart);
+                add(alloc, &mut self.units, unit, &step)?;
+            }
+        }
+        Ok(())
+    }
+}
+
+// Which checkpoints are true, by their offsets.
+fn truths_of(
+    alloc: Global,
+    checkpoints: &[(u64, bool)],
+) -> Result<BTreeMap<u64, bool>, AllocError> {
+    let mut truths = BTreeMap::new(alloc);
+    for (offset, truth) in checkpoints {
+        truths.insert(*offset, *truth)?;
+    }
+    Ok(truths)
+}
+
+/// The lives that are shown of a log whose front begins behind the first state, and of whose
+/// checkpoints it is known whether they are true.
+pub(crate) fn lives_of(
+    alloc: Global,
+    bytes: &[u8],
+    first: &State,
+    end: &End,
+    shown: &Linked<'_>,
+    checkpoints: &[(u64, bool)],
+) -> Result<Lives, Trouble>
+    ensures { IfErr result IsBroken }
+{
+    let mut lives = Lives::new(alloc, shown)?;
+    if shown.is_nobody() {
+        return Ok(lives);
+    }
+    let truths = truths_of(alloc, checkpoints)?;
+    let mut machine = FollowedQueues::of(alloc, first)?;
+    let frames = front_frames(bytes, first, end.at, end.used);
+    lives.walk(alloc, shown, frames, &mut machine, &truths)?;
+    lives.take_restart(alloc, shown, &mut machine)?;
+    Ok(lives)
 }

@@ -3,8 +3,10 @@
 ghost use Rattle.std.specs.Prelude.{◌≡◌, ◌++◌, true, OnOk, string_bytes};
 ghost use Rattle.rq_page.specs.Markup.{AppendsText, is_text, page_foot};
 
-use crate::markup::Html::{Count, Number, Tag, Text};
+use crate::markup::Html::{Tag, Text};
+use crate::style::{STYLE, sum_of_style};
 use rq_found::{Put, is_hidden};
+use std::alloc::Global;
 use std::fmt::Write;
 
 /// A part of a page. A `Tag` is of this crate alone; what is of the log is a number, or a text or a
@@ -32,7 +34,7 @@ pub(crate) enum Html<'a> {
 /// Nothing.
 pub(crate) const NOTHING: Html<'static> = Html::Tag("");
 
-// What groups of three digits count, the greatest first.
+// What stands before each three digits of a number, the greatest first.
 static GROUPS: [u64; 6] = [
     1_000_000_000_000_000_000,
     1_000_000_000_000_000,
@@ -42,10 +44,13 @@ static GROUPS: [u64; 6] = [
     1_000,
 ];
 
-// What is shown in the place of a hidden character: the picture of a control, if there is one.
-fn picture_of(c: char) -> char
-    ensures { is_text result ≡ true }
+// A character as it is shown: in the place of a hidden one the picture of a control, if there is one.
+fn visible(c: char) -> char
+    ensures { is_text c ≡ true → is_text result ≡ true }
 {
+    if !is_hidden(c) {
+        return c;
+    }
     match c {
         '\u{8}' => '\u{2408}',
         '\t' => '\u{2409}',
@@ -56,13 +61,6 @@ fn picture_of(c: char) -> char
         '\0' => '\u{2400}',
         _ => '\u{fffd}',
     }
-}
-
-// A character as it is shown.
-fn visible(c: char) -> char
-    ensures { is_text c ≡ true → is_text result ≡ true }
-{
-    if is_hidden(c) { picture_of(c) } else { c }
 }
 
 /// Puts a character as text, of which none is markup.
@@ -91,39 +89,24 @@ pub fn put_text(text: &mut String, word: &str) -> Put
     Ok(())
 }
 
-// Puts the next three digits of a number, and a comma; nothing, if only zeros were before.
-fn put_group(text: &mut String, digits: u64, is_first: bool) -> Put {
-    if is_first {
-        write!(text, "{digits},")
+// Puts the last three digits of a number, or all if it has fewer, and what stands behind them.
+fn put_group(text: &mut String, number: u64, behind: &'static str) -> Put {
+    let digits = number % 1000;
+    if number == digits {
+        write!(text, "{digits}{behind}")
     } else {
-        write!(text, "{digits:03},")
-    }
-}
-
-fn put_last(text: &mut String, digits: u64, is_first: bool) -> Put {
-    if is_first {
-        write!(text, "{digits}")
-    } else {
-        write!(text, "{digits:03}")
+        write!(text, "{digits:03}{behind}")
     }
 }
 
 fn put_count(text: &mut String, number: u64) -> Put {
-    let mut left = number;
-    let mut is_first = true;
     for group in GROUPS.iter().copied() {
-        let digits = left.checked_div(group).unwrap_or(0);
-        if digits > 0 || !is_first {
-            put_group(text, digits, is_first)?;
-            is_first = false;
+        let count = number.checked_div(group).unwrap_or(0);
+        if count > 0 {
+            put_group(text, count, ",")?;
         }
-        left = left.checked_rem(group).unwrap_or(0);
     }
-    put_last(text, left, is_first)
-}
-
-fn put_link(text: &mut String, kind: &'static str, number: u64) -> Put {
-    write!(text, "<a href=\"#{kind}{number}\">{number}</a>")
+    put_group(text, number, "")
 }
 
 fn put_named(text: &mut String, queue: u32, name: &str) -> Put {
@@ -151,48 +134,73 @@ fn put_piece(text: &mut String, piece: &Html<'_>) -> Put {
         Html::Number(number) => write!(text, "{number}"),
         Html::Count(number) => put_count(text, *number),
         Html::Text(word) => put_text(text, word),
-        Html::Link(kind, number) => put_link(text, kind, *number),
+        Html::Link(kind, number) => write!(text, "<a href=\"#{kind}{number}\">{number}</a>"),
         Html::Named(queue, name) => put_named(text, *queue, name),
         Html::Queue(queue, name) => put_queue(text, *queue, name),
         Html::Registrant(queue, name) => put_registrant(text, *queue, name),
     }
 }
 
-/// Puts one piece behind the other.
-pub(crate) fn put_pieces(text: &mut String, pieces: &[Html<'_>]) -> Put {
-    for piece in pieces {
+/// Puts markup, with a piece in the place of each `{}` in it.
+pub(crate) fn put_html(text: &mut String, markup: &'static str, pieces: &[Html<'_>]) -> Put {
+    let mut parts = markup.split("{}");
+    text.push_str(parts.next().unwrap_or(""))?;
+    for (piece, part) in pieces.iter().zip(parts) {
         put_piece(text, piece)?;
+        text.push_str(part)?;
     }
     Ok(())
 }
 
-/// Puts what stands before the front's summary. No part of the page may be loaded from anywhere, no
-/// script runs, and no style but that of this sum.
-pub(crate) fn put_head<'a>(
+/// Puts markup with a piece in it, if there is one.
+pub(crate) fn put_optional(
     text: &mut String,
-    name: &'a str,
-    style: &'static str,
-    sum: &'a str,
+    markup: &'static str,
+    piece: Option<Html<'_>>,
 ) -> Put {
-    put_pieces(
+    match piece {
+        Some(piece) => put_html(text, markup, &[piece]),
+        None => Ok(()),
+    }
+}
+
+/// Puts a rectangle: its left, its top, its width and its height, and what stands behind these.
+pub(crate) fn put_rect(
+    text: &mut String,
+    class: &'static str,
+    place: [u64; 4],
+    behind: &'static str,
+) -> Put {
+    let [x, y, width, height] = place;
+    write!(
         text,
-        &[
-            Tag("<!DOCTYPE html>\n<html lang=\"en\">\n<head>\n<meta charset=\"utf-8\">\n"),
-            Tag("<meta http-equiv=\"Content-Security-Policy\" content=\"default-src 'none'; "),
-            Tag("style-src 'sha256-"),
-            Text(sum),
-            Tag("'; base-uri 'none'; form-action 'none'\">\n"),
-            Tag("<meta name=\"referrer\" content=\"no-referrer\">\n"),
-            Tag("<meta name=\"color-scheme\" content=\"light dark\">\n"),
-            Tag(
-                "<meta name=\"viewport\" content=\"width=device-width, initial-scale=1\">\n<title>",
-            ),
-            Text(name),
-            Tag("</title>\n<style>"),
-            Tag(style),
-            Tag("</style>\n</head>\n<body>\n"),
-        ],
+        "<rect class=\"{class}\" x=\"{x}\" y=\"{y}\" width=\"{width}\" height=\"{height}\"{behind}"
     )
+}
+
+// What stands before the front's summary: up to the name of the log, and behind it. No part of the page
+// may be loaded from anywhere, no script runs, and no style but that of a sum.
+const HEAD: &str = "<!DOCTYPE html>
+<html lang=\"en\">
+<head>
+<meta charset=\"utf-8\">
+<meta http-equiv=\"Content-Security-Policy\" content=\"default-src 'none'; style-src 'sha256-{}'; base-uri 'none'; form-action 'none'\">
+<meta name=\"referrer\" content=\"no-referrer\">
+<meta name=\"color-scheme\" content=\"light dark\">
+<meta name=\"viewport\" content=\"width=device-width, initial-scale=1\">
+<title>";
+
+const STYLED: &str = "{}</title>
+<style>{}</style>
+</head>
+<body>
+";
+
+/// Puts what stands before the front's summary of the log of this name.
+pub(crate) fn put_head(alloc: Global, text: &mut String, name: &str) -> Put {
+    let sum = sum_of_style(alloc)?;
+    put_html(text, HEAD, &[Text(sum.as_str())])?;
+    put_html(text, STYLED, &[Text(name), Tag(STYLE)])
 }
 
 /// Puts what stands behind the last part.

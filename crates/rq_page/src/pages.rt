@@ -8,25 +8,48 @@ ghost use Rattle.rq_found.specs.Ends.{IsRestartFrom};
 ghost use Rattle.rq_found.specs.Refusals.{IsBroken, IsRefusal, RefusedFrom, StaysUnshown};
 ghost use Rattle.rq_page.specs.Markup.{page_foot};
 
-use crate::histories::{put_elements, put_registrants, put_unit_histories};
-use crate::lives::Lives;
+use crate::histories::put_histories;
+use crate::lives::{Lives, lives_of};
 use crate::markup::{put_foot, put_head};
 use crate::pictures::put_picture;
-use crate::questions::{Asked, Order};
 use crate::records::put_record_rows;
 use crate::shown::Linked;
-use crate::style::{STYLE, sum_of_style};
 use crate::summaries::{put_header, put_parts, put_summary};
 use crate::surveys::{Survey, surveyed};
 use crate::tables::put_queue_table;
 use crate::units::put_open;
-use crate::walks::lives_of;
 use rq_found::{End, Put, ShownLog, Trouble, end_after, first_state, restarted_from};
 use rq_restart::{Fault, Restarted, audit, audit_at};
 use rq_state::State;
-use std::alloc::{AllocError, Global};
+use std::alloc::Global;
 use std::io::Write;
 use std::thread::Threads;
+
+/// In which order the queues of a page stand.
+#[derive(Clone, Copy, Debug, PartialEq, Eq)]
+pub enum Order {
+    /// The one with the most free elements first, and by number if they have as many.
+    Depth,
+    /// By number.
+    Number,
+    /// By name, and by number if they have the same.
+    Name,
+}
+
+/// What a page is asked to show, and what it says of itself.
+#[derive(Clone, Copy, Debug)]
+pub struct Asked<'a> {
+    /// The name of the log.
+    pub name: &'a str,
+    /// The version of the program that makes the page.
+    pub version: &'a str,
+    /// The order of the queues.
+    pub order: Order,
+    /// Elements whose lives are shown, however long the log is.
+    pub elements: &'a [u64],
+    /// Units whose lives are shown, however long the log is.
+    pub units: &'a [u64],
+}
 
 // What is found of a log: its restart, where its front ends, and which checkpoints are true.
 #[derive(Drop)]
@@ -36,26 +59,16 @@ struct RestartedLog {
     checkpoints: Vec<(u64, bool)>,
 }
 
-// What a walk over the front finds, and the state behind which the front begins.
-#[derive(Drop)]
-struct Walked {
-    first: State,
-    seen: Survey,
-}
-
-// The elements and the units that were asked for.
-#[derive(Drop)]
-struct Chosen {
-    elements: Vec<u64>,
-    units: Vec<u64>,
-}
-
-// What a page shows of a log, beside lives.
+// What a page shows of a log, beside lives: also the state behind which the front begins, and what a
+// walk over the front finds.
 #[derive(Drop)]
 struct Contents {
     found: RestartedLog,
-    walked: Walked,
-    wanted: Chosen,
+    first: State,
+    seen: Survey,
+    // The elements and the units that were asked for.
+    elements: Vec<u64>,
+    units: Vec<u64>,
 }
 
 // The same, with the lives that stand on the page, and whether these are all.
@@ -101,20 +114,6 @@ fn found_in<R: Threads + Sync>(
     })
 }
 
-fn walk_of(alloc: Global, bytes: &[u8], found: &RestartedLog) -> Result<Walked, Trouble>
-    ensures { IfErr result IsBroken }
-{
-    let first = first_state(alloc, bytes, found.end.at)?;
-    let seen = surveyed(alloc, bytes, &first, &found.end, found.restarted.state())?;
-    Ok(Walked { first, seen })
-}
-
-fn wanted_of(alloc: Global, asked: &Asked<'_>) -> Result<Chosen, AllocError> {
-    let elements = asked.elements.to_vec(alloc)?;
-    let units = asked.units.to_vec(alloc)?;
-    Ok(Chosen { elements, units })
-}
-
 fn contents_of(
     alloc: Global,
     bytes: &[u8],
@@ -123,25 +122,30 @@ fn contents_of(
 ) -> Result<Contents, Trouble>
     ensures { IfErr result IsBroken }
 {
-    let walked = walk_of(alloc, bytes, &found)?;
-    let wanted = wanted_of(alloc, asked)?;
+    let elements = asked.elements.to_vec(alloc)?;
+    let units = asked.units.to_vec(alloc)?;
+    let first = first_state(alloc, bytes, found.end.at)?;
+    let seen = surveyed(alloc, bytes, &first, &found.end, found.restarted.state())?;
     Ok(Contents {
         found,
-        walked,
-        wanted,
+        first,
+        seen,
+        elements,
+        units,
     })
 }
 
 // What is shown, as far as it is known before lives are gathered: whether those of all may be.
 fn begun(contents: &Contents) -> Linked<'_> {
-    let (found, wanted) = (&contents.found, &contents.wanted);
-    let (elements, units) = (wanted.elements.as_slice(), wanted.units.as_slice());
-    let count = found
-        .end
-        .records
-        .saturating_sub(contents.walked.first.next());
-    let definitions = found.restarted.state().definitions();
-    Linked::of(definitions, elements, units, count)
+    let found = &contents.found;
+    let (elements, units) = (contents.elements.as_slice(), contents.units.as_slice());
+    let count = found.end.records.saturating_sub(contents.first.next());
+    Linked::of(
+        found.restarted.state().definitions(),
+        elements,
+        units,
+        count,
+    )
 }
 
 // The lives of all, or of those that were asked for.
@@ -150,7 +154,7 @@ fn gathered(alloc: Global, bytes: &[u8], contents: &Contents, all: bool) -> Resu
 {
     let mut shown = begun(contents);
     shown.all = all;
-    let (first, found) = (&contents.walked.first, &contents.found);
+    let (first, found) = (&contents.first, &contents.found);
     lives_of(
         alloc,
         bytes,
@@ -161,41 +165,21 @@ fn gathered(alloc: Global, bytes: &[u8], contents: &Contents, all: bool) -> Resu
     )
 }
 
-// Whether the lives of all are shown: if they may be and fit.
-fn all_fit(alloc: Global, bytes: &[u8], contents: &Contents) -> Result<bool, Trouble>
-    ensures { IfErr result IsBroken }
-{
-    if !begun(contents).all {
-        return Ok(false);
-    }
-    let lives = gathered(alloc, bytes, contents, true)?;
-    Ok(lives.more == 0)
-}
-
+// Shows the lives of all, if they may be shown and fit.
 fn told_of(alloc: Global, bytes: &[u8], contents: Contents) -> Result<PageContents, Trouble>
     ensures { IfErr result IsBroken }
 {
-    let all = all_fit(alloc, bytes, &contents)?;
-    let lives = gathered(alloc, bytes, &contents, all)?;
+    let may_be_all = begun(&contents).all;
+    let mut lives = gathered(alloc, bytes, &contents, may_be_all)?;
+    let all = may_be_all && lives.more == 0;
+    if may_be_all && !all {
+        lives = gathered(alloc, bytes, &contents, false)?;
+    }
     Ok(PageContents {
         contents,
         lives,
         all,
     })
-}
-
-// What is shown, by which links are put.
-fn shown_of(told: &PageContents) -> Linked<'_> {
-    let mut shown = begun(&told.contents);
-    let lives = Some(&told.lives);
-    shown.all = told.all;
-    shown.lives = lives;
-    shown
-}
-
-fn put_page_head(alloc: Global, text: &mut String, asked: &Asked<'_>) -> Put {
-    let sum = sum_of_style(alloc)?;
-    put_head(text, asked.name, STYLE, sum.as_str())
 }
 
 // Puts what stands before the queues.
@@ -208,7 +192,7 @@ fn put_top(
 ) -> Put {
     let found = &told.contents.found;
     let (restarted, end) = (&found.restarted, &found.end);
-    put_page_head(alloc, text, asked)?;
+    put_head(alloc, text, asked.name)?;
     put_header(text, asked, restarted, end)?;
     put_parts(text, &told.lives)?;
     text.push_str("<main>\n")?;
@@ -224,7 +208,7 @@ fn put_middle(
     contents: &Contents,
     order: Order,
 ) -> Put {
-    let (seen, found) = (&contents.walked.seen, &contents.found);
+    let (seen, found) = (&contents.seen, &contents.found);
     let (state, end) = (found.restarted.state(), &found.end);
     put_picture(alloc, text, seen, end, found.checkpoints.as_slice())?;
     put_open(text, shown, seen, end)?;
@@ -233,9 +217,7 @@ fn put_middle(
 
 // Puts the lives that are shown.
 fn put_lives(text: &mut String, shown: &Linked<'_>, lives: &Lives) -> Put {
-    put_elements(text, shown, lives)?;
-    put_unit_histories(text, shown, lives)?;
-    put_registrants(text, shown, lives)?;
+    put_histories(text, shown, lives)?;
     put_record_rows(text, lives.rows.as_str(), lives.count, lives.more)?;
     text.push_str("</main>\n")
 }
@@ -250,7 +232,10 @@ fn put_all(
 ) -> Put
     ensures { OnOk result ((put : List ℕ) × (string_bytes text.new ≡ put ++ page_foot)) }
 {
-    let shown = shown_of(told);
+    let mut shown = begun(&told.contents);
+    let lives = Some(&told.lives);
+    shown.all = told.all;
+    shown.lives = lives;
     put_top(alloc, text, bytes, told, asked)?;
     put_middle(alloc, text, &shown, &told.contents, asked.order)?;
     put_lives(text, &shown, &told.lives)?;

@@ -1,7 +1,7 @@
 //! Payloads: the first of a payload in a line, and all of it if that is asked for.
 
-use crate::markup::Html::{Count, Tag};
-use crate::markup::{put_char, put_pieces};
+use crate::markup::Html::Count;
+use crate::markup::{put_char, put_html};
 use rq_found::{Put, put_digits};
 use std::alloc::{AllocError, Global};
 use std::str::from_utf8;
@@ -36,44 +36,30 @@ fn put_first(
     most: usize,
 ) -> Result<usize, AllocError> {
     match from_utf8(bytes) {
-        Ok(word) => put_characters(text, word, most),
-        Err(_) => put_digits(alloc, text, bytes, most),
+        Ok(word) => {
+            text.push_str("<bdi class=\"text\">")?;
+            put_characters(text, word, most)
+        }
+        Err(_) => {
+            text.push_str("<bdi class=\"text hex\">")?;
+            put_digits(alloc, text, bytes, most)
+        }
     }
-}
-
-// Puts what stands before a payload: whether its bytes are shown as digits.
-fn put_form(text: &mut String, bytes: &[u8]) -> Put {
-    match from_utf8(bytes) {
-        Ok(_) => text.push_str("<bdi class=\"text\">"),
-        Err(_) => text.push_str("<bdi class=\"text hex\">"),
-    }
-}
-
-// Puts all of a payload, behind the first of it.
-fn put_rest(alloc: Global, text: &mut String, bytes: &[u8]) -> Put {
-    put_pieces(
-        text,
-        &[
-            Tag("</bdi><details><summary>all "),
-            Count(bytes.len() as u64),
-            Tag(" bytes</summary>"),
-        ],
-    )?;
-    put_form(text, bytes)?;
-    put_first(alloc, text, bytes, bytes.len())?;
-    text.push_str("</bdi></details>")
 }
 
 // Puts what stands behind the first of a payload, of which so many bytes are shown.
 fn put_behind(alloc: Global, text: &mut String, bytes: &[u8], shown: usize, whole: bool) -> Put {
+    let count = Count(bytes.len() as u64);
     if shown >= bytes.len() {
         return text.push_str("</bdi>");
     }
-    if whole {
-        return put_rest(alloc, text, bytes);
+    if !whole {
+        return put_html(text, "</bdi><i>.. {} bytes</i>", &[count]);
     }
-    let count = Count(bytes.len() as u64);
-    put_pieces(text, &[Tag("</bdi><i>.. "), count, Tag(" bytes</i>")])
+    let head = "</bdi><details><summary>all {} bytes</summary>";
+    put_html(text, head, &[count])?;
+    put_first(alloc, text, bytes, bytes.len())?;
+    text.push_str("</bdi></details>")
 }
 
 /// Puts a payload: its first characters, or bytes if it is no text, and how many bytes it has; all
@@ -82,7 +68,6 @@ pub(crate) fn put_payload_cell(alloc: Global, text: &mut String, bytes: &[u8], w
     if bytes.is_empty() {
         return text.push_str("<i>no bytes</i>");
     }
-    put_form(text, bytes)?;
     let shown = put_first(alloc, text, bytes, FIRST)?;
     put_behind(alloc, text, bytes, shown, whole)
 }

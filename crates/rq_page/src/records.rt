@@ -1,9 +1,9 @@
 //! The records, a row each.
 
 use crate::markup::Html::{Count, Number, Tag};
-use crate::markup::{Html, NOTHING, put_pieces};
+use crate::markup::{put_html, put_optional};
 use crate::payloads::put_payload_cell;
-use crate::shown::Linked;
+use crate::shown::{Linkable, Linked};
 use crate::steps::{At, put_step, step_of};
 use rq_found::{Event, Numbered, Put, kind_of, unit_of};
 use rq_record::{KeptBy, KeptRecord, QueueNo};
@@ -12,24 +12,13 @@ use std::alloc::Global;
 // While the rows have fewer bytes, payloads can be folded out.
 const WHOLE: usize = 500_000;
 
+// What is said of a checkpoint that is true, and of one that is not.
+const TRUE: &str = "true";
+
+const FALSE: &str = "<span class=\"bad\">does not spell the state before it</span>";
+
 // As many events of a record are shown: a COMMIT has one for each operation of its unit.
 const EVENTS: usize = 1000;
-
-// The unit that a record names.
-fn unit_named(shown: &Linked<'_>, record: &KeptRecord) -> (Html<'static>, Html<'static>) {
-    match unit_of(record) {
-        Some(unit) => (Tag(" unit "), shown.unit_link(unit.0)),
-        None => (NOTHING, NOTHING),
-    }
-}
-
-// The queue that it defines or names.
-fn queue_named<'a>(shown: &Linked<'a>, it: &Numbered) -> (Html<'a>, Html<'a>) {
-    match it.queue() {
-        Some(queue) => (Tag(" queue "), shown.queue_link(queue.0)),
-        None => (NOTHING, NOTHING),
-    }
-}
 
 // Puts whom an operation is by.
 fn put_by(text: &mut String, shown: &Linked<'_>, queue: QueueNo, by: &KeptBy) -> Put {
@@ -37,54 +26,7 @@ fn put_by(text: &mut String, shown: &Linked<'_>, queue: QueueNo, by: &KeptBy) ->
         return Ok(());
     };
     let registrant = shown.registrant_link(queue.0, by.name.text());
-    put_pieces(
-        text,
-        &[Tag(" by "), registrant, Tag(" tag "), Number(by.tag)],
-    )
-}
-
-fn put_definition(text: &mut String, shown: &Linked<'_>, limit: u16, error: QueueNo) -> Put {
-    put_pieces(
-        text,
-        &[
-            Tag(" limit "),
-            Number(u64::from(limit)),
-            Tag(" error queue "),
-            shown.error_link(error),
-        ],
-    )
-}
-
-// Puts how many bytes a checkpoint has, and whether it is true.
-fn put_checkpoint(text: &mut String, count: usize, truth: bool) -> Put {
-    let said = if truth {
-        Tag(" bytes, true")
-    } else {
-        Tag(" bytes, <span class=\"bad\">does not spell the state before it</span>")
-    };
-    put_pieces(text, &[Tag(" of "), Count(count as u64), said])
-}
-
-// Puts an element that is put in: its priority, by whom, and its payload.
-fn put_enqueued(alloc: Global, text: &mut String, shown: &Linked<'_>, it: &Numbered) -> Put {
-    let KeptRecord::Enqueue {
-        priority,
-        queue,
-        by,
-        payload,
-        ..
-    } = &it.record
-    else {
-        return Ok(());
-    };
-    put_pieces(text, &[Tag(" priority "), Number(u64::from(*priority))])?;
-    put_by(text, shown, *queue, by)?;
-    text.push_str(" payload ")?;
-    put_payload_cell(alloc, text, payload.bytes(), text.len() < WHOLE)
-}
-
-fn put_field(text: &mut String, name: &'static str, field: Html<'_>) -> Put {
-    put_pieces(text, &[Tag(name), field])
+    put_html(text, " by {} tag {}", &[registrant, Number(by.tag)])
 }
 
 // Puts what no other kind of record has.
@@ -96,26 +38,36 @@ fn put_fields(
     truth: bool,
 ) -> Put {
     match &it.record {
-        KeptRecord::Define { limit, error, .. } => put_definition(text, shown, *limit, *error),
+        KeptRecord::Define { limit, error, .. } => {
+            let fields = [Number(u64::from(*limit)), shown.error_link(*error)];
+            put_html(text, " limit {} error queue {}", &fields)
+        }
         KeptRecord::Register { queue, name } | KeptRecord::Deregister { queue, name } => {
-            put_field(text, " name ", shown.registrant_link(queue.0, name.text()))
+            let registrant = shown.registrant_link(queue.0, name.text());
+            put_html(text, " name {}", &[registrant])
         }
-        KeptRecord::Enqueue { .. } => put_enqueued(alloc, text, shown, it),
+        KeptRecord::Enqueue {
+            priority,
+            queue,
+            by,
+            payload,
+            ..
+        } => {
+            put_html(text, " priority {}", &[Number(u64::from(*priority))])?;
+            put_by(text, shown, *queue, by)?;
+            text.push_str(" payload ")?;
+            put_payload_cell(alloc, text, payload.bytes(), text.len() < WHOLE)
+        }
         KeptRecord::Dequeue { queue, by, .. } => put_by(text, shown, *queue, by),
-        KeptRecord::Kill { element, .. } => {
-            // It may be none: what happens has the link.
-            put_field(text, " element ", Number(element.0))
+        // It may be none: what happens has the link.
+        KeptRecord::Kill { element, .. } => put_html(text, " element {}", &[Number(element.0)]),
+        KeptRecord::Checkpoint { bytes } => {
+            let behind = if truth { TRUE } else { FALSE };
+            let count = Count(bytes.bytes().len() as u64);
+            put_html(text, " of {} bytes, {}", &[count, Tag(behind)])
         }
-        KeptRecord::Checkpoint { bytes } => put_checkpoint(text, bytes.bytes().len(), truth),
         _ => Ok(()),
     }
-}
-
-fn put_first_events(text: &mut String, shown: &Linked<'_>, events: &[Event]) -> Put {
-    for event in events.iter().take(EVENTS) {
-        put_step(text, shown, &step_of(event, At::Here))?;
-    }
-    Ok(())
 }
 
 fn put_events(text: &mut String, shown: &Linked<'_>, events: &[Event]) -> Put {
@@ -123,19 +75,14 @@ fn put_events(text: &mut String, shown: &Linked<'_>, events: &[Event]) -> Put {
         return Ok(());
     }
     text.push_str("<ol>")?;
-    put_first_events(text, shown, events)?;
-    let more = events.len().saturating_sub(EVENTS) as u64;
-    if more == 0 {
-        return text.push_str("</ol>");
+    for event in events.iter().take(EVENTS) {
+        put_step(text, shown, &step_of(event, At::Here))?;
     }
-    put_pieces(
-        text,
-        &[
-            Tag("<li class=\"none\">and "),
-            Count(more),
-            Tag(" more</li></ol>"),
-        ],
-    )
+    let more = events.len().saturating_sub(EVENTS) as u64;
+    if more > 0 {
+        put_html(text, "<li class=\"none\">and {} more</li>", &[Count(more)])?;
+    }
+    text.push_str("</ol>")
 }
 
 /// A record with what happens at it.
@@ -156,40 +103,16 @@ pub(crate) fn put_row(
 ) -> Put {
     let it = done.it;
     let (number, kind) = (Number(it.number), Tag(kind_of(&it.record)));
-    let (of_unit, unit) = unit_named(shown, &it.record);
-    let (of_queue, queue) = queue_named(shown, it);
-    put_pieces(
-        text,
-        &[
-            Tag("<tr id=\"r"),
-            number,
-            Tag("\"><th scope=\"row\">"),
-            number,
-            Tag("</th><td>"),
-            Number(it.offset),
-            Tag("</td><td><b class=\""),
-            kind,
-            Tag("\">"),
-            kind,
-            Tag("</b>"),
-            of_unit,
-            unit,
-            of_queue,
-            queue,
-        ],
-    )?;
+    let head = "<tr id=\"r{}\"><th scope=\"row\">{}</th><td>{}</td><td><b class=\"{}\">{}</b>";
+    put_html(text, head, &[number, number, Number(it.offset), kind, kind])?;
+    let unit = unit_of(&it.record).map(|unit| shown.link(Linkable::Unit, unit.0));
+    put_optional(text, " unit {}", unit)?;
+    let queue = it.queue().map(|queue| shown.queue_link(queue.0));
+    put_optional(text, " queue {}", queue)?;
     put_fields(alloc, text, shown, it, done.truth)?;
     text.push_str("</td><td>")?;
     put_events(text, shown, done.events)?;
     text.push_str("</td></tr>\n")
-}
-
-// Puts how many records were left out.
-fn put_left_out(text: &mut String, more: u64) -> Put {
-    if more == 0 {
-        return Ok(());
-    }
-    put_pieces(text, &[Tag("; "), Count(more), Tag(" more are left out")])
 }
 
 /// Puts the records that were gathered as rows, and how many were left out.
@@ -201,7 +124,9 @@ pub(crate) fn put_record_rows(text: &mut String, rows: &str, count: u64, more: u
         "<section id=\"records\">\n<h2>Records</h2>\n<div class=\"scroll\"><table class=\"lives records\">\n\
         <caption>Each record with what happens at it",
     )?;
-    put_left_out(text, more)?;
+    if more > 0 {
+        put_html(text, "; {} more are left out", &[Count(more)])?;
+    }
     text.push_str(
         "</caption>\n<tr><th scope=\"col\">record</th><th scope=\"col\">at byte</th>\
         <th scope=\"col\">what it says</th><th scope=\"col\">what happens</th></tr>\n",

@@ -11,6 +11,17 @@ const ALL: u64 = 10_000;
 /// As many queues are shown.
 pub(crate) const QUEUES: usize = 1000;
 
+/// What a number names that a page may show.
+#[derive(Clone, Copy)]
+pub(crate) enum Linkable {
+    /// The life of an element.
+    Element,
+    /// The life of a unit.
+    Unit,
+    /// A record that has to do with those whose lives are shown.
+    Record,
+}
+
 /// Which things a page shows, by which it is known what a link leads to.
 #[derive(Clone, Copy)]
 pub(crate) struct Linked<'a> {
@@ -48,20 +59,16 @@ impl<'a> Linked<'a> {
         !self.all && self.elements.is_empty() && self.units.is_empty()
     }
 
-    /// Whether the life of an element is shown. Of a log that was carried on there may be elements
+    /// Whether the page shows what a number names. Of a log that was carried on there may be elements
     /// to which nothing happens.
-    pub(crate) fn has_element(&self, element: u64) -> bool {
-        match self.lives {
-            Some(lives) => lives.elements.contains_key(&element),
-            None => self.all || self.elements.contains(&element),
-        }
-    }
-
-    /// Whether the life of a unit is shown.
-    pub(crate) fn has_unit(&self, unit: u64) -> bool {
-        match self.lives {
-            Some(lives) => lives.units.contains_key(&unit),
-            None => self.all || self.units.contains(&unit),
+    pub(crate) fn shows(&self, kind: Linkable, number: u64) -> bool {
+        match (kind, self.lives) {
+            (Linkable::Element, Some(lives)) => lives.elements.contains_key(&number),
+            (Linkable::Element, None) => self.all || self.elements.contains(&number),
+            (Linkable::Unit, Some(lives)) => lives.units.contains_key(&number),
+            (Linkable::Unit, None) => self.all || self.units.contains(&number),
+            (Linkable::Record, Some(lives)) => number < lives.until.unwrap_or(u64::MAX),
+            (Linkable::Record, None) => true,
         }
     }
 
@@ -70,14 +77,6 @@ impl<'a> Linked<'a> {
         match self.lives {
             Some(lives) => lives.has_registrant(queue, name),
             None => self.all,
-        }
-    }
-
-    // Whether a record that has to do with these has a row.
-    fn has_record(&self, record: u64) -> bool {
-        match self.lives {
-            Some(lives) => record < lives.until.unwrap_or(u64::MAX),
-            None => true,
         }
     }
 
@@ -108,19 +107,16 @@ impl<'a> Linked<'a> {
         }
     }
 
-    /// An element by its number.
-    pub(crate) fn element_link(&self, element: u64) -> Html<'static> {
-        link_of("e", element, self.has_element(element))
-    }
-
-    /// A record by its number.
-    pub(crate) fn record_link(&self, record: u64) -> Html<'static> {
-        link_of("r", record, self.has_record(record))
-    }
-
-    /// A unit by its number.
-    pub(crate) fn unit_link(&self, unit: u64) -> Html<'static> {
-        link_of("u", unit, self.has_unit(unit))
+    /// What a number names, with a link to it if that is shown.
+    pub(crate) fn link(&self, kind: Linkable, number: u64) -> Html<'static> {
+        if !self.shows(kind, number) {
+            return Html::Number(number);
+        }
+        match kind {
+            Linkable::Element => Html::Link("e", number),
+            Linkable::Unit => Html::Link("u", number),
+            Linkable::Record => Html::Link("r", number),
+        }
     }
 
     /// A registrant of a queue by its name.
@@ -130,14 +126,5 @@ impl<'a> Linked<'a> {
         } else {
             Html::Text(name)
         }
-    }
-}
-
-// A number, with a link to what it names if that is shown.
-fn link_of(kind: &'static str, number: u64, is_shown: bool) -> Html<'static> {
-    if is_shown {
-        Html::Link(kind, number)
-    } else {
-        Html::Number(number)
     }
 }

@@ -1,10 +1,10 @@
 //! The steps of lives.
 
 use crate::markup::Html::{Count, Number, Tag};
-use crate::markup::{Html, NOTHING, put_pieces};
-use crate::shown::Linked;
-use rq_found::{Effect, Event, Put};
-use std::alloc::AllocError;
+use crate::markup::{put_html, put_optional};
+use crate::shown::{Linkable, Linked};
+use rq_found::{Effect, Event, Numbered, Put, unit_of};
+use rq_record::KeptRecord;
 
 /// As many steps of one life are kept.
 pub(crate) const STEPS: usize = 10_000;
@@ -94,104 +94,72 @@ pub(crate) fn step_of(event: &Event, at: At) -> Step {
     }
 }
 
-// Where a step happened, unless it is told there.
-fn place_of(shown: &Linked<'_>, at: At) -> (Html<'static>, Html<'static>) {
-    match at {
-        At::Here => (NOTHING, NOTHING),
-        At::Record(record) => (shown.record_link(record), Tag(" ")),
-        At::Restart => (Tag("at the restart "), NOTHING),
+/// What a unit does by a record that has no element, if it is one of a unit.
+pub(crate) fn step_of_unit(it: &Numbered) -> Option<Step> {
+    let at = At::Record(it.number);
+    match &it.record {
+        KeptRecord::Begin { .. } => Some(Step::of("begins", "begins", at)),
+        KeptRecord::Commit { .. } => Some(Step::of("free", "commits", at)),
+        KeptRecord::Abort { .. } => Some(Step::of("back", "aborts", at)),
+        _ => None,
     }
 }
 
-fn element_of(
-    shown: &Linked<'_>,
-    element: Option<u64>,
-) -> (Html<'static>, Html<'static>, Html<'static>) {
-    match element {
-        Some(element) => (Tag("element "), shown.element_link(element), Tag(" ")),
-        None => (NOTHING, NOTHING, NOTHING),
-    }
-}
-
-fn queue_of<'a>(shown: &Linked<'a>, queue: Option<u32>) -> (Html<'a>, Html<'a>) {
-    match queue {
-        Some(queue) => (Tag(" queue "), shown.queue_link(queue)),
-        None => (NOTHING, NOTHING),
-    }
-}
-
-fn attempts_of(attempts: Option<u64>) -> (Html<'static>, Html<'static>) {
-    match attempts {
-        Some(attempts) => (Tag(", attempts "), Count(attempts)),
-        None => (NOTHING, NOTHING),
-    }
-}
-
-fn tag_of(tag: Option<u64>) -> (Html<'static>, Html<'static>) {
-    match tag {
-        Some(tag) => (Tag(", tag "), Number(tag)),
-        None => (NOTHING, NOTHING),
-    }
-}
-
-fn unit_of(shown: &Linked<'_>, unit: Option<u64>) -> (Html<'static>, Html<'static>) {
-    match unit {
-        Some(unit) => (Tag(", unit "), shown.unit_link(unit)),
-        None => (NOTHING, NOTHING),
+/// What an operation does: it has one event.
+pub(crate) fn step_of_operation(it: &Numbered, events: &[Event]) -> Step {
+    let at = At::Record(it.number);
+    let step = match events.first() {
+        Some(event) => step_of(event, at),
+        None => Step::of("none", "does nothing", at),
+    };
+    Step {
+        unit: unit_of(&it.record).map(|unit| unit.0),
+        ..step
     }
 }
 
 /// Puts a step, with a link to its record if it is told elsewhere.
 pub(crate) fn put_step(text: &mut String, shown: &Linked<'_>, step: &Step) -> Put {
-    let (place, behind) = place_of(shown, step.at);
-    let (it, element, after) = element_of(shown, step.element);
-    let (in_queue, queue) = queue_of(shown, step.queue);
-    let (attempted, attempts) = attempts_of(step.attempts);
-    let (tagged, tag) = tag_of(step.tag);
-    let (of_unit, unit) = unit_of(shown, step.unit);
-    put_pieces(
+    put_html(text, "<li class=\"{}\">", &[Tag(step.class)])?;
+    match step.at {
+        At::Here => {}
+        At::Record(record) => put_html(text, "{} ", &[shown.link(Linkable::Record, record)])?,
+        At::Restart => text.push_str("at the restart ")?,
+    }
+    let element = step
+        .element
+        .map(|element| shown.link(Linkable::Element, element));
+    put_optional(text, "element {} ", element)?;
+    text.push_str(step.words)?;
+    put_optional(
         text,
-        &[
-            Tag("<li class=\""),
-            Tag(step.class),
-            Tag("\">"),
-            place,
-            behind,
-            it,
-            element,
-            after,
-            Tag(step.words),
-            in_queue,
-            queue,
-            attempted,
-            attempts,
-            tagged,
-            tag,
-            of_unit,
-            unit,
-            Tag("</li>"),
-        ],
-    )
+        " queue {}",
+        step.queue.map(|queue| shown.queue_link(queue)),
+    )?;
+    put_optional(
+        text,
+        ", attempts {}",
+        step.attempts.map(|attempts| Count(attempts)),
+    )?;
+    put_optional(text, ", tag {}", step.tag.map(|tag| Number(tag)))?;
+    let unit = step.unit.map(|unit| shown.link(Linkable::Unit, unit));
+    put_optional(text, ", unit {}", unit)?;
+    text.push_str("</li>")
 }
 
-// Puts as many steps as there is room for, and answers how many these are.
-fn put_first(text: &mut String, shown: &Linked<'_>, steps: &[Step]) -> Result<usize, AllocError> {
-    let mut count: usize = 0;
+/// Puts the steps of a life, one behind the other, as far as there is room for them, and whether some
+/// are left out.
+pub(crate) fn put_steps(text: &mut String, shown: &Linked<'_>, steps: &[Step]) -> Put {
+    let mut is_all = steps.len() < STEPS;
+    text.push_str("<ol>")?;
     for step in steps {
         if text.len() >= ROOM {
+            is_all = false;
             break;
         }
         put_step(text, shown, step)?;
-        count = count.saturating_add(1);
     }
-    Ok(count)
-}
-
-/// Puts the steps of a life, one behind the other, and whether some are left out.
-pub(crate) fn put_steps(text: &mut String, shown: &Linked<'_>, steps: &[Step]) -> Put {
-    text.push_str("<ol>")?;
-    let count = put_first(text, shown, steps)?;
-    if count < steps.len() || count >= STEPS {
+    if !is_all {
         text.push_str("<li class=\"none\">more is left out</li>")?;
     }
     text.push_str("</ol>")

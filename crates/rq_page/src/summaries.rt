@@ -2,8 +2,8 @@
 
 use crate::lives::Lives;
 use crate::markup::Html::{Count, Number, Tag, Text};
-use crate::markup::{Html, NOTHING, put_pieces};
-use crate::questions::Asked;
+use crate::markup::{Html, put_html, put_optional};
+use crate::pages::Asked;
 use rq_found::{End, Put, is_whole};
 use rq_report::why_word;
 use rq_restart::Restarted;
@@ -17,63 +17,36 @@ fn false_ones(checkpoints: &[(u64, bool)]) -> usize {
         .count()
 }
 
-// Puts a row: what it is about, and what is said of it.
-fn put_row(text: &mut String, head: &'static str, pieces: &[Html<'_>]) -> Put {
-    put_pieces(
-        text,
-        &[Tag("<tr><th scope=\"row\">"), Tag(head), Tag("</th><td>")],
-    )?;
-    put_pieces(text, pieces)?;
-    text.push_str("</td></tr>\n")
-}
+// What stands before the rows, and the rows themselves: what each is about, and what is said of it.
+const TOP: &str = "<section id=\"front\">
+<h2>The front</h2>
+<table class=\"front\">
+<caption>The log, and what a restart makes of it</caption>
+";
 
-// Puts with which checkpoint a log begins that was carried on.
-fn put_carried(text: &mut String, at: Option<u64>) -> Put {
-    match at {
-        None => Ok(()),
-        Some(at) => put_row(
-            text,
-            "carried",
-            &[
-                Tag("begins with the checkpoint at "),
-                Number(at),
-                Tag(", which is taken at its word"),
-            ],
-        ),
-    }
-}
+const CARRIED: &str = "<tr><th scope=\"row\">carried</th><td>begins with the checkpoint at {}, \
+    which is taken at its word</td></tr>\n";
 
-fn put_length(text: &mut String, end: &End) -> Put {
-    put_row(
-        text,
-        "front",
-        &[
-            Count(end.records),
-            Tag(" records, "),
-            Count(end.used),
-            Tag(" of "),
-            Count(end.total),
-            Tag(" bytes"),
-        ],
-    )
-}
+const FRONT: &str = "<tr><th scope=\"row\">front</th><td>{} records, {} of {} bytes</td></tr>\n";
+
+const BEHIND: &str =
+    "<tr><th scope=\"row\">behind it</th><td><span class=\"{}\">{}: {}</span></td></tr>\n";
+
+const DIGEST: &str = "<tr><th scope=\"row\">{}</th><td><code>{}</code></td></tr>\n";
+
+const UNITS: &str = "<tr><th scope=\"row\">units</th>\
+    <td>{} committed, {} aborted, {} cut off</td></tr>\n";
+
+const RESTART: &str = "<tr><th scope=\"row\">after the restart</th>\
+    <td>{} queues, {} elements, {} registrants</td></tr>\n";
+
+const WRONG: &str = ", <span class=\"bad\">of which {} do not spell the state before them</span>";
 
 // Puts what stands behind the front.
 fn put_reason(text: &mut String, end: &End) -> Put {
     let class = if is_whole(end.why) { "whole" } else { "bad" };
-    put_row(
-        text,
-        "behind it",
-        &[
-            Tag("<span class=\""),
-            Tag(class),
-            Tag("\">"),
-            Text(why_word(end.why)),
-            Tag(": "),
-            Text(end.reason.as_str()),
-            Tag("</span>"),
-        ],
-    )
+    let (why, reason) = (Text(why_word(end.why)), Text(end.reason.as_str()));
+    put_html(text, BEHIND, &[Tag(class), why, reason])
 }
 
 // Puts the digest of the front's last frame, by which a log is known; of a front without records it
@@ -86,11 +59,7 @@ fn put_digest(alloc: Global, text: &mut String, bytes: &[u8], end: &End) -> Put 
     } else {
         "end of its header"
     };
-    put_row(
-        text,
-        head,
-        &[Tag("<code>"), Text(digest.as_str()), Tag("</code>")],
-    )
+    put_html(text, DIGEST, &[Tag(head), Text(digest.as_str())])
 }
 
 // How many queues, elements and registrants there are after the restart.
@@ -103,47 +72,17 @@ fn members_of(r: &Restarted) -> [Html<'static>; 3] {
     ]
 }
 
-fn put_counts(text: &mut String, r: &Restarted) -> Put {
-    put_row(
-        text,
-        "units",
-        &[
-            Count(r.committed()),
-            Tag(" committed, "),
-            Count(r.aborted()),
-            Tag(" aborted, "),
-            Count(r.cut_off()),
-            Tag(" cut off"),
-        ],
-    )?;
-    let [queues, elements, registrants] = members_of(r);
-    put_row(
-        text,
-        "after the restart",
-        &[
-            queues,
-            Tag(" queues, "),
-            elements,
-            Tag(" elements, "),
-            registrants,
-            Tag(" registrants"),
-        ],
-    )
-}
-
 fn put_checkpoints(text: &mut String, checkpoints: &[(u64, bool)]) -> Put {
-    let wrong = false_ones(checkpoints);
-    let (before, count, behind) = if wrong == 0 {
-        (NOTHING, NOTHING, NOTHING)
-    } else {
-        (
-            Tag(", <span class=\"bad\">of which "),
-            Count(wrong as u64),
-            Tag(" do not spell the state before them</span>"),
-        )
-    };
-    let all = Count(checkpoints.len() as u64);
-    put_row(text, "checkpoints", &[all, before, count, behind])
+    let (all, wrong) = (checkpoints.len() as u64, false_ones(checkpoints) as u64);
+    put_html(
+        text,
+        "<tr><th scope=\"row\">checkpoints</th><td>{}",
+        &[Count(all)],
+    )?;
+    if wrong > 0 {
+        put_html(text, WRONG, &[Count(wrong)])?;
+    }
+    text.push_str("</td></tr>\n")
 }
 
 /// Puts the numbers of a report's first two lines, by what the log is known, how much there is after
@@ -156,90 +95,75 @@ pub(crate) fn put_summary(
     end: &End,
     checkpoints: &[(u64, bool)],
 ) -> Put {
-    text.push_str(
-        "<section id=\"front\">\n<h2>The front</h2>\n<table class=\"front\">\n<caption>The log, and what a restart \
-        makes of it</caption>\n",
-    )?;
-    put_carried(text, end.at)?;
-    put_length(text, end)?;
+    text.push_str(TOP)?;
+    put_optional(text, CARRIED, end.at.map(|at| Number(at)))?;
+    let front = [Count(end.records), Count(end.used), Count(end.total)];
+    put_html(text, FRONT, &front)?;
     put_reason(text, end)?;
     put_digest(alloc, text, bytes, end)?;
-    put_counts(text, r)?;
+    let units = [Count(r.committed()), Count(r.aborted()), Count(r.cut_off())];
+    put_html(text, UNITS, &units)?;
+    put_html(text, RESTART, &members_of(r))?;
     put_checkpoints(text, checkpoints)?;
     text.push_str("</table>\n</section>\n")
 }
 
-// Puts the numbers that are seen first.
-fn put_tiles(text: &mut String, r: &Restarted, end: &End) -> Put {
-    let [queues, elements, registrants] = members_of(r);
-    put_pieces(
-        text,
-        &[
-            Tag("<dl class=\"tiles\">\n<div><dt>bytes</dt><dd>"),
-            Count(end.total),
-            Tag("</dd></div>\n<div><dt>records</dt><dd>"),
-            Count(end.records),
-            Tag("</dd></div>\n<div><dt>queues</dt><dd>"),
-            queues,
-            Tag("</dd></div>\n<div><dt>elements</dt><dd>"),
-            elements,
-            Tag("</dd></div>\n<div><dt>registrants</dt><dd>"),
-            registrants,
-            Tag("</dd></div>\n</dl>\n</header>\n"),
-        ],
-    )
-}
+// What stands before the parts of a page: the log's name, whether it is whole, who made the page, and
+// the numbers that are seen first.
+const HEADER: &str = "<header>
+<h1><bdi>{}</bdi></h1>
+<p class=\"by\"><span class=\"badge {}</span> The log of a recoverable queue manager, shown by rqlook {}.</p>
+<dl class=\"tiles\">
+<div><dt>bytes</dt><dd>{}</dd></div>
+<div><dt>records</dt><dd>{}</dd></div>
+<div><dt>queues</dt><dd>{}</dd></div>
+<div><dt>elements</dt><dd>{}</dd></div>
+<div><dt>registrants</dt><dd>{}</dd></div>
+</dl>
+</header>
+";
 
 /// Puts the log's name, whether it is whole, who made the page, and the numbers that are seen first.
 pub(crate) fn put_header(text: &mut String, asked: &Asked<'_>, r: &Restarted, end: &End) -> Put {
     let badge = if is_whole(end.why) {
-        "\"><span class=\"badge good\">whole</span>"
+        "good\">whole"
     } else {
-        "\"><span class=\"badge wrong\">not whole</span>"
+        "wrong\">not whole"
     };
-    put_pieces(
+    let [queues, elements, registrants] = members_of(r);
+    put_html(
         text,
+        HEADER,
         &[
-            Tag("<header>\n<h1><bdi>"),
             Text(asked.name),
-            Tag("</bdi></h1>\n<p class=\"by"),
             Tag(badge),
-            Tag(" The log of a recoverable queue manager, shown by rqlook "),
             Text(asked.version),
-            Tag(".</p>\n"),
-        ],
-    )?;
-    put_tiles(text, r, end)
-}
-
-// A link to a part of the page, if that is there.
-fn part_of(is_there: bool, link: &'static str) -> Html<'static> {
-    if is_there { Tag(link) } else { NOTHING }
-}
-
-/// Puts links to the parts of the page.
-pub(crate) fn put_parts(text: &mut String, lives: &Lives) -> Put {
-    let elements = part_of(
-        !lives.elements.is_empty(),
-        " <a href=\"#elements\">Elements</a>",
-    );
-    let units = part_of(!lives.units.is_empty(), " <a href=\"#units\">Units</a>");
-    let registrants = part_of(
-        !lives.registrants.is_empty(),
-        " <a href=\"#registrants\">Registrants</a>",
-    );
-    let records = part_of(lives.count > 0, " <a href=\"#records\">Records</a>");
-    put_pieces(
-        text,
-        &[
-            Tag("<nav aria-label=\"Parts of the page\"><a href=\"#front\">Front</a> "),
-            Tag("<a href=\"#log\">Log</a> <a href=\"#open\">Open units</a> "),
-            Tag("<a href=\"#queues\">Queues</a>"),
+            Count(end.total),
+            Count(end.records),
+            queues,
             elements,
-            units,
             registrants,
-            records,
-            Tag("</nav>\n"),
         ],
     )
+}
+
+/// Puts links to the parts of the page, as far as they are there.
+pub(crate) fn put_parts(text: &mut String, lives: &Lives) -> Put {
+    text.push_str(
+        "<nav aria-label=\"Parts of the page\"><a href=\"#front\">Front</a> \
+        <a href=\"#log\">Log</a> <a href=\"#open\">Open units</a> <a href=\"#queues\">Queues</a>",
+    )?;
+    if !lives.elements.is_empty() {
+        text.push_str(" <a href=\"#elements\">Elements</a>")?;
+    }
+    if !lives.units.is_empty() {
+        text.push_str(" <a href=\"#units\">Units</a>")?;
+    }
+    if !lives.registrants.is_empty() {
+        text.push_str(" <a href=\"#registrants\">Registrants</a>")?;
+    }
+    if lives.count > 0 {
+        text.push_str(" <a href=\"#records\">Records</a>")?;
+    }
+    text.push_str("</nav>\n")
 }

@@ -5,9 +5,7 @@ ghost use Rattle.rq_record.specs.declared.fault.Fault.TheVariants.{Resources};
 ghost use Rattle.rq_found.specs.Refusals.{IsBroken};
 
 use crate::curves::{Curve, bin_of};
-use rq_found::{
-    Effect, End, Event, FollowedQueues, Numbered, Placed, Trouble, front_frames, kind_of,
-};
+use rq_found::{Effect, End, Event, FollowedQueues, Numbered, Trouble, front_frames, kind_of};
 use rq_record::{Fault, KeptRecord, QueueNo};
 use rq_state::{Mark, State};
 use std::alloc::{AllocError, Global};
@@ -19,13 +17,14 @@ pub(crate) const BINS: u64 = 200;
 /// In so many it is cut for the depth of a queue.
 pub(crate) const FEW_BINS: u64 = 64;
 
-/// How many records of each kind begin in a bin.
+/// How many records of each kind begin in a bin, or in all.
 pub(crate) type Bin = BTreeMap<&'static str, u64>;
 
 /// What one walk over the front finds.
 #[derive(Drop)]
 pub(crate) struct Survey {
-    /// The records by kind, of each bin.
+    /// The records by kind, of all bins and of each.
+    pub(crate) kinds: Bin,
     pub(crate) bins: Vec<Bin>,
     /// The free elements of each queue.
     pub(crate) depths: Vec<Curve>,
@@ -79,13 +78,6 @@ fn free_count(state: &State, queue: QueueNo) -> u64 {
     count
 }
 
-// The same, from a bin on.
-fn depth_at(alloc: Global, state: &State, queue: QueueNo, bin: u64) -> Result<Curve, AllocError> {
-    let mut depth = Curve::new(alloc);
-    depth.set(bin, free_count(state, queue))?;
-    Ok(depth)
-}
-
 impl Survey {
     // Before the first record.
     fn new(alloc: Global) -> Result<Survey, AllocError> {
@@ -94,6 +86,7 @@ impl Survey {
             bins.push(BTreeMap::new(alloc))?;
         }
         Ok(Survey {
+            kinds: BTreeMap::new(alloc),
             bins,
             depths: Vec::new(alloc),
             open: Curve::new(alloc),
@@ -118,59 +111,15 @@ impl Survey {
         Ok(())
     }
 
-    // The kind of a record.
-    fn take_kind(&mut self, kind: &'static str, bin: u64) -> Result<(), AllocError> {
-        match self.bins.get_mut(bin as usize) {
-            Some(kinds) => count(kinds, kind),
-            None => Ok(()),
-        }
-    }
-
-    // A queue that has one free element more, or one fewer.
-    fn take_change(&mut self, queue: u32, grows: bool, bin: u64) -> Result<(), AllocError> {
-        match self.depths.get_mut(queue as usize) {
-            Some(depth) => depth.change(bin, grows),
-            None => Ok(()),
-        }
-    }
-
-    // What happens to an element at a record.
-    fn take_event(&mut self, it: &Numbered, event: &Event, bin: u64) -> Result<(), AllocError> {
-        match change_of(it, event) {
-            Some((queue, grows)) => self.take_change(queue, grows, bin),
-            None => Ok(()),
-        }
-    }
-
-    // What happens to elements at a record.
+    // What happens to elements at a record: which queues have one free element more, or one fewer.
     fn take_events(&mut self, it: &Numbered, events: &[Event], bin: u64) -> Result<(), AllocError> {
         for event in events {
-            self.take_event(it, event, bin)?;
-        }
-        Ok(())
-    }
-
-    // The next record of the front, and what happens at it.
-    fn follow(
-        &mut self,
-        alloc: Global,
-        placed: Placed<'_>,
-        machine: &mut FollowedQueues,
-        total: u64,
-    ) -> Result<(), Fault>
-        ensures { IfErr result (λ e. e ≡ Resources) }
-    {
-        let it = machine.follow(placed)?;
-        self.take(alloc, &it, machine.events(), total)
-    }
-
-    // All records of the front.
-    fn walk(&mut self, alloc: Global, bytes: &[u8], first: &State, end: &End) -> Result<(), Fault>
-        ensures { IfErr result (λ e. e ≡ Resources) }
-    {
-        let mut machine = FollowedQueues::of(alloc, first)?;
-        for placed in front_frames(bytes, first, end.at, end.used) {
-            self.follow(alloc, placed, &mut machine, end.total)?;
+            let Some((queue, grows)) = change_of(it, event) else {
+                continue;
+            };
+            if let Some(depth) = self.depths.get_mut(queue as usize) {
+                depth.change(bin, grows)?;
+            }
         }
         Ok(())
     }
@@ -182,13 +131,25 @@ impl Survey {
         it: &Numbered,
         events: &[Event],
         total: u64,
-    ) -> Result<(), Fault>
+    ) -> Result<(), AllocError> {
+        let (kind, bin) = (kind_of(&it.record), bin_of(it.offset, total, BINS));
+        count(&mut self.kinds, kind)?;
+        if let Some(kinds) = self.bins.get_mut(bin as usize) {
+            count(kinds, kind)?;
+        }
+        self.take_record(alloc, it, bin)?;
+        self.take_events(it, events, bin_of(it.offset, total, FEW_BINS))
+    }
+
+    // All records of the front.
+    fn walk(&mut self, alloc: Global, bytes: &[u8], first: &State, end: &End) -> Result<(), Fault>
         ensures { IfErr result (λ e. e ≡ Resources) }
     {
-        let bin = bin_of(it.offset, total, BINS);
-        self.take_kind(kind_of(&it.record), bin)?;
-        self.take_record(alloc, it, bin)?;
-        self.take_events(it, events, bin_of(it.offset, total, FEW_BINS))?;
+        let mut machine = FollowedQueues::of(alloc, first)?;
+        for placed in front_frames(bytes, first, end.at, end.used) {
+            let it = machine.follow(placed)?;
+            self.take(alloc, &it, machine.events(), end.total)?;
+        }
         Ok(())
     }
 
@@ -207,26 +168,12 @@ impl Survey {
         let bin = bin_of(end.at.unwrap_or(0), end.total, FEW_BINS);
         let mut number: u32 = 0;
         for _ in first.definitions() {
-            self.depths
-                .push(depth_at(alloc, first, QueueNo(number), bin)?)?;
+            let mut depth = Curve::new(alloc);
+            depth.set(bin, free_count(first, QueueNo(number)))?;
+            self.depths.push(depth)?;
             number = number.saturating_add(1);
         }
         Ok(())
-    }
-
-    // All records of the front, behind the state that the log begins with.
-    fn take_front(
-        &mut self,
-        alloc: Global,
-        bytes: &[u8],
-        first: &State,
-        end: &End,
-    ) -> Result<(), Fault>
-        ensures { IfErr result (λ e. e ≡ Resources) }
-    {
-        self.begin_units(first, end)?;
-        self.begin_queues(alloc, first, end)?;
-        self.walk(alloc, bytes, first, end)
     }
 
     // Behind the front the depths are those after the restart's aborts.
@@ -253,7 +200,9 @@ pub(crate) fn surveyed(
     ensures { IfErr result IsBroken }
 {
     let mut seen = Survey::new(alloc)?;
-    seen.take_front(alloc, bytes, first, end)?;
+    seen.begin_units(first, end)?;
+    seen.begin_queues(alloc, first, end)?;
+    seen.walk(alloc, bytes, first, end)?;
     seen.close(state, end)?;
     Ok(seen)
 }

@@ -3,8 +3,8 @@
 use crate::curves::{Canvas, Curve, along, put_axis};
 use crate::holdings::{put_fold, put_more};
 use crate::markup::Html::{Count, Number, Tag, Text};
-use crate::markup::put_pieces;
-use crate::questions::Order;
+use crate::markup::put_html;
+use crate::pages::Order;
 use crate::shown::{Linked, QUEUES};
 use crate::surveys::{FEW_BINS, Survey};
 use rq_found::{End, Put, registrants_shown};
@@ -19,6 +19,10 @@ const OPEN: usize = 100;
 
 // The width and the height of a queue's curve.
 const SIZE: (u64, u64) = (128, 24);
+
+// The row of a queue, up to its error queue.
+const ROW: &str = "<tr class=\"queue\" id=\"q{}\"><th scope=\"row\">{} <strong>{}</strong>\
+    <small>limit {}, error queue ";
 
 // A queue, by what queues are put in order.
 #[derive(Clone, Copy)]
@@ -55,29 +59,26 @@ fn lines_of(
     Ok(lines)
 }
 
-// Puts the queues in order.
-fn arrange(lines: &mut Vec<QueueRow>, order: Order) {
+// Puts the queues in order, and answers what is said of it.
+fn arrange(lines: &mut Vec<QueueRow>, order: Order) -> &'static str {
     match order {
-        Order::Depth => lines.sort_unstable_by_key(|line| (Reverse(line.depth), line.number)),
-        Order::Number => {}
-        Order::Name => lines.sort_unstable_by_key(|line| (line.name, line.number)),
+        Order::Depth => {
+            lines.sort_unstable_by_key(|line| (Reverse(line.depth), line.number));
+            "By the number of their elements, the most first."
+        }
+        Order::Number => "By number.",
+        Order::Name => {
+            lines.sort_unstable_by_key(|line| (line.name, line.number));
+            "By name."
+        }
     }
 }
 
-fn put_depth(text: &mut String, frame: &Canvas, curve: &Curve) -> Put {
-    put_pieces(
-        text,
-        &[
-            Tag("<td>"),
-            Count(curve.most()),
-            Tag("</td><td><div class=\"plot\">"),
-        ],
-    )?;
-    curve.put(text, frame, "Free elements along the log")?;
-    text.push_str("</div></td>")
-}
-
+// Puts the greatest depth of a queue, and how its depth goes along the log.
 fn put_curve(text: &mut String, hall: &Hall<'_>, number: u32) -> Put {
+    let Some(curve) = hall.seen.depths.get(number as usize) else {
+        return text.push_str("<td></td><td></td>");
+    };
     let (width, height) = SIZE;
     let frame = Canvas {
         width,
@@ -85,57 +86,41 @@ fn put_curve(text: &mut String, hall: &Hall<'_>, number: u32) -> Put {
         end: along(hall.end.used, hall.end.total, width),
         bins: FEW_BINS,
     };
-    match hall.seen.depths.get(number as usize) {
-        Some(curve) => put_depth(text, &frame, curve),
-        None => text.push_str("<td></td><td></td>"),
-    }
+    put_html(text, "<td>{}</td><td>", &[Count(curve.most())])?;
+    curve.put(text, &frame, "Free elements along the log")?;
+    text.push_str("</td>")
 }
 
-fn put_error(text: &mut String, shown: &Linked<'_>, error: QueueNo) -> Put {
-    put_pieces(text, &[shown.error_link(error), Tag("</small></th>")])
-}
-
-// Puts a queue by its number and its name, with its limit and its error queue.
-fn put_name(text: &mut String, hall: &Hall<'_>, number: u32, definition: &Definition) -> Put {
-    let digits = Number(u64::from(number));
-    put_pieces(
-        text,
-        &[
-            Tag("<tr class=\"queue\" id=\"q"),
-            digits,
-            Tag("\"><th scope=\"row\">"),
-            digits,
-            Tag(" <strong>"),
-            Text(definition.name.text()),
-            Tag("</strong><small>limit "),
-            Number(u64::from(definition.limit)),
-            Tag(", error queue "),
-        ],
-    )?;
-    put_error(text, &hall.shown, definition.error)
-}
-
+// Puts the row of a queue: its number, its name, its limit, its error queue, and its depth.
 fn put_row(text: &mut String, hall: &Hall<'_>, line: &QueueRow, definition: &Definition) -> Put {
-    put_name(text, hall, line.number, definition)?;
-    put_pieces(text, &[Tag("<td>"), Count(line.depth as u64), Tag("</td>")])?;
+    let (number, name) = (Number(u64::from(line.number)), Text(definition.name.text()));
+    let limit = Number(u64::from(definition.limit));
+    put_html(text, ROW, &[number, number, name, limit])?;
+    let (error, depth) = (
+        hall.shown.error_link(definition.error),
+        Count(line.depth as u64),
+    );
+    put_html(text, "{}</small></th><td>{}</td>", &[error, depth])?;
     put_curve(text, hall, line.number)?;
     text.push_str("</tr>\n")
 }
 
-// Puts what folds out below a queue.
-fn put_holdings(alloc: Global, text: &mut String, hall: &Hall<'_>, number: u32) -> Put {
-    let queue = QueueNo(number);
-    let elements = free_elements(alloc, hall.state, queue)?;
-    let registrants = registrants_shown(alloc, hall.state, queue)?;
-    put_fold(alloc, text, &hall.shown, number, &elements, &registrants)
-}
-
+// Puts a queue, and what folds out below it.
 fn put_queue(alloc: Global, text: &mut String, hall: &Hall<'_>, line: &QueueRow) -> Put {
     let Some(definition) = hall.shown.definitions.get(line.number as usize) else {
         return Ok(());
     };
     put_row(text, hall, line, definition)?;
-    put_holdings(alloc, text, hall, line.number)
+    let elements = free_elements(alloc, hall.state, QueueNo(line.number))?;
+    let registrants = registrants_shown(alloc, hall.state, QueueNo(line.number))?;
+    put_fold(
+        alloc,
+        text,
+        &hall.shown,
+        line.number,
+        &elements,
+        &registrants,
+    )
 }
 
 // Puts these queues as a table.
@@ -151,45 +136,6 @@ fn put_table(alloc: Global, text: &mut String, hall: &Hall<'_>, lines: &[QueueRo
         put_queue(alloc, text, hall, line)?;
     }
     text.push_str("</table>\n")
-}
-
-// Puts the queues behind the first as a table that is folded, as many as are shown.
-fn put_more_queues(alloc: Global, text: &mut String, hall: &Hall<'_>, lines: &[QueueRow]) -> Put {
-    if lines.is_empty() {
-        return Ok(());
-    }
-    let many = Count(lines.len() as u64);
-    put_pieces(
-        text,
-        &[
-            Tag("<details class=\"more\"><summary>"),
-            many,
-            Tag(" more queues</summary>\n"),
-        ],
-    )?;
-    put_table(alloc, text, hall, lines)?;
-    text.push_str("</details>\n")
-}
-
-// Puts as many queues as are shown, of which the first stand open, and the end of their section.
-fn put_tables(alloc: Global, text: &mut String, hall: &Hall<'_>, lines: &[QueueRow]) -> Put {
-    let count = lines.len().min(QUEUES);
-    let (open, folded) = lines[..count].split_at(count.min(OPEN));
-    put_table(alloc, text, hall, open)?;
-    put_more_queues(alloc, text, hall, folded)?;
-    put_more(text, lines.len(), count)?;
-    text.push_str("</section>\n")
-}
-
-// Puts the head of the section, and in which order its queues stand.
-fn put_order(text: &mut String, order: Order) -> Put {
-    let said = match order {
-        Order::Depth => "<p>By the number of their elements, the most first.</p>\n",
-        Order::Number => "<p>By number.</p>\n",
-        Order::Name => "<p>By name.</p>\n",
-    };
-    let head = Tag("<section id=\"queues\">\n<h2>Queues</h2>\n");
-    put_pieces(text, &[head, Tag(said)])
 }
 
 /// Puts the queues in the order that is asked for: the first 100 open, as many as 1,000 folded.
@@ -209,7 +155,25 @@ pub(crate) fn put_queue_table(
         end,
     };
     let mut lines = lines_of(alloc, shown.definitions, state)?;
-    arrange(&mut lines, order);
-    put_order(text, order)?;
-    put_tables(alloc, text, &hall, &lines)
+    let said = arrange(&mut lines, order);
+    put_html(
+        text,
+        "<section id=\"queues\">\n<h2>Queues</h2>\n<p>{}</p>\n",
+        &[Tag(said)],
+    )?;
+    let count = lines.len().min(QUEUES);
+    let (open, folded) = lines[..count].split_at(count.min(OPEN));
+    put_table(alloc, text, &hall, open)?;
+    if !folded.is_empty() {
+        let many = Count(folded.len() as u64);
+        put_html(
+            text,
+            "<details class=\"more\"><summary>{} more queues</summary>\n",
+            &[many],
+        )?;
+        put_table(alloc, text, &hall, folded)?;
+        text.push_str("</details>\n")?;
+    }
+    put_more(text, lines.len(), count)?;
+    text.push_str("</section>\n")
 }

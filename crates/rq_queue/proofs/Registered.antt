@@ -1,22 +1,20 @@
 -- What is done to the registrants of a queue.
-use Rattle.std.proofs.Common.{◌≡◌, ◌+◌, ◌<◌, ◌≤◌, ℕ, Bool, true, false, cond, not, ◌&&◌, ◌||◌, ◌==◌, List, [], ◌∷◌}
-use Rattle.std.proofs.Common.{◌++◌, Option, Some, None, is_some, map, length, drop, refl, sym, ap, subst, ◌∙◌, arith}
-use Rattle.std.proofs.Common.{if◌then◌else◌, append_assoc}
+use Rattle.std.proofs.Common.{inl, inr, ◌≡◌, ◌+◌, ◌<◌, ◌≤◌, ℕ, zero, suc, Bool, true, false, cond, not, ◌&&◌, ◌||◌}
+use Rattle.std.proofs.Common.{◌==◌, List, [], ◌∷◌, Option, Some, None, is_some, map, length, refl, sym, ap, ◌∙◌, arith}
+use Rattle.std.proofs.Common.{if◌then◌else◌}
 use Rattle.std.specs.Prelude.{nat_lt, slice_index_or}
 use Rattle.std.specs.List.{list_any, AllByRecursion}
 use Rattle.std.specs.Map.{lookup, remove_entry, set_value}
 use Rattle.std.specs.BTreeMap.{insert_entry, is_at}
-use Rattle.std.specs.Ordering.{is_eq, nat_cmp, ordering_reverse}
+use Rattle.std.specs.Ordering.{is_eq, match_ordering, nat_cmp, ordering_reverse}
 use Rattle.std.specs.Cmp.{tied_then}
 use Rattle.std.specs.Cmp.Lexicographic.{slice_cmp}
 use Rattle.std.specs.Str.{bytes_eq}
 use Rattle.std.specs.declared.cmp.Ordering.{Ordering}
 use Rattle.std.specs.declared.cmp.Ordering.TheVariants.{Less, Equal, Greater}
-use Rattle.std.proofs.Math.ListN.{drop_of_length-le}
-use Rattle.std.proofs.lemmas.Bool.{cases_Bool, false≢true, eq-eqb}
+use Rattle.std.proofs.lemmas.Bool.{cases_Bool, cases_eq, false≢true, eq-eqb}
 use Rattle.std.proofs.lemmas.Bool.Decides.{nat_tests}
 use Rattle.std.proofs.lemmas.Cmp.{nat_list_cmp_total}
-use Rattle.std.proofs.lemmas.List.{append-nil, drop_more, map-append}
 use Rattle.std.proofs.lemmas.Map.Text.{is_eq-slice_cmp}
 use Rattle.rq_model.specs.States.{Last, Note, Registrant, put, name_before, registrant_before}
 use Rattle.rq_model.specs.States.{is_registrant, is_note_of}
@@ -24,12 +22,11 @@ use Rattle.rq_model.specs.Machine.{later, registered, deregistered, told}
 use Rattle.rq_model.specs.Queues.{registrants_at}
 use Rattle.rq_model.specs.WellFormed.{Ordered}
 use Rattle.rq_model.proofs.Decided.{is_less}
-use Rattle.rq_model.proofs.Lists.{by_cases, each_weaker, each_passes, filter_map_as}
+use Rattle.rq_model.proofs.Lists.{by_cases, each_passes, filter_map_as}
 use Rattle.rq_model.proofs.Merged.{ordered_filter}
 use Rattle.rq_state.specs.Orders.{key_cmp}
-use Rattle.rq_queue.specs.Roll.{RollEntry, registrant_of, IsRoll, heard}
-use Rattle.rq_queue.proofs.ByNumber.{all_before, each_back}
-use Rattle.rq_queue.proofs.Roll.{none_at, any_at, removed, updated, inserted, appended}
+use Rattle.rq_queue.specs.Roll.{RollEntry, registrant_of, entry_of, picked, is_early, IsRoll, heard}
+use Rattle.rq_queue.proofs.Roll.{turned, none_at, any_at, removed, updated, inserted}
 
 -- The tests.
 
@@ -177,80 +174,211 @@ pub told_none : (unit : ℕ) (rs : List Registrant) → map (told unit []) rs �
 told_none unit [] = refl
 told_none unit (r ∷ rs) = λ i. r ∷ told_none unit rs i
 
--- One after all others.
-
-pub added_last : (name : List ℕ) (last : Option Last) (es : List RollEntry)
-    → AllByRecursion (λ (e : RollEntry). name_before e.0 name ≡ true) es
-    → insert_entry (slice_cmp nat_cmp) es name last ≡ es ++ (name, last) ∷ []
-added_last name last es h = appended (slice_cmp nat_cmp) nat_list_cmp_total name last es
-    (each_weaker (λ (e : RollEntry). name_before e.0 name ≡ true)
-    (λ (e : RollEntry). slice_cmp nat_cmp e.0 name ≡ Less) (λ e l. is_less (slice_cmp nat_cmp e.0 name) l) es h)
-
--- The registrants of a queue, index after index.
+-- The registrants of a queue, put in at two passes.
 
 same_of : (a b : ℕ) → (a == b) ≡ true → a ≡ b
 same_of a b h = grind (arith, nat_tests)
 
--- each is of the queue
-own_queue : (queue : ℕ) (rs xs : List Registrant) (r : Registrant) (ys : List Registrant)
-    → xs ++ r ∷ ys ≡ registrants_at queue rs → r.queue ≡ queue
-own_queue queue rs xs r ys h = same_of r.queue queue
-    (each_back (λ (x : Registrant). (x.queue == queue) ≡ true) xs (r ∷ ys)
-    (subst (AllByRecursion (λ (x : Registrant). (x.queue == queue) ≡ true)) (sym h)
-    (each_passes (λ (x : Registrant). (x.queue == queue) ≡ true) (λ x. x.queue == queue) (λ x e. e) rs))).0
+own_queue : (queue : ℕ) (rs : List Registrant)
+    → AllByRecursion (λ (r : Registrant). r.queue ≡ queue) (registrants_at queue rs)
+own_queue queue rs = each_passes (λ (r : Registrant). r.queue ≡ queue) (λ r. r.queue == queue)
+    (λ r e. same_of r.queue queue e) rs
 
-names_before : (queue : ℕ) (es : List RollEntry) (r : Registrant) → r.queue ≡ queue
-    → AllByRecursion (λ x. registrant_before x r ≡ true) (map (registrant_of queue) es)
-    → AllByRecursion (λ (e : RollEntry). name_before e.0 r.name ≡ true) es
-names_before queue [] r q h = tt
-names_before queue (x ∷ es) r q h = (
-  sym (by_name queue x.0 r.name)
-      ∙ (ap (λ k. nat_lt queue k || ((queue == k) && name_before x.0 r.name)) (sym q) ∙ h.0),
-  names_before queue es r q h.1,
-)
+named_before : (queue : ℕ) (a b : Registrant) → a.queue ≡ queue → b.queue ≡ queue → registrant_before a b ≡ true
+    → slice_cmp nat_cmp a.name b.name ≡ Less
+named_before queue a b p q h = is_less (slice_cmp nat_cmp a.name b.name)
+    (sym (by_name queue a.name b.name)
+    ∙ ((λ i. nat_lt (sym p i) (sym q i) || ((sym p i == sym q i) && name_before a.name b.name)) ∙ h))
 
-module _ (queue : ℕ) (rs : List Registrant) (at : ℕ → Registrant) (indices : List ℕ)
-    (are : map at indices ≡ registrants_at queue rs) where
-  -- those so far, and those at the indices that are left, are all
-  abbrev pub Rolling : List RollEntry → ℕ → Type 0
-  Rolling es i = map (registrant_of queue) es ++ map at (drop i indices) ≡ map at indices
+rise : (queue : ℕ) (rs : List Registrant) → AllByRecursion (λ (r : Registrant). r.queue ≡ queue) rs
+    → Ordered (λ a b. registrant_before a b ≡ true) rs → IsRoll (map entry_of rs)
+rise queue [] own up = tt
+rise queue (r ∷ rs) own up = (each r own.0 rs own.1 up.0, rise queue rs own.1 up.1)
+  where
+    each : (r : Registrant) → r.queue ≡ queue → (rs : List Registrant)
+        → AllByRecursion (λ (x : Registrant). x.queue ≡ queue) rs
+        → AllByRecursion (λ x. registrant_before r x ≡ true) rs
+        → AllByRecursion (λ (e : RollEntry). slice_cmp nat_cmp r.name e.0 ≡ Less) (map entry_of rs)
+    each r p [] own up = tt
+    each r p (x ∷ rs) own up = (named_before queue r x p own.0 up.0, each r p rs own.1 up.1)
 
-  next_one : (es : List RollEntry) (i d : ℕ) (r : Registrant) → i < length indices
-      → r ≡ at (slice_index_or indices i d) → Rolling es i
-      → map (registrant_of queue) es ++ r ∷ map at (drop (i + 1) indices) ≡ map at indices
-  next_one es i d r l e h =
-      ap (λ (x : Registrant). map (registrant_of queue) es ++ x ∷ map at (drop (i + 1) indices)) e
-      ∙ (ap (λ (js : List ℕ). map (registrant_of queue) es ++ map at js) (sym (drop_more indices i d l)) ∙ h)
+pub own_rise : (queue : ℕ) (rs : List Registrant) → Ordered (λ a b. registrant_before a b ≡ true) rs
+    → IsRoll (map entry_of (registrants_at queue rs))
+own_rise queue rs up = rise queue (registrants_at queue rs) (own_queue queue rs)
+    (ordered_filter (λ a b. registrant_before a b ≡ true) (λ r. r.queue == queue) rs up)
 
-  is_own : (es : List RollEntry) (i d : ℕ) (r : Registrant) → i < length indices
-      → r ≡ at (slice_index_or indices i d) → Rolling es i → r.queue ≡ queue
-  is_own es i d r l e h = own_queue queue rs (map (registrant_of queue) es) r (map at (drop (i + 1) indices))
-      (next_one es i d r l e h ∙ are)
+pub own_again : (queue : ℕ) (rs : List Registrant)
+    → map (registrant_of queue) (map entry_of (registrants_at queue rs)) ≡ registrants_at queue rs
+own_again queue rs = again (registrants_at queue rs) (own_queue queue rs)
+  where
+    again : (rs : List Registrant) → AllByRecursion (λ (r : Registrant). r.queue ≡ queue) rs
+        → map (registrant_of queue) (map entry_of rs) ≡ rs
+    again [] own = refl
+    again (r ∷ rs) own = λ i. (record { queue = sym own.0 i; name = r.name; last = r.last }) ∷ again rs own.1 i
 
-  -- the next name comes after all so far
-  pub comes_last : (es : List RollEntry) (i d : ℕ) (r : Registrant) → i < length indices
-      → r ≡ at (slice_index_or indices i d) → Rolling es i → Ordered (λ a b. registrant_before a b ≡ true) rs
-      → AllByRecursion (λ (e : RollEntry). name_before e.0 r.name ≡ true) es
-  comes_last es i d r l e h up = names_before queue es r (is_own es i d r l e h)
-      (all_before (λ a b. registrant_before a b ≡ true) (map (registrant_of queue) es) r (map at (drop (i + 1) indices))
-      (subst (Ordered (λ a b. registrant_before a b ≡ true)) (sym (next_one es i d r l e h ∙ are))
-      (ordered_filter (λ a b. registrant_before a b ≡ true) (λ x. x.queue == queue) rs up)))
+pub picked_same : {X : Type 0} (p q : ℕ → Bool) (xs : List X) → ((n : ℕ) → n < length xs → p n ≡ q n)
+    → picked p xs ≡ picked q xs
+picked_same p q [] h = refl
+picked_same p q (x ∷ xs) h =
+    let rest = picked_same (λ n. p (suc n)) (λ n. q (suc n)) xs (λ n l. h (suc n) (omega arith)) in
+    λ i. cond (h 0 (omega arith) i) (x ∷ rest i) (rest i)
 
-  pub rolls_on : (old new : List RollEntry) (i d : ℕ) (r : Registrant) → i < length indices
-      → r ≡ at (slice_index_or indices i d) → Rolling old i → new ≡ old ++ (r.name, r.last) ∷ []
-      → Rolling new (i + 1)
-  rolls_on old new i d r l e h grown =
-      let own = is_own old i d r l e h in
-      let rest = map at (drop (i + 1) indices) in
-      ap (λ (es : List RollEntry). map (registrant_of queue) es ++ rest) grown
-      ∙ (ap (λ (xs : List Registrant). xs ++ rest) (map-append (registrant_of queue) old ((r.name, r.last) ∷ []))
-      ∙ (append_assoc (map (registrant_of queue) old) (registrant_of queue (r.name, r.last) ∷ []) rest
-      ∙ (ap (λ q. map (registrant_of queue) old ++ (record { queue = q; name = r.name; last = r.last }) ∷ rest)
-      (sym own)
-      ∙ next_one old i d r l e h)))
+-- before the first pass, between the passes, and behind the second
+pub first_begins : {X : Type 0} (xs : List X) → [] ≡ picked (λ n. is_early n && not true) xs
+first_begins xs = sym (none xs) ∙ picked_same (λ _. false) (λ n. is_early n && not true) xs (λ n _. at (is_early n))
+  where
+    none : {X : Type 0} (xs : List X) → picked (λ _. false) xs ≡ []
+    none [] = refl
+    none (x ∷ xs) = none xs
 
-  pub rolled : (es : List RollEntry) (i : ℕ) → length indices ≤ i → Rolling es i
-      → map (registrant_of queue) es ≡ registrants_at queue rs
-  rolled es i l h = sym (append-nil (map (registrant_of queue) es))
-      ∙ (ap (λ (js : List ℕ). map (registrant_of queue) es ++ map at js) (sym (drop_of_length-le indices l))
-      ∙ (h ∙ are))
+    at : (b : Bool) → false ≡ (b && not true)
+    at true = refl
+    at false = refl
+
+pub second_begins : {X : Type 0} (xs : List X)
+    → picked (λ n. is_early n || not true) xs ≡ picked (λ n. is_early n && not false) xs
+second_begins xs = picked_same (λ n. is_early n || not true) (λ n. is_early n && not false) xs
+    (λ n _. at (is_early n))
+  where
+    at : (b : Bool) → (b || not true) ≡ (b && not false)
+    at true = refl
+    at false = refl
+
+pub second_ends : {X : Type 0} (xs : List X) → picked (λ n. is_early n || not false) xs ≡ xs
+second_ends xs = picked_same (λ n. is_early n || not false) (λ _. true) xs (λ n _. at (is_early n)) ∙ all xs
+  where
+    all : {X : Type 0} (xs : List X) → picked (λ _. true) xs ≡ xs
+    all [] = refl
+    all (x ∷ xs) = ap (λ ys. x ∷ ys) (all xs)
+
+    at : (b : Bool) → (b || not false) ≡ true
+    at true = refl
+    at false = refl
+
+picked_each : {X : Type 0} (P : X → Type 0) (p : ℕ → Bool) (xs : List X) → AllByRecursion P xs
+    → AllByRecursion P (picked p xs)
+picked_each P p [] h = tt
+picked_each P p (x ∷ xs) h =
+    let rest = picked_each P (λ n. p (suc n)) xs h.1 in
+    by_cases (p 0) (λ b. AllByRecursion P (cond b (x ∷ picked (λ n. p (suc n)) xs) (picked (λ n. p (suc n)) xs)))
+    (λ _. (h.0, rest)) (λ _. rest)
+
+abbrev Adds : RollEntry → List RollEntry → List RollEntry → Type 0
+Adds e es fs = insert_entry (slice_cmp nat_cmp) es e.0 e.1 ≡ fs
+
+-- one before all others
+put_first : (e : RollEntry) (es : List RollEntry)
+    → AllByRecursion (λ (x : RollEntry). slice_cmp nat_cmp e.0 x.0 ≡ Less) es → Adds e es (e ∷ es)
+put_first e [] h = refl
+put_first e (x ∷ es) h = ap (λ o. match_ordering o (e ∷ x ∷ es) ((x.0, e.1) ∷ es)
+    (x ∷ insert_entry (slice_cmp nat_cmp) es e.0 e.1)) h.0
+
+-- one behind the first
+put_behind : (e x : RollEntry) (es : List RollEntry) → slice_cmp nat_cmp x.0 e.0 ≡ Less
+    → insert_entry (slice_cmp nat_cmp) (x ∷ es) e.0 e.1 ≡ x ∷ insert_entry (slice_cmp nat_cmp) es e.0 e.1
+put_behind e x es h = ap (λ o. match_ordering o (e ∷ x ∷ es) ((x.0, e.1) ∷ es)
+    (x ∷ insert_entry (slice_cmp nat_cmp) es e.0 e.1)) (turned (slice_cmp nat_cmp) nat_list_cmp_total x.0 e.0 Less h)
+
+each_at : {X : Type 0} (P : X → Type 0) (xs : List X) (i : ℕ) (d : X) → AllByRecursion P xs → i < length xs
+    → P (slice_index_or xs i d)
+each_at P [] i d h l = absurd (omega arith)
+each_at P (x ∷ xs) zero d h l = h.0
+each_at P (x ∷ xs) (suc i) d h l = each_at P xs i d h.1 (omega arith)
+
+-- the one at a place, put into those at other places
+pub put_at : (p q : ℕ → Bool) (es : List RollEntry) (i : ℕ) (d : RollEntry) → IsRoll es → i < length es
+    → p i ≡ false → q i ≡ true → ((n : ℕ) → (n ≡ i → ⊥) → p n ≡ q n)
+    → Adds (slice_index_or es i d) (picked p es) (picked q es)
+put_at p q [] i d up l old new others = absurd (omega arith)
+put_at p q (x ∷ es) zero d up l old new others =
+    let before = picked (λ n. p (suc n)) es in
+    let after = picked (λ n. q (suc n)) es in
+    let same = picked_same (λ n. p (suc n)) (λ n. q (suc n)) es (λ n _. others (suc n) (λ e. omega arith)) in
+    ap (λ b. insert_entry (slice_cmp nat_cmp) (cond b (x ∷ before) before) x.0 x.1) old
+    ∙ (put_first x before (picked_each (λ (e : RollEntry). slice_cmp nat_cmp x.0 e.0 ≡ Less) (λ n. p (suc n)) es up.0)
+    ∙ (ap (λ (ys : List RollEntry). x ∷ ys) same ∙ ap (λ b. cond b (x ∷ after) after) (sym new)))
+put_at p q (x ∷ es) (suc i) d up l old new others =
+    let e = slice_index_or es i d in
+    let before = picked (λ n. p (suc n)) es in
+    let after = picked (λ n. q (suc n)) es in
+    let rest = put_at (λ n. p (suc n)) (λ n. q (suc n)) es i d up.1 (omega arith) old new
+    (λ n apart. others (suc n) (λ e. apart (omega arith))) in
+    by_cases (p 0) (λ b. Adds e (cond b (x ∷ before) before) (cond b (x ∷ after) after))
+    (λ _. put_behind e x before (each_at (λ (y : RollEntry). slice_cmp nat_cmp x.0 y.0 ≡ Less) es i d up.0 (omega arith))
+    ∙ ap (λ (ys : List RollEntry). x ∷ ys) rest) (λ _. rest)
+    ∙ ap (λ b. cond b (x ∷ after) after) (others 0 (λ e. omega arith))
+
+-- The places that are taken in a pass, up to a place.
+
+abbrev pub is_taken : Bool → ℕ → ℕ → Bool
+is_taken early at place = cond (is_early place) (not early || nat_lt place at) (not early && nat_lt place at)
+
+none_below : (n : ℕ) → nat_lt n 0 ≡ false
+none_below n = grind (arith, nat_tests)
+
+is_below : (n at : ℕ) → n < at → nat_lt n at ≡ true
+is_below n at l = grind (arith, nat_tests)
+
+pub taken_first : {X : Type 0} (early : Bool) (xs : List X)
+    → picked (λ n. is_early n && not early) xs ≡ picked (is_taken early 0) xs
+taken_first early xs = picked_same (λ n. is_early n && not early) (is_taken early 0) xs
+    (λ n _. first (is_early n) early n)
+  where
+    first : (a b : Bool) (n : ℕ) → (a && not b) ≡ cond a (not b || nat_lt n 0) (not b && nat_lt n 0)
+    first true true n = sym (none_below n)
+    first true false n = refl
+    first false true n = refl
+    first false false n = sym (none_below n)
+
+pub taken_last : {X : Type 0} (early : Bool) (at : ℕ) (xs : List X) → length xs ≤ at
+    → picked (is_taken early at) xs ≡ picked (λ n. is_early n || not early) xs
+taken_last early at xs l = picked_same (is_taken early at) (λ n. is_early n || not early) xs
+    (λ n lt. last (is_early n) early n (omega arith))
+  where
+    last : (a b : Bool) (n : ℕ) → n < at → cond a (not b || nat_lt n at) (not b && nat_lt n at) ≡ (a || not b)
+    last true true n lt = is_below n at lt
+    last true false n lt = refl
+    last false true n lt = refl
+    last false false n lt = is_below n at lt
+
+elsewhere : (a b : Bool) (n at : ℕ) → (n ≡ at → ⊥)
+    → cond a (not b || nat_lt n at) (not b && nat_lt n at)
+    ≡ cond a (not b || nat_lt n (at + 1)) (not b && nat_lt n (at + 1))
+elsewhere a b n at apart = ap (λ c. cond a (not b || c) (not b && c)) (same n at apart)
+  where
+    same : (n at : ℕ) → (n ≡ at → ⊥) → nat_lt n at ≡ nat_lt n (at + 1)
+    same n at apart = grind (arith, nat_tests)
+
+-- a place that the pass takes, and one that it passes over
+pub taken_here : (early : Bool) (at : ℕ) (es : List RollEntry) (d : RollEntry) → IsRoll es → at < length es
+    → is_early at ≡ early
+    → Adds (slice_index_or es at d) (picked (is_taken early at) es) (picked (is_taken early (at + 1)) es)
+taken_here early at es d up l h = put_at (is_taken early at) (is_taken early (at + 1)) es at d up l
+    (old (is_early at) early h) (new (is_early at) early h) (λ n apart. elsewhere (is_early n) early n at apart)
+  where
+    old : (a b : Bool) → a ≡ b → cond a (not b || nat_lt at at) (not b && nat_lt at at) ≡ false
+    old true true h = not_below at
+    old true false h = absurd (false≢true (sym h))
+    old false true h = absurd (false≢true h)
+    old false false h = not_below at
+
+    new : (a b : Bool) → a ≡ b → cond a (not b || nat_lt at (at + 1)) (not b && nat_lt at (at + 1)) ≡ true
+    new true true h = is_below at (at + 1) (omega arith)
+    new true false h = absurd (false≢true (sym h))
+    new false true h = absurd (false≢true h)
+    new false false h = is_below at (at + 1) (omega arith)
+
+pub taken_over : {X : Type 0} (early : Bool) (at : ℕ) (xs : List X) → (is_early at ≡ early → ⊥)
+    → picked (is_taken early at) xs ≡ picked (is_taken early (at + 1)) xs
+taken_over early at xs h = picked_same (is_taken early at) (is_taken early (at + 1)) xs
+    (λ n _. elim (cases_eq n at) [
+      | inl same ↦ here (is_early n) early n (λ e. h (ap is_early (sym same) ∙ e))
+      | inr apart ↦ elsewhere (is_early n) early n at apart
+    ])
+  where
+    here : (a b : Bool) (n : ℕ) → (a ≡ b → ⊥) → cond a (not b || nat_lt n at) (not b && nat_lt n at)
+        ≡ cond a (not b || nat_lt n (at + 1)) (not b && nat_lt n (at + 1))
+    here true true n h = absurd (h refl)
+    here true false n h = refl
+    here false true n h = refl
+    here false false n h = absurd (h refl)

@@ -16,7 +16,7 @@ use Rattle.rq_state.proofs.Neighbours.{ordered_unmap}
 use Rattle.rq_queue.proofs.Units.{value_is}
 use Rattle.rq_model.proofs.Lists.{by_cases, each_weaker, each_map, filter_all, filter_none, map_all}
 
-turned : {K : Type 0} (R : K → K → Ordering) → IsTotalOrder R → (a b : K) (o : Ordering) → R a b ≡ o
+pub turned : {K : Type 0} (R : K → K → Ordering) → IsTotalOrder R → (a b : K) (o : Ordering) → R a b ≡ o
     → R b a ≡ ordering_reverse o
 turned R total a b o h = total.antisymm b a ∙ ap ordering_reverse h
 

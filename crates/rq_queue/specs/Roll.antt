@@ -1,5 +1,5 @@
 -- The registrants of a queue, as they are kept and in order.
-use Rattle.std.specs.Prelude.{◌≡◌, ℕ, List, Option, if◌then◌else◌, ◌==◌, ◌&&◌}
+use Rattle.std.specs.Prelude.{◌≡◌, ◌%◌, nat_lt, ℕ, suc, Bool, List, [], ◌∷◌, Option, if◌then◌else◌, ◌==◌, ◌&&◌}
 use Rattle.std.specs.Cmp.Lexicographic.{slice_cmp}
 use Rattle.std.specs.Ordering.{nat_cmp}
 use Rattle.std.specs.declared.cmp.Ordering.TheVariants.{Less}
@@ -14,6 +14,18 @@ RollEntry = List ℕ × Option Last
 -- the same as a registrant of the queue
 abbrev pub registrant_of : ℕ → RollEntry → Registrant
 registrant_of queue e = record { queue = queue; name = e.0; last = e.1 }
+
+abbrev pub entry_of : Registrant → RollEntry
+entry_of r = (r.name, r.last)
+
+-- those at the places that pass
+abbrev pub picked : {X : Type 0} → (ℕ → Bool) → List X → List X
+picked p [] = []
+picked p (x ∷ xs) = if p 0 then x ∷ picked (λ n. p (suc n)) xs else picked (λ n. p (suc n)) xs
+
+-- the first eight of each sixteen
+abbrev pub is_early : ℕ → Bool
+is_early place = nat_lt (place % 16) 8
 
 -- by name
 abbrev pub IsRoll : List RollEntry → Type 0

@@ -1,15 +1,17 @@
 //! The registrants of a queue.
 
-ghost use Rattle.std.specs.Prelude.{◌≡◌, ◌++◌, ◌∷◌, [], ℕ, true, map, IfOk, IfErr};
+ghost use Rattle.std.specs.Prelude.{◌≡◌, [], ℕ, ◌&&◌, ◌||◌, not, map, IfOk, IfErr};
 ghost use Rattle.std.specs.Prelude.{◌*◌, ◌-◌, ◌≤◌, length, OnOk, SomeIff};
-ghost use Rattle.std.specs.List.{AllByRecursion, flat_map};
+ghost use Rattle.std.specs.BTreeMap.{insert_entry};
+ghost use Rattle.std.specs.Cmp.Lexicographic.{slice_cmp};
+ghost use Rattle.std.specs.List.{flat_map};
+ghost use Rattle.std.specs.Ordering.{nat_cmp};
 ghost use Rattle.rq_model.specs.Machine as machine;
 ghost use Rattle.rq_model.specs.Queues.{registrants_at};
 ghost use Rattle.rq_model.specs.StateSpelling.{registrant_bytes};
-ghost use Rattle.rq_model.specs.States as model;
 ghost use Rattle.rq_record.specs.declared.fault.Fault.TheVariants.{Resources};
 ghost use Rattle.rq_state.specs.Comparing.{left_after};
-ghost use Rattle.rq_queue.specs.Roll.{RollEntry, registrant_of, heard};
+ghost use Rattle.rq_queue.specs.Roll.{IsRoll, registrant_of, entry_of, picked, is_early, heard};
 
 use crate::kept_last::KeptLast;
 use crate::kept_note::KeptNote;
@@ -23,8 +25,7 @@ use std::collections::BTreeMap;
 use std::marker::Model;
 
 /// The registrants of a queue, by name: the last operation of each. The number of the queue stands
-/// in its part alone, so that a registrant takes 32 bytes. A map whose keys come in order has room
-/// for about twice as many as it holds.
+/// in its part alone, so that a registrant takes 32 bytes.
 #[derive(Drop)]
 pub(crate) struct Registrants {
     lasts: BTreeMap<KeptName, KeptLast>,
@@ -51,25 +52,43 @@ impl Registrants {
         }
     }
 
-    /// Those of a queue of the state.
+    /// Those of a queue of the state. The first eight of each sixteen come first: keys that come in
+    /// order leave each node of the map with room for eight more, which the others fill.
     pub(crate) fn of(alloc: Global, state: &State, queue: QueueNo) -> Result<Registrants, Fault>
         ensures done { IfOk result (λ v. map (registrant_of queue.0) v
             ≡ registrants_at queue.0 state.now.registrants) }
         ensures refused { IfErr result (λ e. e ≡ Resources) }
     {
         state.is_well_formed();
+        let own = state.registrants_of(queue);
         let mut all = Registrants::none(alloc);
-        for at in state.registrants_of(queue) {
-            all.push(alloc, state.registrant(*at))?;
-        }
+        all.fill(alloc, own, true)?;
+        all.fill(alloc, own, false)?;
         Ok(all)
     }
 
-    // Adds a registrant whose name comes after all others.
-    fn push(&mut self, alloc: Global, r: &KeptRegistrant) -> Result<(), Fault>
-        requires { AllByRecursion
-            (λ (e : RollEntry). model.name_before e.0 r.now.name ≡ true) self.old }
-        ensures done { OnOk result (self.new ≡ self.old ++ (r.now.name, r.now.last) ∷ []) }
+    // Puts in those of the registrants that are early, or those that are not, when the early ones
+    // are there.
+    fn fill(&mut self, alloc: Global, own: &[KeptRegistrant], early: bool) -> Result<(), Fault>
+        requires rise { IsRoll (map entry_of own.now) }
+        requires early { self.old
+            ≡ picked (λ place. is_early place && not early) (map entry_of own.now) }
+        ensures done { OnOk result (self.new
+            ≡ picked (λ place. is_early place || not early) (map entry_of own.now)) }
+        ensures refused { IfErr result (λ e. e ≡ Resources) }
+    {
+        for at in 0..own.len() {
+            if (at % 16 < 8) == early {
+                self.put(alloc, &own[at])?;
+            }
+        }
+        Ok(())
+    }
+
+    // Puts a registrant in, by its name.
+    fn put(&mut self, alloc: Global, r: &KeptRegistrant) -> Result<(), Fault>
+        ensures done { OnOk result (self.new
+            ≡ insert_entry (slice_cmp nat_cmp) self.old r.now.name r.now.last) }
         ensures refused { IfErr result (λ e. e ≡ Resources) }
     {
         let name = KeptName::of(alloc, &r.name().name())?;

@@ -1,4 +1,4 @@
--- What is put for index after index.
+-- What is put for one after another.
 use Rattle.std.proofs.Common.{◌≡◌, ℕ, ◌+◌, ◌<◌, ◌≤◌, Bool, cond, List, [], ◌∷◌, ◌++◌, length, map, drop, refl, sym, ap}
 use Rattle.std.proofs.Common.{◌∙◌, append_assoc}
 use Rattle.std.specs.Prelude.{slice_index_or, filter}
@@ -7,20 +7,20 @@ use Rattle.std.proofs.Math.ListN.{drop_of_length-le}
 use Rattle.std.proofs.lemmas.List.{drop_more, append-nil}
 use Rattle.rq_model.proofs.Lists.{by_cases}
 
--- one index more
-pub indexed_more : {X : Type 0} (f : ℕ → List X) (indices : List ℕ) (i d : ℕ) (done news whole : List X)
-    → i < length indices → news ≡ done ++ f (slice_index_or indices i d) → done ++ flat_map f (drop i indices) ≡ whole
-    → news ++ flat_map f (drop (i + 1) indices) ≡ whole
-indexed_more f indices i d done news whole l n h =
-    ap (λ v. v ++ flat_map f (drop (i + 1) indices)) n
-    ∙ append_assoc done (f (slice_index_or indices i d)) (flat_map f (drop (i + 1) indices))
-    ∙ ap (λ v. done ++ flat_map f v) (sym (drop_more indices i d l)) ∙ h
+-- one more
+pub indexed_more : {X Y : Type 0} (f : Y → List X) (items : List Y) (i : ℕ) (d : Y) (done news whole : List X)
+    → i < length items → news ≡ done ++ f (slice_index_or items i d) → done ++ flat_map f (drop i items) ≡ whole
+    → news ++ flat_map f (drop (i + 1) items) ≡ whole
+indexed_more f items i d done news whole l n h =
+    ap (λ v. v ++ flat_map f (drop (i + 1) items)) n
+    ∙ append_assoc done (f (slice_index_or items i d)) (flat_map f (drop (i + 1) items))
+    ∙ ap (λ v. done ++ flat_map f v) (sym (drop_more items i d l)) ∙ h
 
--- all indices
-pub indexed_all : {X : Type 0} (f : ℕ → List X) (indices : List ℕ) (i : ℕ) (done whole : List X) → length indices ≤ i
-    → done ++ flat_map f (drop i indices) ≡ whole → done ≡ whole
-indexed_all f indices i done whole l h = sym (append-nil done)
-    ∙ ap (λ v. done ++ flat_map f v) (sym (drop_of_length-le indices l)) ∙ h
+-- all
+pub indexed_all : {X Y : Type 0} (f : Y → List X) (items : List Y) (i : ℕ) (done whole : List X) → length items ≤ i
+    → done ++ flat_map f (drop i items) ≡ whole → done ≡ whole
+indexed_all f items i done whole l h = sym (append-nil done)
+    ∙ ap (λ v. done ++ flat_map f v) (sym (drop_of_length-le items l)) ∙ h
 
 pub flat_of_map : {X Y Z : Type 0} (f : Y → List Z) (g : X → Y) (xs : List X)
     → flat_map (λ x. f (g x)) xs ≡ flat_map f (map g xs)

@@ -1,10 +1,8 @@
 //! The report of a restart, and the readers and writers that count their faults.
 #![tactic(auto)]
 
-mod hexes;
 mod lines;
 mod listing;
-mod pieces;
 mod report;
 mod stream;
 mod writers;

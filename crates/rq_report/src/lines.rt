@@ -1,19 +1,19 @@
 //! The lines of a report.
 
-ghost use Rattle.std.specs.Prelude.{◌≡◌, ◌++◌, OnOk, string_bytes, codes};
-ghost use Rattle.std.specs.Fmt.{decimal};
-ghost use Rattle.rq_model.specs.Reports.{element_line, element_text, error_text, front_line};
-ghost use Rattle.rq_model.specs.Reports.{kind_text, last_text, queue_line, registrant_line};
+ghost use Rattle.std.specs.Prelude.{◌≡◌, ◌≤◌, ◌++◌, OnOk, length, string_bytes};
+ghost use Rattle.std.specs.List.{flat_map};
+ghost use Rattle.rq_model.specs.Reports.{element_line, element_text, error_text, front_line, hex_of};
+ghost use Rattle.rq_model.specs.Reports.{kind_text, last_text, payload_text, queue_line, registrant_line};
 ghost use Rattle.rq_model.specs.Reports.{units_line, why_text};
 ghost use Rattle.rq_judged.specs.Views.{why_of};
 ghost use Rattle.rq_state.specs.Views.{kind_of, id_of};
 
-use crate::hexes::put_hexes;
 use rq_record::{ElemId, QueueNo};
 use rq_restart::{Restarted, Why};
-use rq_state::{Definition, KeptElement, KeptRegistrant, Last, OpKind};
+use rq_state::{Definition, KeptElement, KeptRegistrant, OpKind};
 use std::alloc::AllocError;
 use std::fmt::Write;
+use std::str::from_utf8;
 
 /// The word for why a front ends, as the first line of a report has it.
 pub fn why_word(why: Why) -> &'static str
@@ -83,6 +83,50 @@ pub(crate) fn put_queue_line(
     text.push_str("\n")
 }
 
+// Puts bytes. Their digits are made side by side first: put one by one, each would cost a look at the
+// room that the text has.
+fn put_block(text: &mut String, block: &[u8]) -> Result<(), AllocError>
+    requires { length block.now ≤ 128 }
+    ensures { OnOk result
+        (string_bytes text.new ≡ string_bytes text.old ++ flat_map hex_of block.now) }
+{
+    let mut room = [0; 256];
+    let digits = &mut room[..2 * block.len()];
+    let Ok(()) = hex::encode_to_slice(block, digits) else {
+        unreachable!();
+    };
+    let Ok(digits) = from_utf8(digits) else {
+        unreachable!();
+    };
+    text.push_str(digits)?;
+    Ok(())
+}
+
+fn put_bytes(text: &mut String, bytes: &[u8]) -> Result<(), AllocError>
+    ensures { OnOk result
+        (string_bytes text.new ≡ string_bytes text.old ++ flat_map hex_of bytes.now) }
+{
+    let mut rest = bytes;
+    while rest.len() > 128 {
+        let (block, after) = rest.split_at(128);
+        put_block(text, block)?;
+        rest = after;
+    }
+    put_block(text, rest)
+}
+
+// Puts a payload: its bytes in lower case, or `-` for none.
+fn put_hexes(text: &mut String, bytes: &[u8]) -> Result<(), AllocError>
+    ensures { OnOk result
+        (string_bytes text.new ≡ string_bytes text.old ++ payload_text bytes.now) }
+{
+    if bytes.is_empty() {
+        return text.push_str("-");
+    }
+    text.reserve(2 * bytes.len())?;
+    put_bytes(text, bytes)
+}
+
 /// Puts the line of an element.
 pub(crate) fn put_element_line(text: &mut String, e: &KeptElement) -> Result<(), AllocError>
     ensures { OnOk result (string_bytes text.new ≡ string_bytes text.old ++ element_line e.now) }
@@ -119,23 +163,15 @@ pub fn kind_word(kind: OpKind) -> &'static str
     }
 }
 
-fn put_operation(text: &mut String, l: &Last) -> Result<(), AllocError>
-    ensures { OnOk result
-        (string_bytes text.new ≡ string_bytes text.old ++ (kind_text l.now.kind ++ (codes " tag "
-        ++ (decimal l.now.tag ++ (codes " element " ++ element_text l.now.element))))) }
-{
-    let (kind, tag) = (kind_word(l.kind), l.tag);
-    write!(text, "{kind} tag {tag} element ")?;
-    put_optional(text, l.element)
-}
-
 fn put_last(text: &mut String, r: &KeptRegistrant) -> Result<(), AllocError>
     ensures { OnOk result (string_bytes text.new ≡ string_bytes text.old ++ last_text r.now.last) }
 {
-    match r.last() {
-        Some(l) => put_operation(text, l),
-        None => text.push_str("none"),
-    }
+    let Some(last) = r.last() else {
+        return text.push_str("none");
+    };
+    let (kind, tag) = (kind_word(last.kind), last.tag);
+    write!(text, "{kind} tag {tag} element ")?;
+    put_optional(text, last.element)
 }
 
 /// Puts the line of a registrant: its last operation, or none.

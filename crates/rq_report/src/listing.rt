@@ -12,22 +12,14 @@ use rq_state::{KeptElement, Mark, State};
 use std::alloc::{AllocError, Global};
 use std::cmp::Reverse;
 
-fn is_free(e: &KeptElement) -> bool
-    ensures { result ≡ model.is_free e.now.mark }
-{
-    match e.mark {
-        Mark::Free => true,
-        Mark::Fresh(_) | Mark::Held(_) => false,
-    }
-}
-
 // Adds an element if it is free.
 fn list<'a>(found: &mut Vec<&'a KeptElement>, e: &'a KeptElement) -> Result<(), AllocError>
     ensures { OnOk result (map (λ e. e.now) found.new.items
         ≡ map (λ e. e.now) found.old.items ++ filter (λ e. model.is_free e.mark) (e.now ∷ [])) }
 {
-    if is_free(e) {
-        found.push(e)?;
+    match e.mark {
+        Mark::Free => found.push(e)?,
+        Mark::Fresh(_) | Mark::Held(_) => {}
     }
     Ok(())
 }
@@ -46,18 +38,11 @@ fn listed(alloc: Global, state: &State, queue: QueueNo) -> Result<Vec<&KeptEleme
     Ok(found)
 }
 
-// The key by which elements are put in order.
-fn rank(e: &KeptElement) -> (Reverse<u8>, u64)
-    ensures { result ≡ (record { 0 = e.now.priority }, e.now.id) }
-{
-    (Reverse(e.priority), e.id.0)
-}
-
 fn sort(found: &mut [&KeptElement])
     ensures permutation { IsPermutation found.old found.new }
     ensures sorted { IsSortedBy (λ x y. is_ahead x.now y.now) found.new }
 {
-    found.sort_unstable_by_key(|e| rank(e));
+    found.sort_unstable_by_key(|e| (Reverse(e.priority), e.id.0));
 }
 
 /// The queue's free elements, in the order in which they would be taken.

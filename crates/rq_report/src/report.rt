@@ -1,13 +1,14 @@
-//! The text of a report.
+//! The text of a report, whole, or in pieces that several workers make.
 
 ghost use Rattle.std.specs.Prelude.{◌≡◌, ◌<◌, ◌≤◌, ◌++◌, ◌==◌, ℕ, List, IfOk, OnOk, length, map};
 ghost use Rattle.std.specs.Prelude.{filter, slice_index_or, string_bytes};
 ghost use Rattle.std.specs.List.{flat_map};
+ghost use Rattle.std.specs.Thread.{IsSync};
 ghost use Rattle.rq_model.specs.States as model;
 ghost use Rattle.rq_model.specs.Reports.{element_line, front_line, registrant_line, queue_text};
 ghost use Rattle.rq_model.specs.Reports.{units_line, IsListing, IsText};
 ghost use Rattle.rq_model.specs.WellFormed.{IsWellFormed};
-ghost use Rattle.rq_report.specs.Pieces.{AreLinesOf};
+ghost use Rattle.rq_report.specs.Pieces.{AreLinesOf, AreQueuesOf};
 
 use crate::lines::{
     put_element_line, put_front, put_queue_line, put_registrant_line, put_units_line,
@@ -17,6 +18,8 @@ use rq_record::QueueNo;
 use rq_restart::Restarted;
 use rq_state::{KeptElement, State};
 use std::alloc::{AllocError, Global};
+use std::marker::Sync;
+use std::thread::{Threads, join};
 
 fn put_elements(text: &mut String, elements: &[&KeptElement]) -> Result<(), AllocError>
     ensures { OnOk result (string_bytes text.new
@@ -32,8 +35,8 @@ fn put_registrants(text: &mut String, queue: QueueNo, state: &State) -> Result<(
     ensures { OnOk result (string_bytes text.new ≡ string_bytes text.old
         ++ flat_map registrant_line (filter (λ r. r.queue == queue.0) state.now.registrants)) }
 {
-    for at in state.registrants_of(queue) {
-        put_registrant_line(text, state.registrant(*at))?;
+    for r in state.registrants_of(queue) {
+        put_registrant_line(text, r)?;
     }
     Ok(())
 }
@@ -57,8 +60,8 @@ fn put_queue(
     put_registrants(text, queue, state)
 }
 
-/// Puts the queues from one of them up to another, by number.
-pub(crate) fn put_queues(
+// Puts the queues from one of them up to another, by number.
+fn put_queues(
     alloc: Global,
     text: &mut String,
     state: &State,
@@ -77,8 +80,8 @@ pub(crate) fn put_queues(
     Ok(())
 }
 
-/// The lines of the front and of the units.
-pub(crate) fn counts(alloc: Global, r: &Restarted) -> Result<String, AllocError>
+// The lines of the front and of the units.
+fn counts(alloc: Global, r: &Restarted) -> Result<String, AllocError>
     ensures { IfOk result (λ text. string_bytes text ≡ front_line r.now ++ units_line r.now) }
 {
     let mut text = String::new(alloc);
@@ -95,4 +98,68 @@ pub(crate) fn report(alloc: Global, r: &Restarted) -> Result<String, AllocError>
     let mut text = counts(alloc, r)?;
     put_queues(alloc, &mut text, state, 0, state.definition_count())?;
     Ok(text)
+}
+
+// The lines of the queues from one of them up to another, as one piece.
+fn one_piece(alloc: Global, state: &State, from: usize, to: usize) -> Result<String, AllocError>
+    requires { AreQueuesOf state.now from to }
+    ensures { IfOk result (λ text. AreLinesOf state.now from to (string_bytes text)) }
+{
+    let mut text = String::new(alloc);
+    put_queues(alloc, &mut text, state, from, to)?;
+    Ok(text)
+}
+
+// The lines of the queues from one of them up to another, in about this many pieces: each half of
+// the queues by itself.
+#[cycle(halves)]
+fn queue_pieces<R: Threads + Sync>(
+    rt: &R,
+    alloc: Global,
+    state: &State,
+    from: usize,
+    to: usize,
+    count: u32,
+) -> Result<Vec<String>, AllocError>
+    requires { AreQueuesOf state.now from to }
+    ensures { IfOk result
+        (λ pieces. AreLinesOf state.now from to (flat_map string_bytes pieces.items)) }
+{
+    if count < 2 || to - from < 2 {
+        return Ok(vec![in alloc; one_piece(alloc, state, from, to)?]?);
+    }
+    let middle = from + (to - from) / 2;
+    let (fewer, others) = (count / 2, count - count / 2);
+    let (left, right) = join(
+        rt,
+        || -> Result<Vec<String>, AllocError>
+            requires { IsSync R.row × AreQueuesOf state.now from middle }
+            ensures { IfOk result (λ pieces. AreLinesOf state.entry.now from middle
+                (flat_map string_bytes pieces.items)) }
+        { queue_pieces(rt, alloc, state, from, middle, fewer) },
+        || -> Result<Vec<String>, AllocError>
+            requires { IsSync R.row × AreQueuesOf state.now middle to }
+            ensures { IfOk result (λ pieces. AreLinesOf state.entry.now middle to
+                (flat_map string_bytes pieces.items)) }
+        { queue_pieces(rt, alloc, state, middle, to, others) },
+    );
+    let mut pieces = left?;
+    pieces.append(&mut right?)?;
+    Ok(pieces)
+}
+
+/// The report's text in about this many pieces, each made by a worker.
+pub(crate) fn report_in_pieces<R: Threads + Sync>(
+    rt: &R,
+    alloc: Global,
+    r: &Restarted,
+    count: u32,
+) -> Result<Vec<String>, AllocError>
+    ensures { IfOk result (λ pieces. IsText r.now (flat_map string_bytes pieces.items)) }
+{
+    let state = r.state();
+    state.is_well_formed();
+    let mut pieces = vec![in alloc; counts(alloc, r)?]?;
+    pieces.append(&mut queue_pieces(rt, alloc, state, 0, state.definition_count(), count)?)?;
+    Ok(pieces)
 }

@@ -49,40 +49,6 @@ pub trait Output {
             (λ e. (e ≡ WriteFailed) × (faults self.new ≡ faults self.old + 1)) };
 }
 
-// One read of a reader of std, tried again if it was interrupted.
-fn read_some<R: Read>(inner: &mut R, piece: &mut [u8]) -> Result<usize, Fault>
-    ensures bound { IfOk result (λ n. n ≤ length piece.new) }
-    ensures bytes { ReadConsumes (R.remaining inner.old) (R.remaining inner.new) result piece.new }
-    ensures err { IfErr result (λ e. e ≡ ReadFailed) }
-{
-    for _ in 0..u64::MAX {
-        match inner.read(piece) {
-            Ok(n) => return Ok(n),
-            Err(e) if e.kind() == ErrorKind::Interrupted => {}
-            Err(_) => return Err(Fault::ReadFailed),
-        }
-    }
-    Err(Fault::ReadFailed)
-}
-
-// One write to a writer of std, tried again if it was interrupted. A write that takes none of some
-// bytes has failed.
-fn write_some<W: Write>(inner: &mut W, piece: &[u8]) -> Result<usize, Fault>
-    ensures bound { IfOk result (λ n. n ≤ length piece.now) }
-    ensures some { IfOk result (λ n. 0 < length piece.now → 0 < n) }
-    ensures bytes { WriteAppends (W.contents inner.old) (W.contents inner.new) result piece.now }
-    ensures err { IfErr result (λ e. e ≡ WriteFailed) }
-{
-    for _ in 0..u64::MAX {
-        match inner.write(piece) {
-            Ok(n) if n > 0 || piece.is_empty() => return Ok(n),
-            Err(e) if e.kind() == ErrorKind::Interrupted => {}
-            _ => return Err(Fault::WriteFailed),
-        }
-    }
-    Err(Fault::WriteFailed)
-}
-
 /// Reads from any reader of std. An interrupted read is tried again, and is no fault.
 pub type OverRead<R> = Over<R>;
 
@@ -120,11 +86,15 @@ impl<R: Read> Input for Over<R> {
     ghost remaining = { λ it. R.remaining it.inner };
 
     fn read(&mut self, piece: &mut [u8]) -> Result<usize, Fault> {
-        let read = read_some(&mut self.inner, piece);
-        if read.is_err() {
-            self.faults += 1;
+        for _ in 0..u64::MAX {
+            match self.inner.read(piece) {
+                Ok(n) => return Ok(n),
+                Err(e) if e.kind() == ErrorKind::Interrupted => {}
+                Err(_) => break,
+            }
         }
-        read
+        self.faults += 1;
+        Err(Fault::ReadFailed)
     }
 }
 
@@ -134,10 +104,14 @@ impl<W: Write> Output for Over<W> {
     ghost contents = { λ it. W.contents it.inner };
 
     fn write(&mut self, piece: &[u8]) -> Result<usize, Fault> {
-        let written = write_some(&mut self.inner, piece);
-        if written.is_err() {
-            self.faults += 1;
+        for _ in 0..u64::MAX {
+            match self.inner.write(piece) {
+                Ok(n) if n > 0 || piece.is_empty() => return Ok(n),
+                Err(e) if e.kind() == ErrorKind::Interrupted => {}
+                _ => break,
+            }
         }
-        written
+        self.faults += 1;
+        Err(Fault::WriteFailed)
     }
 }

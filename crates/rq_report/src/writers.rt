@@ -4,14 +4,17 @@ ghost use Rattle.std.specs.Prelude.{◌<◌, string_bytes};
 ghost use Rattle.std.specs.List.{flat_map};
 ghost use Rattle.rq_report.specs.Streams.{Delivers, Reports};
 
-use crate::pieces::{count_of, report_in_pieces};
-use crate::report::report;
+use crate::report::{report, report_in_pieces};
 use crate::stream::Output;
 use rq_record::Fault;
 use rq_restart::{Plan, Restarted};
 use std::alloc::Global;
 use std::marker::Sync;
 use std::thread::Threads;
+
+// The report of a log of at most this many bytes is made by one thread, so that the restart of a
+// short log starts no threads for it.
+const SHORT: u64 = 1_048_576;
 
 /// Writes all of the text, however few bytes a call takes. With `WriteFailed` a beginning of it is
 /// written.
@@ -44,6 +47,7 @@ fn write_pieces<W: Output>(output: &mut W, pieces: &[String]) -> Result<(), Faul
 /// free elements in order and its registrants by name. The whole text is made first. Refused with
 /// `Resources` if the host refuses memory, and then nothing is written; with `WriteFailed` if the
 /// writer failed, and then a beginning of the text is written.
+#[tactic(auto, using(crate::proofs::Streams::reports_of))]
 pub fn write_report<W: Output>(alloc: Global, r: &Restarted, output: &mut W) -> Result<(), Fault>
     requires { W.faults output.old < 18446744073709551615 }
     ensures { Reports r.now (W.faults output.old) (W.faults output.new)
@@ -57,6 +61,7 @@ pub fn write_report<W: Output>(alloc: Global, r: &Restarted, output: &mut W) -> 
 
 /// Does what `write_report` does, with the text made by the plan's workers. If that is not worth
 /// threads, the text is made whole.
+#[tactic(auto, using(crate::proofs::Streams::reports_of))]
 pub fn write_report_by<R, W>(
     rt: &R,
     alloc: Global,
@@ -71,10 +76,11 @@ where
     ensures { Reports r.now (W.faults output.old) (W.faults output.new)
         (W.contents output.old) (W.contents output.new) result }
 {
-    if count_of(r, plan) < 2 {
+    let count = plan.workers();
+    if count < 2 || r.total() <= SHORT {
         return write_report(alloc, r, output);
     }
-    match report_in_pieces(rt, alloc, r, plan) {
+    match report_in_pieces(rt, alloc, r, count) {
         Ok(pieces) => write_pieces(output, &pieces),
         Err(_) => Err(Fault::Resources),
     }

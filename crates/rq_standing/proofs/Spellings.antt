@@ -8,7 +8,7 @@ use Rattle.std.proofs.lemmas.List.Sums.{sum_by-cons}
 use Rattle.rq_model.specs.States.{Mark, Free, Fresh, Held, Element, Last, Definition, Note, Registrant, State}
 use Rattle.rq_model.specs.States.{id_before}
 use Rattle.rq_model.specs.Queues.{Part, part_of}
-use Rattle.rq_model.specs.Laws.{gathered}
+use Rattle.rq_state.specs.Laws.{gathered}
 use Rattle.rq_model.specs.StateSpelling.{counted, element_number, kind_byte, definition_bytes, last_bytes}
 use Rattle.rq_model.specs.StateSpelling.{registrant_bytes, mark_bytes, element_bytes, note_bytes, state_bytes}
 use Rattle.rq_model.specs.WellFormed.{IsWellFormed}

@@ -7,7 +7,7 @@ use Rattle.std.proofs.lemmas.Bool.{eqb-true, lt-ltb, ltb-true, ltb-false}
 use Rattle.std.proofs.lemmas.List.{flat_map_more, take_more, get_or_append_left}
 use Rattle.std.proofs.lemmas.List.Sorted.{IsPermutation-refl}
 use Rattle.std.proofs.lemmas.List.Sums.{sum_by-cons}
-use Rattle.rq_model.specs.Laws.{gathered}
+use Rattle.rq_state.specs.Laws.{gathered}
 use Rattle.rq_model.specs.Queues.{Part, part_of, registrants_at}
 use Rattle.rq_model.specs.StateSpelling.{registrant_bytes}
 use Rattle.rq_model.specs.States.{State, Element, Registrant, registrant_before, name_before, id_before}

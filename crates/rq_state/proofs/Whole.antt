@@ -10,13 +10,12 @@ use Rattle.std.proofs.lemmas.List.Sorted.{Contains-permutation, IsPermutation-sy
 use Rattle.rq_model.specs.States.{put, id_before, registrant_before}
 use Rattle.rq_model.specs.WellFormed.{Ordered, IsIn}
 use Rattle.rq_model.specs.Queues.{Part, part_of}
-use Rattle.rq_model.specs.Laws.{gathered}
 use Rattle.rq_model.proofs.Lists.{by_cases, each_weaker, each_append, each_filter, each_passes, each_of, filter_all}
 use Rattle.rq_model.proofs.Lists.{filter_none, filter_same, filter_absorb}
 use Rattle.rq_model.proofs.Merged.{ordered_append, ordered_filter, ordered_weaker}
 use Rattle.rq_model.proofs.Decided.{element_homes, registrant_queues, note_queues}
 use Rattle.rq_state.specs.Orders.{put_in_order, place_before}
-use Rattle.rq_state.specs.Laws.{PartsMakeTheState, AnyOrderMakesTheState}
+use Rattle.rq_state.specs.Laws.{gathered, PartsMakeTheState, AnyOrderMakesTheState}
 use Rattle.rq_state.proofs.Sorts.{number_of, number_append, number_put_each, number_sum, number_filters}
 use Rattle.rq_state.proofs.Sorts.{each_self, in_of_contains, contains_of_in, only_order}
 use Rattle.rq_state.proofs.InOrder.{number_is_order, registrant_is_order}

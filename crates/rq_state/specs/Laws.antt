@@ -1,11 +1,15 @@
 -- Laws of lists put in order.
-use Rattle.std.specs.Prelude.{◌≡◌, length}
+use Rattle.std.specs.Prelude.{◌≡◌, ◌++◌, [], ℕ, List, length, suc, zero}
 use Rattle.std.specs.List.Sorted.{IsPermutation}
 use Rattle.rq_model.specs.States.{State}
 use Rattle.rq_model.specs.WellFormed.{IsWellFormed}
-use Rattle.rq_model.specs.Queues.{part_of}
-use Rattle.rq_model.specs.Laws.{gathered}
+use Rattle.rq_model.specs.Queues.{Part, part_of}
 use Rattle.rq_state.specs.Orders.{state_in_order}
+
+-- what the parts of queues 0 to n - 1 have, gathered
+abbrev pub gathered : {X : Type 0} → (Part → List X) → (ℕ → Part) → ℕ → List X
+gathered field part zero = []
+gathered field part (suc n) = gathered field part n ++ field (part n)
 
 -- the state with the members that its queues' parts have, one queue after another
 abbrev pub of_parts : State → State

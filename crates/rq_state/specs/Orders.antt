@@ -6,7 +6,6 @@ use Rattle.std.specs.Ordering.{nat_cmp, ordering_then}
 use Rattle.std.specs.declared.cmp.Ordering.{Ordering}
 use Rattle.std.specs.Cmp.Lexicographic.{slice_cmp}
 use Rattle.rq_model.specs.States.{State, Note, put, id_before, registrant_before, Element}
-use Rattle.rq_model.specs.States.{Registrant}
 
 -- each put in, from the last to the first
 abbrev pub put_in_order : {X : Type 0} → (X → X → Bool) → List X → List X
@@ -43,9 +42,6 @@ abbrev pub listed : {X : Type 0} → List (Vec X) → ℕ → List X
 listed table queue = slice_index_or (map (λ v. v.items) table) queue []
 
 -- the tables have the indices of each queue's members
-pub record IsTabled (rs : List Registrant) (es : List Element) (ns : List Note)
-    (registrant_table element_table note_table : List (Vec ℕ)) : Type 0 where
-  pub registered : (queue : ℕ) →
-      listed registrant_table queue ≡ indices_of (λ r. r.queue == queue) 0 rs
+pub record IsTabled (es : List Element) (ns : List Note) (element_table note_table : List (Vec ℕ)) : Type 0 where
   pub homes : (queue : ℕ) → listed element_table queue ≡ indices_of (λ e. e.home == queue) 0 es
   pub noted : (queue : ℕ) → listed note_table queue ≡ indices_of (λ n. n.queue == queue) 0 ns

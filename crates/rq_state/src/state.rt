@@ -1,6 +1,6 @@
 //! The state, and its lists.
 
-ghost use Rattle.std.specs.Prelude.{◌≡◌, ◌<◌, ℕ, length, map, IfOk, IfErr, slice_index_or};
+ghost use Rattle.std.specs.Prelude.{◌≡◌, ◌<◌, ℕ, length, map, IfOk, IfErr};
 ghost use Rattle.std.specs.List.{AllByRecursion};
 ghost use Rattle.rq_model.specs.States as model;
 ghost use Rattle.rq_model.specs.Queues.{elements_at, registrants_at, notes_at};
@@ -20,12 +20,11 @@ use rq_record::{Fault, QueueNo, UnitNo};
 use std::alloc::Global;
 use std::marker::Model;
 
-/// What the queue manager keeps, and where the members of each queue are in its lists.
+/// What the queue manager keeps, and where the elements and notes of each queue are in its lists.
 #[derive(Drop)]
 pub struct State {
     fields: KeptFields,
     homes: Vec<Vec<usize>>,
-    registered: Vec<Vec<usize>>,
     noted: Vec<Vec<usize>>,
 }
 
@@ -41,8 +40,7 @@ impl Model for State {
     ghost view = { λ s. state_of s.fields };
 
     ghost invariant = { λ s. IsWellFormed (state_of s.fields)
-        × IsTabled s.fields.registrants.items s.fields.elements.items s.fields.notes.items
-        s.registered.items s.homes.items s.noted.items };
+        × IsTabled s.fields.elements.items s.fields.notes.items s.homes.items s.noted.items };
 }
 
 impl State {
@@ -64,7 +62,6 @@ impl State {
         State {
             fields,
             homes: Vec::new(alloc),
-            registered: Vec::new(alloc),
             noted: Vec::new(alloc),
         }
     }
@@ -102,12 +99,10 @@ impl State {
     {
         let queues = fields.definitions.len();
         let homes = table_of(alloc, queues, &fields.elements)?;
-        let registered = table_of(alloc, queues, &fields.registrants)?;
         let noted = table_of(alloc, queues, &fields.notes)?;
         Ok(State {
             fields,
             homes,
-            registered,
             noted,
         })
     }
@@ -194,15 +189,16 @@ impl State {
         listed_at(&self.homes, queue)
     }
 
-    /// Where a queue's registrants are in the list of registrants, rising; none if no queue has the
-    /// number.
-    pub fn registrants_of(&self, queue: QueueNo) -> &[usize]
-        ensures within { AllByRecursion (λ index. index < length self.now.registrants) result.now }
-        ensures registrants { (r : model.Registrant) →
-            map (λ index. slice_index_or self.now.registrants index r) result.now
-            ≡ registrants_at queue.0 self.now.registrants }
+    /// A queue's registrants, by name; none if no queue has the number. Found by two searches, since
+    /// the registrants are in order by queue.
+    pub fn registrants_of(&self, queue: QueueNo) -> &[KeptRegistrant]
+        ensures { result.now ≡ registrants_at queue.0 self.now.registrants }
     {
-        listed_at(&self.registered, queue)
+        self.is_well_formed();
+        let all = self.registrants();
+        let (_, from) = all.split_at(all.partition_point(|r| r.queue().0 < queue.0));
+        let (own, _) = from.split_at(from.partition_point(|r| r.queue().0 <= queue.0));
+        own
     }
 
     /// Where a queue's notes are in the list of notes, rising; none if no queue has the number.

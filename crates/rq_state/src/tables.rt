@@ -7,7 +7,6 @@ ghost use Rattle.rq_state.specs.Orders.{indices_of, listed};
 ghost use Rattle.rq_record.specs.declared.fault.Fault.TheVariants.{Resources};
 
 use crate::kept_element::KeptElement;
-use crate::kept_registrant::KeptRegistrant;
 use crate::members::Note;
 use rq_record::{Fault, QueueNo};
 use std::alloc::Global;
@@ -51,14 +50,6 @@ impl OfQueue for KeptElement {
 
     fn queue(&self) -> QueueNo {
         self.home
-    }
-}
-
-impl OfQueue for KeptRegistrant {
-    ghost queue_of = { λ r. r.queue };
-
-    fn queue(&self) -> QueueNo {
-        self.queue()
     }
 }
 

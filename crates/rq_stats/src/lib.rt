@@ -1,7 +1,6 @@
 //! Numbers of a log: its records by kind, its units by outcome, and what is greatest in it.
 #![tactic(auto)]
 
-mod greatest;
 mod measures;
 mod rows;
 mod shown;

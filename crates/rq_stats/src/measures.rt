@@ -3,11 +3,10 @@
 ghost use Rattle.std.specs.Prelude.{◌≡◌, IfErr};
 ghost use Rattle.rq_record.specs.declared.fault.Fault.TheVariants.{Resources};
 
-use crate::greatest::put_greatest;
 use crate::rows::Value::{Number, Word};
-use crate::rows::{PAYLOADS, Row, UNITS};
+use crate::rows::{PAYLOADS, Row, UNITS, put_greatest};
 use rq_found::{
-    Effect, End, Event, FollowedQueues, Numbered, Placed, PlacedFrames, ShownLog, first_state,
+    Effect, End, Event, FollowedQueues, Numbered, PlacedFrames, ShownLog, first_state,
     front_frames, kind_of,
 };
 use rq_front::FRAME_LEN;
@@ -62,12 +61,6 @@ impl Measures {
         }
     }
 
-    // Behind the state with which a front begins.
-    fn begin(&mut self, first: &State) -> Result<(), AllocError> {
-        self.take_names(first.definitions())?;
-        self.take_units(first.units(), first.next())
-    }
-
     fn take_names(&mut self, definitions: &[Definition]) -> Result<(), AllocError> {
         for definition in definitions {
             self.take_name(&definition.name)?;
@@ -119,24 +112,13 @@ impl Measures {
         put_greatest(&mut self.units, &row)
     }
 
-    fn take_load(&mut self, rank: u64, it: &Numbered) -> Result<(), AllocError> {
-        let row = Row {
-            sort: &PAYLOADS,
-            fields: [Number(rank), Number(it.offset), Number(it.number)],
-            rank,
-        };
-        put_greatest(&mut self.loads, &row)
-    }
-
-    fn take_begin(&mut self, unit: u64, number: u64) -> Result<(), AllocError> {
-        self.begun.insert(unit, number)?;
-        Ok(())
-    }
-
     fn take_record(&mut self, it: &Numbered) -> Result<(), AllocError> {
         match &it.record {
             KeptRecord::Define { name, .. } => self.take_name(&name.name()),
-            KeptRecord::Begin { unit } => self.take_begin(unit.0, it.number),
+            KeptRecord::Begin { unit } => {
+                self.begun.insert(unit.0, it.number)?;
+                Ok(())
+            }
             KeptRecord::Commit { unit } => {
                 self.committed = self.committed.saturating_add(1);
                 self.end_unit(unit.0, it.number, "committed")
@@ -145,42 +127,35 @@ impl Measures {
                 self.aborted = self.aborted.saturating_add(1);
                 self.end_unit(unit.0, it.number, "aborted")
             }
-            KeptRecord::Enqueue { payload, .. } => self.take_load(payload.bytes().len() as u64, it),
+            KeptRecord::Enqueue { payload, .. } => {
+                let rank = payload.bytes().len() as u64;
+                let row = Row {
+                    sort: &PAYLOADS,
+                    fields: [Number(rank), Number(it.offset), Number(it.number)],
+                    rank,
+                };
+                put_greatest(&mut self.loads, &row)
+            }
             _ => Ok(()),
-        }
-    }
-
-    fn take_event(&mut self, event: &Event) {
-        let Event::To(_, Effect::Moved(queue)) = event else {
-            return;
-        };
-        if let Some(moves) = self.moves.get_mut(*queue as usize) {
-            *moves = moves.saturating_add(1);
         }
     }
 
     fn take_events(&mut self, events: &[Event]) {
         for event in events {
-            self.take_event(event);
+            let Event::To(_, Effect::Moved(queue)) = event else {
+                continue;
+            };
+            if let Some(moves) = self.moves.get_mut(*queue as usize) {
+                *moves = moves.saturating_add(1);
+            }
         }
     }
 
     // A record, and what happens at it.
-    fn take(&mut self, body: &[u8], it: &Numbered, events: &[Event]) -> Result<(), Fault>
-        ensures { IfErr result (λ e. e ≡ Resources) }
-    {
+    fn take(&mut self, body: &[u8], it: &Numbered, events: &[Event]) -> Result<(), AllocError> {
         self.take_events(events);
         self.take_kind(body, kind_of(&it.record))?;
-        self.take_record(it)?;
-        Ok(())
-    }
-
-    // Does the next record of the front.
-    fn step(&mut self, placed: Placed<'_>, machine: &mut FollowedQueues) -> Result<(), Fault>
-        ensures { IfErr result (λ e. e ≡ Resources) }
-    {
-        let it = machine.follow(placed)?;
-        self.take(placed.body, &it, machine.events())
+        self.take_record(it)
     }
 
     // Does all records of the front.
@@ -188,58 +163,24 @@ impl Measures {
         ensures { IfErr result (λ e. e ≡ Resources) }
     {
         for placed in frames {
-            self.step(placed, machine)?;
-        }
-        Ok(())
-    }
-
-    // Aborts a unit, as a restart does.
-    fn abort(
-        &mut self,
-        machine: &mut FollowedQueues,
-        unit: u64,
-        number: u64,
-    ) -> Result<(), AllocError> {
-        machine.abort(unit)?;
-        self.take_events(machine.events());
-        self.cut_off = self.cut_off.saturating_add(1);
-        self.end_unit(unit, number, "cut off")
-    }
-
-    fn abort_all(
-        &mut self,
-        machine: &mut FollowedQueues,
-        units: &[u64],
-        number: u64,
-    ) -> Result<(), AllocError> {
-        for unit in units {
-            self.abort(machine, *unit, number)?;
+            let it = machine.follow(placed)?;
+            self.take(placed.body, &it, machine.events())?;
         }
         Ok(())
     }
 
     // Aborts the units that are open behind the front, as a restart does.
-    fn restart(&mut self, machine: &mut FollowedQueues, end: &End) -> Result<(), AllocError> {
-        let units = machine.open_units()?;
-        self.abort_all(machine, &units, end.records)
-    }
-
-    // Does all of a front, and its restart.
-    fn take_front(
-        &mut self,
-        frames: PlacedFrames<'_>,
-        machine: &mut FollowedQueues,
-        end: &End,
-    ) -> Result<(), Fault>
-        ensures { IfErr result (λ e. e ≡ Resources) }
-    {
-        self.walk(frames, machine)?;
-        self.restart(machine, end)?;
-        self.depths = machine.depths()?;
+    fn restart(&mut self, machine: &mut FollowedQueues, number: u64) -> Result<(), AllocError> {
+        for unit in machine.open_units()? {
+            machine.abort(unit)?;
+            self.take_events(machine.events());
+            self.cut_off = self.cut_off.saturating_add(1);
+            self.end_unit(unit, number, "cut off")?;
+        }
         Ok(())
     }
 
-    // The same, of a front that begins behind a state.
+    // Does all of a front that begins behind a state, and its restart.
     fn take_all(
         &mut self,
         alloc: Global,
@@ -250,23 +191,13 @@ impl Measures {
         ensures { IfErr result (λ e. e ≡ Resources) }
     {
         let mut machine = FollowedQueues::of(alloc, first)?;
-        self.begin(first)?;
-        self.take_front(frames, &mut machine, end)
+        self.take_names(first.definitions())?;
+        self.take_units(first.units(), first.next())?;
+        self.walk(frames, &mut machine)?;
+        self.restart(&mut machine, end.records)?;
+        self.depths = machine.depths()?;
+        Ok(())
     }
-}
-
-// What a front counts that begins behind a state.
-fn counted_behind(
-    alloc: Global,
-    first: &State,
-    frames: PlacedFrames<'_>,
-    end: &End,
-) -> Result<Measures, Fault>
-    ensures { IfErr result (λ e. e ≡ Resources) }
-{
-    let mut measures = Measures::new(alloc);
-    measures.take_all(alloc, first, frames, end)?;
-    Ok(measures)
 }
 
 /// What the front of a log counts.
@@ -275,5 +206,7 @@ pub(crate) fn counted(alloc: Global, log: &ShownLog<'_>, end: &End) -> Result<Me
 {
     let first = first_state(alloc, log.bytes, log.at)?;
     let frames = front_frames(log.bytes, &first, log.at, end.used);
-    counted_behind(alloc, &first, frames, end)
+    let mut measures = Measures::new(alloc);
+    measures.take_all(alloc, &first, frames, end)?;
+    Ok(measures)
 }

@@ -3,7 +3,11 @@
 
 use rq_found::Put;
 use serde::Serializer;
+use std::alloc::AllocError;
 use std::fmt::Write;
+
+// Of payloads, units and queues so many are told: the greatest.
+const TOLD: usize = 10;
 
 /// What rows of one sort say: the name of their list, the names of their fields, and the words of a
 /// line before each field and behind the last.
@@ -78,6 +82,18 @@ impl Row<'_> {
     }
 }
 
+/// Puts one more row among the greatest of what was seen, the greatest first, if it is one of them.
+/// Of equal ones the first stays first.
+pub(crate) fn put_greatest<'a>(told: &mut Vec<Row<'a>>, row: &Row<'a>) -> Result<(), AllocError> {
+    let above = told.iter().take_while(|one| one.rank >= row.rank).count();
+    let place = above.min(told.len());
+    if place < TOLD {
+        told.insert(place, *row)?;
+        told.truncate(TOLD);
+    }
+    Ok(())
+}
+
 fn put_field(text: &mut String, word: &str, field: &Value<'_>) -> Put {
     text.push_str(word)?;
     match field {
@@ -113,17 +129,13 @@ fn write_field<S: Serializer>(name: &str, field: &Value<'_>, out: &mut S) -> Res
     }
 }
 
-fn write_fields<S: Serializer>(row: &Row<'_>, out: &mut S) -> Result<(), S::Error> {
-    let (names, fields) = (&row.sort.fields, &row.fields);
-    write_field(names[0], &fields[0], out)?;
-    write_field(names[1], &fields[1], out)?;
-    write_field(names[2], &fields[2], out)
-}
-
 // Writes a row as an object.
 fn write_row<S: Serializer>(row: &Row<'_>, out: &mut S) -> Result<(), S::Error> {
+    let (names, fields) = (&row.sort.fields, &row.fields);
     out.begin_map(None)?;
-    write_fields(row, out)?;
+    write_field(names[0], &fields[0], out)?;
+    write_field(names[1], &fields[1], out)?;
+    write_field(names[2], &fields[2], out)?;
     out.end_map()
 }
 

@@ -1,10 +1,10 @@
 //! Numbers of a log as they are shown.
 
-use crate::greatest::put_greatest;
-use crate::measures::{Kind, Measures};
+use crate::measures::Measures;
 use crate::rows::Value::{Number, Word};
 use crate::rows::{
-    DEPTHS, KINDS, MOVES, OUTCOMES, PAYLOADS, Row, Sort, UNITS, put_rows, write_list, write_only,
+    DEPTHS, KINDS, MOVES, OUTCOMES, PAYLOADS, Row, Sort, UNITS, put_greatest, put_rows, write_list,
+    write_only,
 };
 use rq_found::{FrontShown, Put};
 use rq_record::Name;
@@ -50,33 +50,15 @@ fn put_lines(text: &mut String, rows: &[Row<'_>]) -> Put {
     put_rows(text, &MOVES, rows)
 }
 
-/// The lines of all rows.
-pub(crate) fn joined_lines(alloc: Global, rows: &[Row<'_>]) -> Result<String, AllocError> {
+/// The lines of all rows of these measures.
+pub(crate) fn lines_of(alloc: Global, measures: &Measures) -> Result<String, AllocError> {
+    let rows = rows_of(alloc, measures)?;
     let mut text = String::new(alloc);
-    put_lines(&mut text, rows)?;
+    put_lines(&mut text, &rows)?;
     Ok(text)
 }
 
-// The queues with the most elements, the most first, of these numbers of elements by queue.
-fn rank_queues<'a>(
-    shown: &mut Vec<Row<'a>>,
-    sort: &'static Sort,
-    names: &'a [Name],
-    counts: &[u64],
-) -> Result<(), AllocError> {
-    let mut queue: usize = 0;
-    for name in names {
-        let count = counts.get(queue).copied().unwrap_or(0);
-        let fields = [Number(queue as u64), Word(name.text()), Number(count)];
-        let rank = count;
-        if count > 0 {
-            put_greatest(shown, &Row { sort, fields, rank })?;
-        }
-        queue = queue.saturating_add(1);
-    }
-    Ok(())
-}
-
+// Puts the queues with the most elements, the most first, of these numbers of elements by queue.
 fn put_queues<'a>(
     alloc: Global,
     rows: &mut Vec<Row<'a>>,
@@ -84,39 +66,15 @@ fn put_queues<'a>(
     names: &'a [Name],
     counts: &[u64],
 ) -> Result<(), AllocError> {
-    let mut shown: Vec<Row<'a>> = Vec::new(alloc);
-    rank_queues(&mut shown, sort, names, counts)?;
-    rows.extend_from_slice(&shown)?;
-    Ok(())
-}
-
-fn put_kind(rows: &mut Vec<Row<'_>>, kind: &Kind) -> Result<(), AllocError> {
-    rows.push(Row {
-        sort: &KINDS,
-        fields: [Word(kind.kind), Number(kind.records), Number(kind.bytes)],
-        rank: 0,
-    })?;
-    Ok(())
-}
-
-fn put_kinds(rows: &mut Vec<Row<'_>>, measures: &Measures) -> Result<(), AllocError> {
-    for kind in measures.kinds.values() {
-        put_kind(rows, kind)?;
+    let mut ranked: Vec<Row<'a>> = Vec::new(alloc);
+    for (queue, name) in names.iter().enumerate() {
+        let rank = counts.get(queue).copied().unwrap_or(0);
+        let fields = [Number(queue as u64), Word(name.text()), Number(rank)];
+        if rank > 0 {
+            put_greatest(&mut ranked, &Row { sort, fields, rank })?;
+        }
     }
-    Ok(())
-}
-
-fn put_outcomes(rows: &mut Vec<Row<'_>>, measures: &Measures) -> Result<(), AllocError> {
-    let fields = [
-        Number(measures.committed),
-        Number(measures.aborted),
-        Number(measures.cut_off),
-    ];
-    rows.push(Row {
-        sort: &OUTCOMES,
-        fields,
-        rank: 0,
-    })?;
+    rows.extend_from_slice(&ranked)?;
     Ok(())
 }
 
@@ -126,8 +84,17 @@ fn put_all<'a>(
     rows: &mut Vec<Row<'a>>,
     measures: &'a Measures,
 ) -> Result<(), AllocError> {
-    put_kinds(rows, measures)?;
-    put_outcomes(rows, measures)?;
+    let rank = 0;
+    for kind in measures.kinds.values() {
+        let (sort, fields) = (
+            &KINDS,
+            [Word(kind.kind), Number(kind.records), Number(kind.bytes)],
+        );
+        rows.push(Row { sort, fields, rank })?;
+    }
+    let (committed, aborted) = (Number(measures.committed), Number(measures.aborted));
+    let (sort, fields) = (&OUTCOMES, [committed, aborted, Number(measures.cut_off)]);
+    rows.push(Row { sort, fields, rank })?;
     rows.extend_from_slice(&measures.loads)?;
     rows.extend_from_slice(&measures.units)?;
     put_queues(alloc, rows, &DEPTHS, &measures.names, &measures.depths)?;

@@ -10,17 +10,11 @@ ghost use Rattle.rq_found.specs.Refusals.{IsBroken, StaysUnshown};
 ghost use Rattle.rq_stats.specs.Statistics.{AreNumbers, PutsNumbers};
 
 use crate::measures::{Measures, counted};
-use crate::shown::{StatisticsShown, joined_lines, rows_of};
+use crate::shown::{StatisticsShown, lines_of, rows_of};
 use rq_found::{End, ShownLog, Trouble, end_of, front_shown, put_beginning, put_end};
 use std::alloc::{AllocError, Global};
 use std::io::Write;
 use std::thread::Threads;
-
-// The lines behind that of where the front ends.
-fn lines_of(alloc: Global, measures: &Measures) -> Result<String, AllocError> {
-    let rows = rows_of(alloc, measures)?;
-    joined_lines(alloc, &rows)
-}
 
 // All lines.
 fn text_of(
@@ -41,14 +35,6 @@ fn text_of(
     Ok(text)
 }
 
-fn object_of(alloc: Global, end: &End, measures: &Measures) -> Result<String, Trouble>
-    ensures { IfErr result IsBroken }
-{
-    let (front, rows) = (front_shown(end), rows_of(alloc, measures)?);
-    let object = serde_json::to_string_pretty(alloc, &StatisticsShown { front, rows: &rows })?;
-    Ok(object)
-}
-
 // The same as one value of JSON. What it holds of a log are names, which have no character that is
 // hidden.
 fn json_of(alloc: Global, end: &End, measures: &Measures) -> Result<String, Trouble>
@@ -56,7 +42,8 @@ fn json_of(alloc: Global, end: &End, measures: &Measures) -> Result<String, Trou
         (λ text. (object : List ℕ) × (string_bytes text ≡ object ++ codes "\n")) }
     ensures refused { IfErr result IsBroken }
 {
-    let mut text = object_of(alloc, end, measures)?;
+    let (front, rows) = (front_shown(end), rows_of(alloc, measures)?);
+    let mut text = serde_json::to_string_pretty(alloc, &StatisticsShown { front, rows: &rows })?;
     text.push('\n')?;
     Ok(text)
 }

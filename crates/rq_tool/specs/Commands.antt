@@ -1,9 +1,16 @@
--- The lines of the program.
-use Rattle.std.specs.Prelude.{◌≡◌, ℕ, ◌<◌, ◌≤◌, ◌^◌, ⊤, List, [], ◌∷◌, Option, Some, None, codes}
+-- The lines of the program, and what each does.
+use Rattle.std.specs.Prelude.{◌≡◌, ℕ, ◌<◌, ◌≤◌, ◌^◌, ⊤, List, [], ◌∷◌, Option, Some, None, Result, codes}
 use Rattle.std.specs.Fmt.{decimal}
 use Rattle.rq_model.specs.Records.{Version, One, Two}
+use Rattle.rq_model.specs.Checkpoints.{TrueAt}
+use Rattle.rq_record.specs.declared.fault.Fault.{Fault}
+use Rattle.rq_front.specs.Chains.{IsLog, Refused}
 use Rattle.rq_plan.specs.Plans.{workers_of, grain_of}
 use Rattle.rq_plan.specs.declared.plan.Plan.{Plan}
+use Rattle.rq_restart.specs.Tails.{StaysOpen}
+use Rattle.rq_tool.specs.Headline.{Runs, RunsAt, WritesOnly, WritesReport}
+use Rattle.rq_tool.specs.Streams.{Writes}
+use Rattle.rq_tool.specs.Works.{IsAuditText, IsClosedLog, IsUpgradedLog, Makes}
 use Rattle.rq_tool.specs.declared.commands.Command.{Command}
 use Rattle.rq_tool.specs.declared.commands.Command.TheVariants as code
 
@@ -73,3 +80,28 @@ abbrev pub IsWorkersPlanOf : List ℕ → Option Plan → Type 0
 IsWorkersPlanOf workers (Some plan) = IsPlan (workers_of plan) (grain_of plan)
     × (grain_of plan ≡ 1000) × (workers ≡ decimal (workers_of plan))
 IsWorkersPlanOf workers None = (w : ℕ) → IsPlan w 1000 → workers ≡ decimal w → ⊥
+
+-- What a command does.
+
+-- with the bytes b of its first file, where the writer held the bytes `old` before and holds `new`
+-- afterwards
+abbrev pub ActsOn : CommandLine → List ℕ → Option (List ℕ)
+    → Option (List ℕ) → Result (Unit {0}) Fault → Type 0
+ActsOn (Make version script log) b old new result = Makes version b old new result
+ActsOn (Restart log workers grain) b old new result = Runs b old new result
+ActsOn (RestartAt log offset workers grain) b old new result =
+    RunsAt b offset old new result × (TrueAt b offset → WritesReport b old new result)
+ActsOn (Audit log workers grain) b old new result =
+    Writes (λ text. IsLog b × IsAuditText b text) (Refused b) old new result
+ActsOn (Close log out workers grain) b old new result =
+    Writes (IsClosedLog b) (StaysOpen b) old new result
+ActsOn (Upgrade log out workers grain) b old new result =
+    Writes (IsUpgradedLog b) (Refused b) old new result
+
+-- also where the reader tells no bytes
+abbrev pub ActsOnly : CommandLine → Option (List ℕ)
+    → Option (List ℕ) → Result (Unit {0}) Fault → Type 0
+ActsOnly (Restart log workers grain) old new result = WritesOnly old new result
+ActsOnly (RestartAt log offset workers grain) old new result =
+    (b : List ℕ) × RunsAt b offset old new result
+ActsOnly line old new result = (b : List ℕ) × ActsOn line b old new result

@@ -7,10 +7,9 @@ use Rattle.rq_model.specs.Checkpoints.{IsReportAt}
 use Rattle.rq_front.specs.Chains.{IsHeaded, IsLog}
 use Rattle.rq_judged.specs.Refusals.{RefusedAt}
 use Rattle.rq_record.specs.declared.fault.Fault.{Fault}
-use Rattle.rq_record.specs.declared.fault.Fault.TheVariants.{TooLong, NotALog, Resources}
-use Rattle.rq_record.specs.declared.fault.Fault.TheVariants.{ReadFailed, WriteFailed}
+use Rattle.rq_record.specs.declared.fault.Fault.TheVariants.{TooLong, NotALog, Resources, ReadFailed, WriteFailed}
 use Rattle.rq_report.specs.Streams.{AppendsFront}
-use Rattle.rq_tool.specs.Written.{Writes}
+use Rattle.rq_tool.specs.Streams.{Writes}
 
 -- a run over the bytes b, where the writer held the bytes `old` before and holds `new` afterwards:
 -- the report of b is written, and nothing else; or nothing is, since b is too long or no log,

@@ -1,13 +1,12 @@
 -- What a call that reads and writes leaves of its reader and its writer.
-use Rattle.std.specs.Prelude.{◌≡◌, ℕ, ◌+◌, ◌<◌, ◌≤◌, ◌⊎◌, ⊤, List, length, Option, Some, None}
-use Rattle.std.specs.Prelude.{Result, Ok, Err}
+use Rattle.std.specs.Prelude.{◌≡◌, ℕ, ◌+◌, ◌<◌, ◌≤◌, ◌⊎◌, ⊤, List, length, Option, Some, None, Result, Ok, Err}
 use Rattle.std.specs.Global.{Vec}
-use Rattle.std.specs.Io.KnownBytes.{Consumes, IsAtEnd}
+use Rattle.std.specs.Io.KnownBytes.{Appends, Consumes, IsAtEnd, Keeps}
 use Rattle.rq_model.specs.Frames.{log_limit}
 use Rattle.rq_front.specs.Chains.{IsHeaded}
 use Rattle.rq_record.specs.declared.fault.Fault.{Fault}
-use Rattle.rq_record.specs.declared.fault.Fault.TheVariants.{NotALog, ReadFailed, Resources}
-use Rattle.rq_record.specs.declared.fault.Fault.TheVariants.{TooLong, WriteFailed}
+use Rattle.rq_record.specs.declared.fault.Fault.TheVariants.{NotALog, ReadFailed, Resources, TooLong, WriteFailed}
+use Rattle.rq_report.specs.Streams.{AppendsFront}
 
 -- the reader's count of faults grows by one exactly where the answer is that a read failed
 abbrev pub ReadFaults : {A : Type 0} → ℕ → ℕ → Result A Fault → Type 0
@@ -77,3 +76,27 @@ TakesInput old new result = (bytes : List ℕ) × ReadsAll old new bytes
 
 abbrev pub IsOneOf : Fault → Fault → Fault → Type 0
 IsOneOf a b e = (e ≡ a) ⊎ (e ≡ b)
+
+-- What is written of what is made of a file.
+
+-- where the writer held the bytes `old` before and holds `new` afterwards: one of these texts is
+-- written, and nothing else; or nothing is, since there is none, for one of these reasons, or since
+-- a read failed; or a beginning of one is, and then a write failed
+abbrev pub Writes : (List ℕ → Type 0) → (Fault → Type 0) → Option (List ℕ)
+    → Option (List ℕ) → Result (Unit {0}) Fault → Type 0
+Writes IsText IsWhy old new (Ok done) = (text : List ℕ) × IsText text × Appends old new text
+Writes IsText IsWhy old new (Err WriteFailed) =
+    (text : List ℕ) × IsText text × AppendsFront old new text
+Writes IsText IsWhy old new (Err ReadFailed) = Keeps old new
+Writes IsText IsWhy old new (Err e) = IsWhy e × Keeps old new
+
+-- the same of a call that reads nothing: where a write failed, the writer's count of faults grew by
+-- one, and else it stayed
+abbrev pub PutsText : (List ℕ → Type 0) → (Fault → Type 0) → ℕ → ℕ → Option (List ℕ)
+    → Option (List ℕ) → Result (Unit {0}) Fault → Type 0
+PutsText IsText IsWhy before after old new (Ok done) =
+    (after ≡ before) × ((text : List ℕ) × IsText text × Appends old new text)
+PutsText IsText IsWhy before after old new (Err WriteFailed) =
+    (after ≡ before + 1) × ((text : List ℕ) × IsText text × AppendsFront old new text)
+PutsText IsText IsWhy before after old new (Err ReadFailed) = ⊥
+PutsText IsText IsWhy before after old new (Err e) = (after ≡ before) × (IsWhy e × Keeps old new)

@@ -1,7 +1,9 @@
--- What is made of a log, and why it is not.
-use Rattle.std.specs.Prelude.{◌≡◌, ◌≤◌, ◌++◌, ℕ, Bool, true, false, List, codes, length}
+-- What is made of a log or of a script, and why it is not.
+use Rattle.std.specs.Prelude.{◌≡◌, ◌<◌, ◌≤◌, ◌++◌, ◌⊎◌, ⊤, ℕ, Bool, true, false, List, codes, length, Option}
+use Rattle.std.specs.Prelude.{Result, Ok, Err}
 use Rattle.std.specs.List.{flat_map}
 use Rattle.std.specs.Fmt.{decimal}
+use Rattle.rq_model.specs.Records.{Version}
 use Rattle.rq_model.specs.Frames.{log_limit}
 use Rattle.rq_model.specs.Closing.{IsClosed, StandsFor}
 use Rattle.rq_model.specs.Upgrading.{IsUpgraded}
@@ -9,12 +11,14 @@ use Rattle.rq_model.specs.Upgrading.{SaysTheSame}
 use Rattle.rq_model.specs.Reports.{IsReport}
 use Rattle.rq_model.specs.Checkpoints.{Audited, IsAudit, IsReportAt, TrueAt}
 use Rattle.rq_record.specs.declared.fault.Fault.{Fault}
-use Rattle.rq_record.specs.declared.fault.Fault.TheVariants.{Resources}
+use Rattle.rq_record.specs.declared.fault.Fault.TheVariants.{Resources, TooLong}
 use Rattle.rq_front.specs.Chains.{IsLog, Refused}
 use Rattle.rq_judged.specs.Refusals.{RefusedAt}
 use Rattle.rq_restart.specs.Tails.{StaysOpen}
-use Rattle.rq_tool.specs.declared.door.Work.{Work}
-use Rattle.rq_tool.specs.declared.door.Work.TheVariants.{Report, ReportAt, Audit, Close, Upgrade}
+use Rattle.rq_writer.specs.Made.{Made}
+use Rattle.rq_tool.specs.Streams.{Writes}
+use Rattle.rq_tool.specs.declared.works.Work.{Work}
+use Rattle.rq_tool.specs.declared.works.Work.TheVariants.{Report, ReportAt, Audit, Close, Upgrade}
 
 abbrev pub truth_text : Bool → List ℕ
 truth_text true = codes "true"
@@ -62,3 +66,26 @@ IsWhyNot (ReportAt offset) b e = HasNoReportAt b offset e
 IsWhyNot Audit b e = Refused b e
 IsWhyNot Close b e = StaysOpen b e
 IsWhyNot Upgrade b e = Refused b e
+
+-- The log of a script.
+
+-- a script that is short enough, and its log
+abbrev pub IsLogOf : Version → List ℕ → List ℕ → Type 0
+IsLogOf version script log = (length script ≤ log_limit) × Made version (λ x. x) script (Ok log)
+
+-- a script that is short enough, and the fault of its earliest line that has one
+abbrev pub HasFault : Version → List ℕ → Fault → Type 0
+HasFault version script e = (length script ≤ log_limit)
+    × Made {X = List ℕ} version (λ x. x) script (Err e)
+
+-- why the script b has no log: it is too long or has a fault, or memory is refused
+abbrev pub HasNoLog : Version → List ℕ → Fault → Type 0
+HasNoLog version b TooLong = (log_limit < length b) ⊎ HasFault version b TooLong
+HasNoLog version b Resources = ⊤
+HasNoLog version b e = HasFault version b e
+
+-- over the script b: its log is written, and nothing else; or nothing is, since there is none; or a
+-- beginning of the log is, and then a write failed
+abbrev pub Makes : Version → List ℕ → Option (List ℕ)
+    → Option (List ℕ) → Result (Unit {0}) Fault → Type 0
+Makes version b = Writes (IsLogOf version b) (HasNoLog version b)

@@ -3,43 +3,16 @@
 ghost use Rattle.std.specs.Prelude.{◌≡◌, ℕ, ◌<◌, List, Some};
 ghost use Rattle.rq_model.specs.Checkpoints.{TrueAt};
 ghost use Rattle.rq_tool.specs.Headline.{Runs, RunsAt, WritesOnly, WritesReport};
-ghost use Rattle.rq_tool.specs.Streams.{ReadFaults, TakesInput, WriteFaults};
+ghost use Rattle.rq_tool.specs.Streams.{PutsText, ReadFaults, TakesInput, WriteFaults, Writes};
 ghost use Rattle.rq_tool.specs.Works.{IsTextOf, IsWhyNot};
-ghost use Rattle.rq_tool.specs.Written.{PutsText, Writes};
 
-use crate::audits::audited_lines;
-use crate::engine::{put_report, put_report_at};
 use crate::input::read_log;
-use crate::remade_logs::{closed_log, upgraded_log};
+use crate::works::{Work, audited_lines, closed_log, put_report, put_report_at, upgraded_log};
 use rq_report::{Input, Output, write_all};
 use rq_restart::{Fault, Gate, Plan};
 use std::alloc::Global;
 use std::marker::Sync;
 use std::thread::Threads;
-
-/// What is made of a log. None of it but a report redoes queues, and so enters a gate.
-#[derive(Clone, Copy)]
-pub enum Work {
-    /// Its report.
-    Report,
-    /// Its report from the checkpoint at an offset.
-    ReportAt(u64),
-    /// A line for each checkpoint of its front, rising: its offset, and whether it is true.
-    Audit,
-    /// The closed log: its front, and behind it an ABORT for each unit that is open.
-    ///
-    /// A restart of it answers the state that a restart of the log answers; and so does a restart
-    /// of as much of it as a crash leaves, once the front is there. To close it again changes
-    /// nothing. `TooLarge` if it would have more than 4,294,967,295 bytes.
-    Close,
-    /// The log in version 2: the records of its front, whose frames are chained anew behind the
-    /// header of version 2. What stood behind the front is dropped.
-    ///
-    /// It has the report of the log, but that all of its bytes are front. It has the same
-    /// checkpoints at the same offsets, true where they were; and from each true one the same
-    /// restart, again but that all bytes are front. To upgrade it again changes nothing.
-    Upgrade,
-}
 
 // Writes what is made of the bytes. All of it is made before any is written.
 fn put<R: Threads + Sync, O: Output, G: Gate + Sync>(

@@ -2,9 +2,8 @@
 
 ghost use Rattle.std.specs.Prelude.{◌≡◌, ℕ, ◌<◌, ◌≤◌, List, Some, length};
 ghost use Rattle.rq_record.specs.Views.{version_of};
-ghost use Rattle.rq_tool.specs.Scripts.{HasNoLog, IsLogOf, Makes};
-ghost use Rattle.rq_tool.specs.Streams.{ReadFaults, TakesInput, WriteFaults};
-ghost use Rattle.rq_tool.specs.Written.{PutsText};
+ghost use Rattle.rq_tool.specs.Streams.{PutsText, ReadFaults, TakesInput, WriteFaults};
+ghost use Rattle.rq_tool.specs.Works.{HasNoLog, IsLogOf, Makes};
 
 use crate::input::read_script;
 use rq_report::{Input, Output, write_all};
@@ -13,13 +12,6 @@ use rq_writer::make_in;
 use std::alloc::Global;
 use std::marker::Sync;
 use std::thread::Threads;
-
-fn one_worker() -> Plan {
-    match Plan::new(1, 1000) {
-        Some(plan) => plan,
-        None => unreachable!(),
-    }
-}
 
 // Writes the log of a script, in a version.
 fn put_log<R: Threads + Sync, O: Output>(
@@ -35,7 +27,10 @@ fn put_log<R: Threads + Sync, O: Output>(
         (HasNoLog (version_of version) script.items) (O.faults output.old) (O.faults output.new)
         (O.contents output.old) (O.contents output.new) result }
 {
-    let log = make_in(rt, alloc, version, &script, &one_worker())?;
+    let Some(alone) = Plan::new(1, 1000) else {
+        unreachable!();
+    };
+    let log = make_in(rt, alloc, version, &script, &alone)?;
     write_all(output, &log)
 }
 

@@ -104,15 +104,6 @@ fn command_of<'a>(alloc: Global, text: &Subcommand) -> Result<Command<'a>, Alloc
         .args(arguments)
 }
 
-fn add_command<'a>(
-    alloc: Global,
-    text: &Subcommand,
-    commands: &mut Vec<Command<'a>>,
-) -> Result<(), AllocError> {
-    commands.push(command_of(alloc, text)?)?;
-    Ok(())
-}
-
 /// The commands of a table.
 pub fn commands<'a>(
     alloc: Global,
@@ -120,7 +111,7 @@ pub fn commands<'a>(
 ) -> Result<Vec<Command<'a>>, AllocError> {
     let mut commands = Vec::new(alloc);
     for text in texts {
-        add_command(alloc, text, &mut commands)?;
+        commands.push(command_of(alloc, text)?)?;
     }
     Ok(commands)
 }

@@ -15,15 +15,15 @@ use Rattle.rq_model.specs.Records.{Kill, Version, One, Two}
 use Rattle.rq_model.specs.Spelling.{IsRecord, IsWho, is_name}
 use Rattle.rq_bytes.proofs.Single.{bind_some, chosen}
 use Rattle.rq_writer.specs.Script.{Line, Told, Spelled}
-use Rattle.rq_writer.specs.Views.{line_of}
-use Rattle.rq_writer.specs.declared.line.ScriptLine as code
+use Rattle.rq_writer.specs.Reading.{line_of}
+use Rattle.rq_writer.specs.declared.readers.ScriptLine as code
 use Rattle.rq_writer.specs.Script.{who_name, who_tag, record_text, line_text, IsTellable, IsLine, Tells}
 use Rattle.rq_writer.specs.Reading.{Gives, field_at, name_of, number_of, error_of, by_of, bytes_of_hex}
 use Rattle.rq_writer.specs.Reading.{unit_number, define_line, registration_at, registration_line, unit_line}
 use Rattle.rq_writer.specs.Reading.{enqueue_line, dequeue_line, checkpoint_line, kill_line, kill_line_in}
 use Rattle.rq_writer.specs.Reading.{told_by, record_at, told_line, line_at, ReadsLine}
 use Rattle.rq_writer.specs.Making.{TellsNone}
-use Rattle.rq_writer.proofs.Cuts.{cut_takes, cut_again}
+use Rattle.rq_writer.proofs.Parts.{cut_takes, cut_again}
 use Rattle.rq_writer.proofs.Numbers.{number_takes, number_again}
 use Rattle.rq_writer.proofs.Parts.{at_number, number_at_again, name_takes, name_again, error_takes, error_again}
 use Rattle.rq_writer.proofs.Parts.{told_takes, told_again, hex_takes, hex_again, who_lacks, name_lacks}
@@ -111,7 +111,6 @@ dequeue_takes version bytes r e =
 
 checkpoint_takes : (version : Version) (bytes : List ℕ) (r : Record) → checkpoint_line bytes ≡ Some r
     → IsTale version (codes "checkpoint-hex " ++ bytes) r
-unfolding checkpoint_line
 checkpoint_takes version bytes r e =
     let a = bind_some (bytes_of_hex 268435455 bytes) _ r e in
     let t = hex_takes 268435455 bytes a.0 a.1 in
@@ -192,7 +191,7 @@ ruleset again = (
 
 record_again : (version : Version) (r : Record) → IsRecord version r → IsTellable r
     → record_at version (record_text r) ≡ Some r
-unfolding record_at told_by define_line registration_at enqueue_line dequeue_line checkpoint_line kill_line
+unfolding record_at told_by define_line registration_at enqueue_line dequeue_line kill_line
 record_again version (Define limit error name) h t = search (arith, again)
 record_again version (Register queue name) h t = search (arith, again)
 record_again version (Deregister queue name) h t = search (arith, again)

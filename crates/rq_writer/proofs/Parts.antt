@@ -1,8 +1,8 @@
--- The fields of a line, read and told.
-use Rattle.std.proofs.Common.{◌≡◌, ℕ, ◌*◌, ◌^◌, ◌<◌, ◌≤◌, Bool, true, false, cond, leb, eqb, ◌&&◌, List, [], ◌∷◌, ◌++◌}
-use Rattle.std.proofs.Common.{length, Option, Some, None, refl, sym, ap, subst, ◌∙◌, arith, inl, inr}
+-- A text that is cut at a byte, and the fields of a line, read and told.
+use Rattle.std.proofs.Common.{◌≡◌, ℕ, ◌*◌, ◌^◌, ◌<◌, ◌≤◌, Bool, true, false, cond, leb, eqb, ◌&&◌, List, [], ◌∷◌}
+use Rattle.std.proofs.Common.{◌++◌, length, Option, Some, None, refl, sym, ap, subst, ◌∙◌, arith, inl, inr, rules}
 use Rattle.std.specs.Prelude.{IsTrue, codes, nat_le}
-use Rattle.std.specs.List.{flat_map, list_all}
+use Rattle.std.specs.List.{flat_map, list_all, AllByRecursion}
 use Rattle.std.specs.Str.{bytes_eq}
 use Rattle.std.specs.Fmt.{decimal}
 use Rattle.std.proofs.lemmas.Bool.{and_parts, leb-true}
@@ -19,10 +19,35 @@ use Rattle.rq_model.specs.Reports as reports
 use Rattle.rq_model.specs.Reports.{payload_text, error_text}
 use Rattle.rq_writer.specs.Script.{who_name, who_tag, IsNamed}
 use Rattle.rq_writer.specs.Reading.{field_at, name_of, is_digit, is_decimal, number_of, number_field, error_of, by_of}
-use Rattle.rq_writer.specs.Reading.{pairs_of, bytes_of_hex}
-use Rattle.rq_writer.proofs.Cuts.{cut_takes, cut_again, Lacks, lacks}
+use Rattle.rq_writer.specs.Reading.{pairs_of, bytes_of_hex, cut_at}
 use Rattle.rq_writer.proofs.Numbers.{own, number_takes, number_again, decimal_is_decimal}
 use Rattle.rq_writer.proofs.Hex.{no_bytes, pairs_takes, pairs_again, length-hex}
+use Rattle.std.proofs.lemmas.List.{length-append}
+
+-- more in front of what a reader found
+abbrev pub past : List ℕ → Option (List ℕ × List ℕ) → Option (List ℕ × List ℕ)
+past front o = o >>= λ x. Some (front ++ x.0, x.1)
+
+-- what was cut is the text
+pub cut_takes : (b : ℕ) (bytes : List ℕ) (x : List ℕ × List ℕ) → cut_at b bytes ≡ Some x → bytes ≡ x.0 ++ b ∷ x.1
+cut_takes b [] x e = absurd cc
+cut_takes b (c ∷ cs) x e = grind (arith, nat_tests, cut_takes b cs)
+
+-- what comes after it is shorter
+pub cut_shorter : (b : ℕ) (bytes : List ℕ) (x : List ℕ × List ℕ) → Some x ≡ cut_at b bytes → length x.1 < length bytes
+cut_shorter b bytes x found = omega (arith, ap length (cut_takes b bytes x (sym found)), length-append x.0 (b ∷ x.1))
+
+-- a text that has no such byte is cut after itself
+abbrev pub Lacks : ℕ → List ℕ → Type 0
+Lacks b front = AllByRecursion (λ c. eqb c b ≡ false) front
+
+pub cut_again : (b : ℕ) (front rest : List ℕ) → Lacks b front → cut_at b (front ++ b ∷ rest) ≡ Some (front, rest)
+cut_again b [] rest isnt = let is : eqb b b ≡ true = search rules in rw is refl
+cut_again b (c ∷ cs) rest isnt = rw (isnt.0, cut_again b cs rest isnt.1) refl
+
+pub lacks : (test : ℕ → Bool) (b : ℕ) (front : List ℕ) → test b ≡ false → list_all test front ≡ true → Lacks b front
+lacks test b [] isnt all = tt
+lacks test b (c ∷ cs) isnt all = grind (arith, nat_tests, lacks test b cs)
 
 pub refuted : (b : Bool) → (b ≡ true → ⊥) → b ≡ false
 refuted true h = absurd (h refl)

@@ -1,13 +1,12 @@
--- The front of a log of records, some of which may be unlawful.
-use Rattle.std.proofs.Common.{◌≡◌, ◌+◌, ◌≤◌, Bool, true, false, List, [], ◌∷◌, ◌++◌, length, refl, sym, ap, subst, ◌∙◌}
-use Rattle.std.proofs.Common.{append_assoc, arith}
+-- The front of a log of records, some of which may be unlawful, and as the code has it.
+use Rattle.std.proofs.Common.{◌≡◌, ◌+◌, ◌≤◌, Bool, true, false, List, [], ◌∷◌, ◌++◌, length, refl, sym, ap, subst}
+use Rattle.std.proofs.Common.{◌∙◌, append_assoc, arith, ℕ, map}
 use Rattle.std.specs.Prelude.{nat_lt}
 use Rattle.std.specs.List.{AllByRecursion}
-use Rattle.std.proofs.lemmas.List.{append-nil, length-append, map-append}
+use Rattle.std.proofs.lemmas.List.{append-nil, length-append, map-append, length-map}
 use Rattle.rq_model.specs.Records.{Record, Version}
 use Rattle.rq_model.specs.Spelling.{IsRecord, body_of}
-use Rattle.rq_model.specs.Frames.{start, header, bodies_of, frames_of, log_of, IsBodyLength}
-use Rattle.rq_model.specs.Frames.{IsRun, Whole}
+use Rattle.rq_model.specs.Frames.{start, header, bodies_of, frames_of, log_of, IsBodyLength, IsRun, Whole}
 use Rattle.rq_model.specs.LogLaws.{RunStops, RecordHasOneBody, RunGivesFront}
 use Rattle.rq_model.specs.States.{State, empty}
 use Rattle.rq_model.specs.Machine.{all_lawful, lawful_front, run}
@@ -16,6 +15,8 @@ use Rattle.rq_model.proofs.Restarts.{run_join, lawful_join, next_run, each_cut, 
 use Rattle.rq_catalog.proofs.Fronts.{IsParted, Stops, parted, is_more, more_is}
 use Rattle.rq_writer.specs.Made.{IsStateOf}
 use Rattle.rq_writer.specs.Fronts.{Splits, AreLogged}
+use Rattle.rq_record.specs.Views as code
+use Rattle.rq_record.specs.Views.{record_of}
 
 -- One record more.
 
@@ -120,3 +121,38 @@ module _ (version : Version) (laws : FrontLaws) where
       let ends = laws.gives.law version empty (start version) bytes [] done (body_of first) (bodies_of more) first
       run_is are.0 lawful (are.1.0, refl) (rw e at unlawful) in
       (done, _, record { short = logged.fits; bytes = bytes; whole = refl; longest = ends.0 }, e)
+
+pub pushed : (version : Version) (s : State) (old new : List code.Record) (r : code.Record) (ended : Bool)
+    (rs : List Record) → ended ≡ false → new ≡ old ++ r ∷ [] → Splits version s (map record_of old) ended rs
+    → Splits version s (map record_of new) ended (rs ++ record_of r ∷ [])
+pushed version s old new r ended rs isnt e h =
+    rw (isnt, e, map-append record_of old (r ∷ []))
+    (open_keeps version s (map record_of old) rs (record_of r) (rw isnt at h))
+
+pub let_go : (version : Version) (s : State) (since : List code.Record) (r : code.Record) (ended : Bool) (rs : List Record)
+    → ended ≡ true → Splits version s (map record_of since) ended rs
+    → Splits version s (map record_of since) ended (rs ++ record_of r ∷ [])
+let_go version s since r ended rs so h =
+    rw so (ended_keeps version s (map record_of since) rs (record_of r) (rw so at h))
+
+pub behind_fits : (version : Version) (s : State) (since : List code.Record) (ended : Bool) (rs : List Record)
+    → ended ≡ false → Splits version s (map record_of since) ended rs → AreLogged version rs
+    → s.next + length since ≤ 4294967295
+behind_fits version s since ended rs isnt h logged =
+    omega (arith, open_fits version s (map record_of since) rs (rw isnt at h) logged, length-map since record_of)
+
+pub ended_is : (version : Version) → FrontLaws → (s : State) (since : List code.Record) (ended : Bool)
+    (rs : List Record) → ended ≡ true → Splits version s (map record_of since) ended rs → AreLogged version rs
+    → IsStateOf version rs s
+ended_is version laws s since ended rs so h logged = split_is_state version laws s true rs (rw so at h) logged
+
+pub caught : (version : Version) → FrontLaws → (s t : State) (since given left : List code.Record) (ended after : Bool)
+    (count : ℕ) (rs : List Record) → ended ≡ false → given ≡ since
+    → t ≡ run s (lawful_front version s (map record_of given))
+    → count ≡ length (lawful_front version s (map record_of given)) → after ≡ nat_lt count (length given) → left ≡ []
+    → Splits version s (map record_of since) ended rs → AreLogged version rs
+    → Splits version t (map record_of left) after rs × IsStateOf version rs t
+caught version laws s t since given left ended after count rs isnt same is many e none h logged =
+    let split : Splits version t [] after rs = rw (is, e, many, same, ← length-map since record_of)
+    (caught_up version s (map record_of since) rs (rw isnt at h)) in
+    (rw none split, split_is_state version laws t after rs split logged)

@@ -25,7 +25,7 @@ use Rattle.rq_writer.specs.Fronts.{IsFrontAfter, AreLogged}
 use Rattle.rq_writer.specs.Making.{HoldsRecords, NextLine, RecordOf, Framed, LineMade, Making}
 use Rattle.rq_writer.specs.declared.front.MadeFront.{MadeFront}
 use Rattle.rq_writer.specs.declared.log.Log.{Log}
-use Rattle.rq_writer.proofs.Cuts.{cut_takes, cut_shorter}
+use Rattle.rq_writer.proofs.Parts.{cut_takes, cut_shorter}
 use Rattle.rq_writer.proofs.Ends.{no_lf, no_tale}
 
 -- The last 32 bytes.

@@ -1,4 +1,4 @@
--- From a script to a log: line after line, each appends one frame.
+-- From a script to a log: line after line, each appends one frame. Every script has one answer.
 use Rattle.std.specs.Prelude.{◌≡◌, ℕ, ◌+◌, ◌<◌, ◌≤◌, ⊤, List, [], ◌∷◌, ◌++◌, length, Result, Ok}
 use Rattle.std.specs.Prelude.{Err}
 use Rattle.std.specs.List.{AllByRecursion, flat_map}
@@ -89,3 +89,18 @@ Made version view script (Err faults.TooLong) = (ls : List Line) × (rs : List R
     × (l : Line) × (r : Record) × (rest : List ℕ) × PassesLimit version script ls rs l r rest
 Made version view script (Err faults.Resources) = ⊤
 Made version view script (Err _) = ⊥
+
+-- the log of the script, or its fault, if memory is not refused
+abbrev pub Answers : Version → List ℕ → Result (List ℕ) Fault → Type 0
+Answers version script result = Made version (λ log. log) script result
+    × (result ≡ Err faults.Resources → ⊥)
+
+-- Every script is made or has a fault
+abbrev pub EveryScriptHasAnswer : Type 0
+EveryScriptHasAnswer = (version : Version) (script : List ℕ) →
+    (result : Result (List ℕ) Fault) × Answers version script result
+
+-- and it has only one: one log, or the fault of its earliest line that has one
+abbrev pub OneAnswer : Type 0
+OneAnswer = (version : Version) (script : List ℕ) (x y : Result (List ℕ) Fault) →
+    Answers version script x → Answers version script y → x ≡ y

@@ -12,8 +12,9 @@ use Rattle.rq_record.specs.declared.fault.Fault.TheVariants as faults
 use Rattle.rq_model.specs.Records.{By, Record, Define, Register, Deregister, Begin, Enqueue}
 use Rattle.rq_model.specs.Records.{Dequeue, Commit, Abort, Checkpoint, Kill, Version, One, Two}
 use Rattle.rq_writer.specs.Script.{Line, Told, Spelled, Tells}
-use Rattle.rq_writer.specs.Views.{line_of}
-use Rattle.rq_writer.specs.declared.line.ScriptLine as code
+use Rattle.rq_record.specs.Views.{record_of}
+use Rattle.rq_writer.specs.declared.readers.ScriptLine as code
+use Rattle.rq_writer.specs.declared.readers.ScriptLine.TheVariants as lines
 
 -- What a function returned, seen by view, is what reading gives, unless memory ran out.
 abbrev pub Fails : {Y : Type 0} → Fault → Option Y → Type 0
@@ -136,10 +137,8 @@ dequeue_line bytes = do
   by ← by_of name.0 tag
   Some (Dequeue unit.0 queue.0 by)
 
-unfoldable pub checkpoint_line : List ℕ → Option Record
-checkpoint_line bytes = do
-  kept ← bytes_of_hex 268435455 bytes
-  Some (Checkpoint kept)
+abbrev pub checkpoint_line : List ℕ → Option Record
+checkpoint_line bytes = bytes_of_hex 268435455 bytes >>= λ kept. Some (Checkpoint kept)
 
 unfoldable pub kill_line : List ℕ → Option Record
 kill_line bytes = do
@@ -180,6 +179,11 @@ told_line version text = do
 abbrev pub line_at : Version → List ℕ → Option Line
 line_at version text = if bytes_eq text (codes "checkpoint")
     then Some Spelled else told_line version text
+
+-- what a line of the code is among the words of a script
+abbrev pub line_of : code.ScriptLine → Line
+line_of (lines.Told r) = Told (record_of r)
+line_of lines.Spelled = Spelled
 
 -- a line that the text tells, or Form if no line has this text
 abbrev pub ReadsLine : Version → List ℕ → Result code.ScriptLine Fault → Type 0

@@ -1,8 +1,9 @@
-//! The fields of a line.
+//! Numbers in decimal, and the fields of a line.
 
 ghost use Rattle.std.specs.Prelude.{◌≡◌, ◌≤◌, IsTrue, IfOk};
 ghost use Rattle.std.specs.Option.{option_map};
 ghost use Rattle.std.specs.List.{list_all};
+ghost use Rattle.rq_writer.specs.Decimals.{IsNumber};
 ghost use Rattle.rq_writer.specs.Reading.{Gives, name_of};
 ghost use Rattle.rq_writer.specs.Reading as spec;
 
@@ -63,6 +64,18 @@ pub(crate) fn parsed(bytes: &[u8]) -> Option<u64>
         },
         Err(_) => None,
     }
+}
+
+/// The number that a text is in decimal, without sign and leading zeros. None if the text is that
+/// of no number up to `most`. It takes no memory.
+pub fn decimal_number(most: u64, text: &[u8]) -> Option<u64>
+    ensures { IsNumber most text.now result }
+{
+    if !is_decimal(text) {
+        return None;
+    }
+    let number = parsed(text)?;
+    if number <= most { Some(number) } else { None }
 }
 
 pub(crate) fn number(most: u64, bytes: &[u8]) -> Result<u64, Fault>

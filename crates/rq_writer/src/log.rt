@@ -7,8 +7,7 @@ ghost use Rattle.rq_writer.specs.Fronts.{IsFrontAfter, AreLogged};
 ghost use Rattle.rq_writer.specs.Making.{HoldsRecords, RecordOf, Framed, LineMade, Starts};
 
 use crate::front::MadeFront;
-use crate::line::ScriptLine;
-use crate::readers::read_line;
+use crate::readers::{ScriptLine, read_line};
 use rq_front::{FRAME_LEN, LOG_LIMIT, frame, header_of};
 use rq_plan::Plan;
 use rq_record::{Fault, Record, Version, encode};
@@ -18,7 +17,7 @@ use std::thread::Threads;
 /// The log of the lines so far, its last 32 bytes, and its front.
 #[derive(Drop)]
 pub(crate) struct Log {
-    out: Vec<u8>,
+    pub(crate) out: Vec<u8>,
     last: [u8; 32],
     front: MadeFront,
 }
@@ -107,12 +106,5 @@ impl Log {
         append(alloc, &mut self.out, &self.last, &r)?;
         self.last = last_32(&self.out);
         self.front.keep(alloc, &r)
-    }
-
-    /// Its bytes.
-    pub(crate) fn bytes(self) -> Vec<u8>
-        ensures { result ≡ self.out }
-    {
-        self.out
     }
 }

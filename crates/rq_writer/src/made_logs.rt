@@ -1,8 +1,8 @@
-//! From a script to a log.
+//! From a script to a log: each script has one answer.
 
 ghost use Rattle.rq_model.specs.Records.{One};
 ghost use Rattle.rq_record.specs.Views.{version_of};
-ghost use Rattle.rq_writer.specs.Made.{Made};
+ghost use Rattle.rq_writer.specs.Made.{Made, EveryScriptHasAnswer, OneAnswer};
 ghost use Rattle.rq_writer.specs.Making.{NextLine};
 
 use crate::fields::split_once;
@@ -48,7 +48,7 @@ pub fn make_in<R: Threads + Sync>(
         rest = after;
         n += 1;
     }
-    Ok(log.bytes())
+    Ok(log.out)
 }
 
 /// The log of a script in version 1: `make_in` of that version.
@@ -61,4 +61,16 @@ pub fn make<R: Threads + Sync>(
     ensures { Made One (λ v. v.items) script.now result }
 {
     make_in(rt, alloc, Version::One, script, plan)
+}
+
+/// Every script, of whatever bytes, has a log or a fault, and only one. If a line has a fault, the
+/// script's fault is that of the earliest such line.
+pub fn one_answer()
+    ensures some { EveryScriptHasAnswer }
+    ensures one { OneAnswer }
+{
+    rq_model::one_run();
+    rq_model::one_spelling();
+    rq_model::one_front();
+    rq_model::frames_join();
 }

@@ -1,16 +1,22 @@
-//! From a text to a line.
+//! The lines of a script, and from a text to a line.
 
-ghost use Rattle.rq_writer.specs.Reading.{Gives};
 ghost use Rattle.rq_record.specs.Views.{record_of, version_of};
 ghost use Rattle.rq_writer.specs.Reading as spec;
-ghost use Rattle.rq_writer.specs.Reading.{ReadsLine};
-ghost use Rattle.rq_writer.specs.Views.{line_of};
+ghost use Rattle.rq_writer.specs.Reading.{Gives, ReadsLine, line_of};
 
 use crate::fields::{by, error, field, name, number, number_field, u32_field};
 use crate::hexes::{kept, payload};
-use crate::line::ScriptLine;
 use rq_record::{ElemId, Fault, Name, QueueNo, Record, UnitNo, Version};
 use std::alloc::Global;
+
+/// What a line of a script tells.
+#[derive(Drop)]
+pub enum ScriptLine {
+    /// A record in words.
+    Told(Record),
+    /// A checkpoint of the state so far.
+    Spelled,
+}
 
 #[tactic(auto, unfolding(crate::specs::Reading::define_line))]
 fn define(bytes: &[u8]) -> Result<Record, Fault>
@@ -79,32 +85,20 @@ fn dequeue(bytes: &[u8]) -> Result<Record, Fault>
     })
 }
 
-#[tactic(auto, unfolding(crate::specs::Reading::checkpoint_line))]
-fn checkpoint(alloc: Global, bytes: &[u8]) -> Result<Record, Fault>
-    ensures { Gives record_of result (spec.checkpoint_line bytes.now) }
-{
-    let bytes = kept(alloc, bytes)?;
-    Ok(Record::Checkpoint { bytes })
-}
-
 #[tactic(auto, unfolding(crate::specs::Reading::kill_line))]
-fn kill(bytes: &[u8]) -> Result<Record, Fault>
-    ensures { Gives record_of result (spec.kill_line bytes.now) }
-{
-    let (queue, rest) = u32_field(bytes)?;
-    let element = number(u64::MAX, rest)?;
-    Ok(Record::Kill {
-        queue: QueueNo(queue),
-        element: ElemId(element),
-    })
-}
-
-fn kill_in(version: Version, bytes: &[u8]) -> Result<Record, Fault>
+fn kill(version: Version, bytes: &[u8]) -> Result<Record, Fault>
     ensures { Gives record_of result (spec.kill_line_in (version_of version) bytes.now) }
 {
     match version {
         Version::One => Err(Fault::Form),
-        Version::Two => kill(bytes),
+        Version::Two => {
+            let (queue, rest) = u32_field(bytes)?;
+            let element = number(u64::MAX, rest)?;
+            Ok(Record::Kill {
+                queue: QueueNo(queue),
+                element: ElemId(element),
+            })
+        }
     }
 }
 
@@ -131,42 +125,32 @@ fn told_by(alloc: Global, version: Version, word: &[u8], rest: &[u8]) -> Result<
     } else if word == b"abort".as_slice() {
         Ok(Record::Abort { unit: unit(rest)? })
     } else if word == b"checkpoint-hex".as_slice() {
-        checkpoint(alloc, rest)
+        Ok(Record::Checkpoint {
+            bytes: kept(alloc, rest)?,
+        })
     } else if word == b"kill".as_slice() {
-        kill_in(version, rest)
+        kill(version, rest)
     } else {
         Err(Fault::Form)
     }
 }
 
-#[tactic(auto, unfolding(crate::specs::Reading::record_at))]
-fn record(alloc: Global, version: Version, text: &[u8]) -> Result<Record, Fault>
-    ensures { Gives record_of result (spec.record_at (version_of version) text.now) }
-{
-    let (word, rest) = field(text)?;
-    told_by(alloc, version, word, rest)
-}
-
-#[tactic(auto, unfolding(crate::specs::Reading::told_line))]
+#[tactic(auto, unfolding(crate::specs::Reading::record_at, crate::specs::Reading::told_line))]
 fn told_line(alloc: Global, version: Version, text: &[u8]) -> Result<ScriptLine, Fault>
     ensures { Gives line_of result (spec.told_line (version_of version) text.now) }
 {
-    let record = record(alloc, version, text)?;
+    let (word, rest) = field(text)?;
+    let record = told_by(alloc, version, word, rest)?;
     Ok(ScriptLine::Told(record))
 }
 
-fn line(alloc: Global, version: Version, text: &[u8]) -> Result<ScriptLine, Fault>
-    ensures { Gives line_of result (spec.line_at (version_of version) text.now) }
+/// The line that the text tells in the version. `Form` if no line has this text.
+#[tactic(auto, using(crate::proofs::Lines::reads))]
+pub fn read_line(alloc: Global, version: Version, text: &[u8]) -> Result<ScriptLine, Fault>
+    ensures { ReadsLine (version_of version) text.now result }
 {
     if text == b"checkpoint".as_slice() {
         return Ok(ScriptLine::Spelled);
     }
     told_line(alloc, version, text)
-}
-
-/// The line that the text tells in the version. `Form` if no line has this text.
-pub fn read_line(alloc: Global, version: Version, text: &[u8]) -> Result<ScriptLine, Fault>
-    ensures { ReadsLine (version_of version) text.now result }
-{
-    line(alloc, version, text)
 }

@@ -10,13 +10,6 @@ use rq_state::State;
 use std::alloc::Global;
 use std::thread::Threads;
 
-fn refused(why: NotTaken) -> Refusal {
-    match why {
-        NotTaken::Resources => Refusal::Memory,
-        _ => Refusal::Full,
-    }
-}
-
 // The ABORT of each open unit of a state, rising.
 fn aborts_of(alloc: Global, state: &State) -> Result<Vec<Record>, Fault> {
     let mut aborts = Vec::with_capacity(alloc, state.units().len())?;
@@ -38,7 +31,8 @@ fn append_all(alloc: Global, log: &mut OpenLog, records: &[Record]) -> Result<()
             log.next = log.next.saturating_add(records.len() as u64);
             Ok(())
         }
-        (_, Some(why)) => Err(refused(why)),
+        (_, Some(NotTaken::Resources)) => Err(Refusal::Memory),
+        (_, Some(_)) => Err(Refusal::Full),
     }
 }
 
@@ -98,17 +92,6 @@ pub(crate) fn mark<R: Threads + Sync>(
     Ok((log, offset))
 }
 
-// The ABORT of each unit that is open behind the front of a log.
-fn aborts_behind<R: Threads + Sync>(
-    rt: &R,
-    alloc: Global,
-    bytes: &[u8],
-    plan: &Plan,
-) -> Result<Vec<Record>, Fault> {
-    let front = redone_behind(rt, alloc, bytes, plan)?;
-    aborts_of(alloc, &front.state)
-}
-
 /// Makes of a log that was carried on the closed one.
 pub(crate) fn close_carried<R: Threads + Sync>(
     rt: &R,
@@ -117,7 +100,7 @@ pub(crate) fn close_carried<R: Threads + Sync>(
     plan: &Plan,
 ) -> Result<(), Refusal> {
     let mut log = front_of(rt, alloc, bytes, plan)?;
-    let aborts = aborts_behind(rt, alloc, bytes, plan)?;
+    let aborts = aborts_of(alloc, &redone_behind(rt, alloc, bytes, plan)?.state)?;
     append_all(alloc, &mut log, &aborts)?;
     bytes.truncate(log.opened.used);
     bytes.append(&mut log.frames)?;

@@ -2,14 +2,14 @@
 
 use crate::checkpoints::{close_carried, mark};
 use crate::files::{HeldLog, Hold, put_whole};
-use crate::fronts::{OpenLog, front_in, opened_front};
-use crate::inputs::{begun_log, log_from, log_in, opened, rest_of_log, script_in};
-use crate::lines::{Written, append_script};
+use crate::fronts::{OpenLog, front_in, next_behind};
+use crate::inputs::{begun_log, log_from, opened, rest_of_log, script_in};
+use crate::lines::append_script;
 use crate::messages::{audit_text, tell_appended, tell_carried, tell_marked, warn_of_end};
-use crate::new_log::{expect_free, name_one_file, put_new};
+use crate::new_log::{expect_free, put_new};
 use crate::refusal::{Refusal, Stream};
 use clap::ArgMatches;
-use rq_file::Patient;
+use rq_file::{Patient, name_one_file};
 use rq_journal::{CARRIED_AT, Fault, Plan, audit_carried, carried, carried_again, is_carried};
 use rq_restart::closed;
 use rq_tool::{Open, OverRead, OverWrite, Work, through};
@@ -38,24 +38,8 @@ fn told(done: io::Result<()>) -> Result<(), Refusal> {
     }
 }
 
-// Writes the frames of a script behind its log, if they are kept, and tells so.
-fn write_script<R: Files<File = File> + Print>(
-    rt: &R,
-    held: &mut HeldLog,
-    log: &OpenLog,
-    made: &Written,
-    json: bool,
-) -> Result<(), Refusal> {
-    if !made.is_kept() {
-        return Ok(());
-    }
-    held.append(rt, log)?;
-    let (used, len) = (log.opened.used as u64, log.len() as u64);
-    told(tell_appended(rt, json, made.count, used, len))
-}
-
-// Appends the frames of a script behind an open log, if any of its lines are kept, or says why one
-// is refused.
+// Appends the frames of a script behind an open log, if any of its lines are kept, and tells so; or says
+// why a line is refused.
 fn append_lines<R>(
     rt: &R,
     held: &mut HeldLog,
@@ -67,23 +51,13 @@ where
     R: Files<File = File> + Print + AllocGlobal,
 {
     let made = append_script(rt.alloc(), log, script, words.get_flag("each"))?;
-    write_script(rt, held, log, &made, words.get_flag("json"))?;
+    if made.is_kept() {
+        held.append(rt, log)?;
+        let (used, len) = (log.opened.used as u64, log.len() as u64);
+        let json = words.get_flag("json");
+        told(tell_appended(rt, json, made.count, used, len))?;
+    }
     made.lines_refused()
-}
-
-// Finds where the front of a log ends, and appends the frames of a script there.
-fn append_behind<R>(
-    rt: &R,
-    held: &mut HeldLog,
-    plan: &Plan,
-    script: &[u8],
-    words: &ArgMatches<'_>,
-) -> Result<(), Refusal>
-where
-    R: Files<File = File> + Print + AllocGlobal + Threads + Sync,
-{
-    let mut log = front_in(rt, held.file(), plan)?;
-    append_lines(rt, held, &mut log, script, words)
 }
 
 fn append<R>(rt: &R, path: &str, plan: &Plan, words: &ArgMatches<'_>) -> Result<(), Refusal>
@@ -92,41 +66,21 @@ where
 {
     let script = script_in(rt, words.get_str("SCRIPT").unwrap_or("-"))?;
     let mut held = HeldLog::open(rt, path, Hold::ToWrite)?;
-    append_behind(rt, &mut held, plan, &script, words)
+    let mut log = front_in(rt, held.file(), plan)?;
+    append_lines(rt, &mut held, &mut log, &script, words)
 }
 
 // Writes a checkpoint of the state behind a log, and tells so.
-fn mark_log<R>(
-    rt: &R,
-    held: &mut HeldLog,
-    plan: &Plan,
-    words: &ArgMatches<'_>,
-) -> Result<(), Refusal>
-where
-    R: Files<File = File> + Print + AllocGlobal + Threads + Sync,
-{
-    let bytes = rest_of_log(rt, held.file())?;
-    let (log, offset) = mark(rt, rt.alloc(), &bytes, plan, words.get_flag("close"))?;
-    held.append(rt, &log)?;
-    let json = words.get_flag("json");
-    told(tell_marked(rt, json, offset as u64, log.len() as u64))
-}
-
 fn checkpoint<R>(rt: &R, path: &str, plan: &Plan, words: &ArgMatches<'_>) -> Result<(), Refusal>
 where
     R: Files<File = File> + Print + AllocGlobal + Threads + Sync,
 {
     let mut held = HeldLog::open(rt, path, Hold::ToWrite)?;
-    mark_log(rt, &mut held, plan, words)
-}
-
-// How many records stand before a log that goes on from this one.
-fn next_behind<R>(rt: &R, bytes: &[u8], plan: &Plan) -> Result<u64, Refusal>
-where
-    R: AllocGlobal + Threads + Sync,
-{
-    let log = opened_front(rt, rt.alloc(), bytes, plan)?;
-    log.next_carried()
+    let bytes = rest_of_log(rt, held.file())?;
+    let (log, offset) = mark(rt, rt.alloc(), &bytes, plan, words.get_flag("close"))?;
+    held.append(rt, &log)?;
+    let json = words.get_flag("json");
+    told(tell_marked(rt, json, offset as u64, log.len() as u64))
 }
 
 // A log that goes on from this one.
@@ -141,24 +95,16 @@ where
     }
 }
 
-// Puts a log that goes on behind so many records into its file, and tells so.
-fn put_carried<R>(rt: &R, new: &str, made: &[u8], next: u64, json: bool) -> Result<(), Refusal>
-where
-    R: Files<File = File> + Print + Eprint + AllocGlobal,
-{
-    put_new(rt, new, made)?;
-    warn_of_end(rt, next);
-    told(tell_carried(rt, json, next, made.len() as u64))
-}
-
-// Makes the file of a log that goes on from this one.
+// Makes the file of a log that goes on from this one, and tells how many records stand before it.
 fn carry_bytes<R>(rt: &R, bytes: &[u8], plan: &Plan, new: &str, json: bool) -> Result<(), Refusal>
 where
     R: Files<File = File> + Print + Eprint + AllocGlobal + Threads + Sync,
 {
-    let next = next_behind(rt, bytes, plan)?;
+    let next = next_behind(rt, rt.alloc(), bytes, plan)?;
     let made = carried_on(rt, bytes, plan)?;
-    put_carried(rt, new, &made, next, json)
+    put_new(rt, new, &made)?;
+    warn_of_end(rt, next);
+    told(tell_carried(rt, json, next, made.len() as u64))
 }
 
 fn carry<R>(rt: &R, path: &str, plan: &Plan, words: &ArgMatches<'_>) -> Result<(), Refusal>
@@ -212,16 +158,7 @@ where
     Ok(closed(rt, rt.alloc(), bytes, plan)?)
 }
 
-// Puts the closed log into its own place, if that is still as it was read.
-fn replace<R>(rt: &R, held: &HeldLog, path: &str, read: usize, made: &[u8]) -> Result<(), Refusal>
-where
-    R: Files<File = File> + AllocGlobal,
-{
-    held.expect_as_read(rt, read)?;
-    put_whole(rt, path, Stream::Out, made)
-}
-
-// Closes a log in its own place, while no other program writes it.
+// Closes a log in its own place, while no other program writes it, if it is still as it was read.
 fn close_in_place<R>(rt: &R, path: &str, plan: &Plan) -> Result<(), Refusal>
 where
     R: Files<File = File> + AllocGlobal + Threads + Sync,
@@ -230,7 +167,8 @@ where
     let bytes = rest_of_log(rt, held.file())?;
     let read = bytes.len();
     let made = closed_of(rt, bytes, plan)?;
-    replace(rt, &held, path, read, &made)
+    held.expect_as_read(rt, read)?;
+    put_whole(rt, path, Stream::Out, &made)
 }
 
 fn close<R>(rt: &R, path: &str, plan: &Plan, out: &str) -> Result<(), Refusal>
@@ -240,18 +178,9 @@ where
     if name_one_file(rt, path, out) {
         return close_in_place(rt, out, plan);
     }
-    let bytes = log_in(rt, path)?;
+    let bytes = log_from(rt, opened(rt, path, Stream::Log)?)?;
     let made = closed_of(rt, bytes, plan)?;
     put_whole(rt, out, Stream::Out, &made)
-}
-
-// Which checkpoints of a log are true that was carried on.
-fn audited<R>(rt: &R, bytes: &[u8], plan: &Plan) -> Result<String, Refusal>
-where
-    R: AllocGlobal + Threads + Sync,
-{
-    let found = audit_carried(rt, rt.alloc(), bytes, plan)?;
-    Ok(audit_text(rt.alloc(), &found)?)
 }
 
 // Tells which checkpoints of a log are true that was carried on.
@@ -261,7 +190,8 @@ where
     F: Read + Drop,
 {
     let bytes = log_from(rt, from)?;
-    let text = audited(rt, &bytes, plan)?;
+    let found = audit_carried(rt, rt.alloc(), &bytes, plan)?;
+    let text = audit_text(rt.alloc(), &found)?;
     Ok(rt.write_all(text.as_bytes())?)
 }
 

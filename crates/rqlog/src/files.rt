@@ -37,40 +37,23 @@ fn lock(file: &File, hold: Hold) -> Result<(), Refusal> {
 }
 
 impl HeldLog {
-    // Opens the file of a log, which anybody may still write.
-    fn found<R>(rt: &R, path: &str, writes: bool) -> Result<HeldLog, Refusal>
-    where
-        R: Files<File = File> + AllocGlobal,
-    {
-        let mut options = OpenOptions::new();
-        options.read(true).write(writes);
-        match NamedFile::open(rt, path, &options) {
-            Ok(place) => Ok(HeldLog { place }),
-            Err(error) => Err(failed(Stream::Log, error)),
-        }
-    }
-
-    // Takes the lock. The file must still have its name then: else another program put its own
-    // there while this one came.
-    fn hold<R>(&self, rt: &R, hold: Hold) -> Result<(), Refusal>
-    where
-        R: Files<File = File>,
-    {
-        lock(self.place.file(), hold)?;
-        if !self.place.is_there(rt) {
-            return Err(Refusal::Changed);
-        }
-        Ok(())
-    }
-
-    /// Opens the file of a log and holds it.
+    /// Opens the file of a log and takes the lock. The file must still have its name then: else another
+    /// program put its own there while this one came.
     pub(crate) fn open<R>(rt: &R, path: &str, hold: Hold) -> Result<HeldLog, Refusal>
     where
         R: Files<File = File> + AllocGlobal,
     {
-        let log = HeldLog::found(rt, path, matches!(hold, Hold::ToWrite))?;
-        log.hold(rt, hold)?;
-        Ok(log)
+        let mut options = OpenOptions::new();
+        options.read(true).write(matches!(hold, Hold::ToWrite));
+        let place = match NamedFile::open(rt, path, &options) {
+            Ok(place) => place,
+            Err(error) => return Err(failed(Stream::Log, error)),
+        };
+        lock(place.file(), hold)?;
+        if !place.is_there(rt) {
+            return Err(Refusal::Changed);
+        }
+        Ok(HeldLog { place })
     }
 
     /// The file.
@@ -134,8 +117,5 @@ pub(crate) fn put_whole<R>(rt: &R, to: &str, stream: Stream, bytes: &[u8]) -> Re
 where
     R: Files<File = File> + AllocGlobal,
 {
-    match rq_file::put_file(rt, to, bytes) {
-        Ok(()) => Ok(()),
-        Err(error) => Err(failed(stream, error)),
-    }
+    rq_file::put_file(rt, to, bytes).map_err(|error| failed(stream, error))
 }

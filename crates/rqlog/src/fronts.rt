@@ -50,12 +50,6 @@ impl OpenLog {
             Err(Refusal::Ended)
         }
     }
-
-    /// How many records stand before a log that goes on from this one.
-    pub(crate) fn next_carried(&self) -> Result<u64, Refusal> {
-        self.expect_numbers(1)?;
-        Ok(self.next)
-    }
 }
 
 // How many records were numbered before the first frame of a log. If it was carried on, the spelling
@@ -113,36 +107,32 @@ pub(crate) fn opened_front<R: Threads + Sync>(
     undamaged(front_of(rt, alloc, bytes, plan)?)
 }
 
-// Where the front of the log in an open file ends, behind which records may follow. All of it is held.
-fn held_front_in<R>(rt: &R, file: &mut File, plan: &Plan) -> Result<OpenLog, Refusal>
-where
-    R: AllocGlobal + Threads + Sync,
-{
-    let bytes = rest_of_log(rt, file)?;
-    opened_front(rt, rt.alloc(), &bytes, plan)
-}
-
-// Where the front of the plain log in an open file ends, of which no more is held than a window.
-fn grown_front_in<R>(rt: &R, file: &mut File, plan: &Plan) -> Result<OpenLog, Refusal>
-where
-    R: AllocGlobal + Threads + Sync,
-{
-    let mut front = GrowingFront::new(rt.alloc());
-    let read = feed_file(rt, file, &mut front, plan)?;
-    let judged = front.judged(rt, rt.alloc(), plan)?;
-    Ok(open_at(rt.alloc(), opened_behind(judged), read, 0))
-}
-
-/// Where the front of the log in an open file ends, behind which records may follow.
+/// Where the front of the log in an open file ends, behind which records may follow. Of a plain log no
+/// more is held than a window.
 pub(crate) fn front_in<R>(rt: &R, file: &mut File, plan: &Plan) -> Result<OpenLog, Refusal>
 where
     R: AllocGlobal + Threads + Sync,
 {
     if begins_carried(file) {
-        held_front_in(rt, file, plan)
-    } else {
-        undamaged(grown_front_in(rt, file, plan)?)
+        let bytes = rest_of_log(rt, file)?;
+        return opened_front(rt, rt.alloc(), &bytes, plan);
     }
+    let mut front = GrowingFront::new(rt.alloc());
+    let read = feed_file(rt, file, &mut front, plan)?;
+    let judged = front.judged(rt, rt.alloc(), plan)?;
+    undamaged(open_at(rt.alloc(), opened_behind(judged), read, 0))
+}
+
+/// How many records stand before a log that goes on from this one.
+pub(crate) fn next_behind<R: Threads + Sync>(
+    rt: &R,
+    alloc: Global,
+    bytes: &[u8],
+    plan: &Plan,
+) -> Result<u64, Refusal> {
+    let log = opened_front(rt, alloc, bytes, plan)?;
+    log.expect_numbers(1)?;
+    Ok(log.next)
 }
 
 /// The state behind the front of a log. Open units stay open.

@@ -4,6 +4,7 @@ ghost use Rattle.std.specs.Prelude.{◌≤◌, List, ℕ, length, IfOk, OnOk};
 ghost use Rattle.rq_judged.specs.GrowingFronts.{GoesAlong};
 
 use crate::refusal::{Refusal, Stream, failed};
+use rq_file::{LIMIT, read_limited};
 use rq_journal::{Fault, Plan, is_carried};
 use rq_judged::GrowingFront;
 use std::alloc::{AllocError, Global};
@@ -12,20 +13,11 @@ use std::io::{self, Chain, Cursor, ErrorKind, Read};
 use std::os::unix::fs::FileExt;
 use std::thread::Threads;
 
-// One byte more than the longest log has, and the longest script.
-const LIMIT: u64 = 4_294_967_296;
-
 // So many bytes tell whether a log was carried on.
 const BEGINNING: usize = 64;
 
 // So many bytes of a log are read at a time.
 const PIECE: usize = 1_048_576;
-
-fn read_to_limit<R: Read + Drop, A: AllocGlobal>(rt: &A, from: R) -> io::Result<Vec<u8>> {
-    let mut bytes = Vec::new(rt.alloc());
-    from.take(LIMIT).read_to_end(&mut bytes)?;
-    Ok(bytes)
-}
 
 // The bytes that were read, if they are not too many.
 fn within(read: io::Result<Vec<u8>>, stream: Stream) -> Result<Vec<u8>, Refusal> {
@@ -42,7 +34,7 @@ where
     A: AllocGlobal,
     F: Read + Drop,
 {
-    within(read_to_limit(rt, from), Stream::Log)
+    within(read_limited(rt, from), Stream::Log)
 }
 
 /// The bytes of a log from its open file, read from where that stands.
@@ -128,22 +120,14 @@ where
     }
 }
 
-/// The bytes of the log in a file.
-pub(crate) fn log_in<R>(rt: &R, path: &str) -> Result<Vec<u8>, Refusal>
-where
-    R: Files<File = File> + AllocGlobal,
-{
-    log_from(rt, opened(rt, path, Stream::Log)?)
-}
-
 /// The bytes of the script in a file, or of standard input for `-`.
 pub(crate) fn script_in<R>(rt: &R, path: &str) -> Result<Vec<u8>, Refusal>
 where
     R: Files<File = File> + Input + AllocGlobal,
 {
     if path == "-" {
-        return within(read_to_limit(rt, rt.reader()), Stream::Script);
+        return within(read_limited(rt, rt.reader()), Stream::Script);
     }
     let file = opened(rt, path, Stream::Script)?;
-    within(read_to_limit(rt, file), Stream::Script)
+    within(read_limited(rt, file), Stream::Script)
 }

@@ -107,18 +107,13 @@ fn told(alloc: Global, text: &[u8]) -> Result<String, AllocError> {
     }
 }
 
-// Why a record is not appended that breaks this rule.
-fn broken(rule: Option<Rule>) -> Reason {
-    match rule {
-        Some(rule) => Reason::Breaks(rule),
-        None => Reason::NoLine,
-    }
-}
-
 // Which rule a record breaks that is not lawful.
 fn rule_of(alloc: Global, log: &OpenLog, record: &Record) -> Reason {
     match KeptRecord::of(alloc, record) {
-        Ok(record) => broken(log.opened.appender.broken(&record)),
+        Ok(record) => match log.opened.appender.broken(&record) {
+            Some(rule) => Reason::Breaks(rule),
+            None => Reason::NoLine,
+        },
         Err(_) => Reason::Memory,
     }
 }

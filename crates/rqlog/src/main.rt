@@ -34,18 +34,10 @@ fn start<R>(rt: &R) -> Result<(), Refusal>
 where
     R: Files<File = File> + Env + Input + Print + Eprint + Clock + AllocGlobal + Threads + Sync,
 {
-    let all: Vec<String> = env::args(rt)
+    let words: Vec<String> = env::args(rt)
         .map_err(|error| unread(error))?
         .collect(rt.alloc())?;
-    obey(rt, all.as_slice())
-}
-
-// Does what these words ask for, of which the first is the program's name.
-fn obey<R>(rt: &R, words: &[String]) -> Result<(), Refusal>
-where
-    R: Files<File = File> + Input + Print + Eprint + Clock + AllocGlobal + Threads + Sync,
-{
-    let matches = program(rt.alloc())?.try_get_matches_from(words)?;
+    let matches = program(rt.alloc())?.try_get_matches_from(words.as_slice())?;
     act(rt, &matches)
 }
 

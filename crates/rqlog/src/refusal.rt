@@ -148,13 +148,6 @@ fn advice(fault: Fault) -> &'static str {
     }
 }
 
-fn exit_of(reason: Reason) -> u8 {
-    match reason {
-        Reason::Memory => MEMORY,
-        _ => REFUSED,
-    }
-}
-
 impl Refusal {
     // What is said if no name, number or error is told.
     fn text(&self) -> &'static str {
@@ -175,7 +168,8 @@ impl Refusal {
             Refusal::Words(_) | Refusal::NoText | Refusal::Plan => USAGE,
             Refusal::Failed(..) | Refusal::Held | Refusal::There | Refusal::Changed => STREAM,
             Refusal::Damaged(_) | Refusal::Full | Refusal::Ended => REFUSED,
-            Refusal::Line(refused) => exit_of(refused.reason),
+            Refusal::Line(refused) if matches!(refused.reason, Reason::Memory) => MEMORY,
+            Refusal::Line(_) => REFUSED,
             Refusal::Refused(fault) => fault.exit(),
             Refusal::Memory => MEMORY,
         }

@@ -5,7 +5,6 @@ use crate::log_files::read_log_file;
 use crate::made_files::make_file;
 use crate::narrow_lines::Narrow;
 use crate::progress::{Watch, Watched};
-use crate::requests::Request;
 use crate::words::{columns_asked, records_asked, subject_asked};
 use clap::ArgMatches;
 use rq_found::{Plan, ShownLog, Trouble, begins_at};
@@ -18,9 +17,15 @@ use std::time::Instant;
 // The grain of each plan, in frames.
 const GRAIN: u32 = 1000;
 
-// Whether a command begins with the first record of a log, and so shows none that was carried on.
-fn begins_with_the_first(command: &str) -> bool {
-    matches!(command, "script" | "salvage")
+/// A command with its words, and the log that it is to show.
+#[derive(Clone, Copy)]
+pub(crate) struct Request<'a, 'w> {
+    /// The command's name.
+    pub(crate) name: &'a str,
+    pub(crate) words: &'a ArgMatches<'w>,
+    /// The name of the log's file.
+    pub(crate) file: &'a str,
+    pub(crate) log: ShownLog<'a>,
 }
 
 fn plan_of(words: &ArgMatches<'_>) -> Option<Plan> {
@@ -74,94 +79,48 @@ fn stats<R: Eprint + Clock + AllocGlobal + Threads + Sync, W: Write>(
     Ok(())
 }
 
-// Prints what a command shows that finds nothing.
-fn show<R: Eprint + Clock + AllocGlobal + Threads + Sync, W: Write>(
-    rt: &R,
-    asked: &Request<'_, '_>,
-    output: &mut W,
-) -> Result<(), Trouble> {
-    let (alloc, log, words) = (rt.alloc(), &asked.log, asked.words);
-    match asked.name {
-        "dump" => rq_look::dump(rt, alloc, log, &records_asked(words), output),
-        "report" => {
-            let (queue, json) = (words.get_one::<u32>("queue"), words.get_flag("json"));
-            rq_look::report(rt, alloc, log, queue, json, output)
-        }
-        "stats" => stats(rt, asked, output),
-        _ => rq_look::story(rt, alloc, subject_asked(words), log, output),
-    }
-}
-
+// Prints what a command shows. False answers that something is wrong with the log.
 fn perform<R: Eprint + Clock + AllocGlobal + Threads + Sync, W: Write>(
     rt: &R,
     asked: &Request<'_, '_>,
     output: &mut W,
 ) -> Result<bool, Trouble> {
+    let (alloc, log, words) = (rt.alloc(), &asked.log, asked.words);
     match asked.name {
-        "check" => check(rt, asked, output),
-        "script" => rq_look::script(rt, rt.alloc(), asked.log.bytes, asked.log.plan, output),
-        _ => {
-            show(rt, asked, output)?;
-            Ok(true)
+        "check" => return check(rt, asked, output),
+        "script" => return rq_look::script(rt, alloc, log.bytes, log.plan, output),
+        "dump" => rq_look::dump(rt, alloc, log, &records_asked(words), output)?,
+        "report" => {
+            let (queue, json) = (words.get_one::<u32>("queue"), words.get_flag("json"));
+            rq_look::report(rt, alloc, log, queue, json, output)?
         }
+        "stats" => stats(rt, asked, output)?,
+        _ => rq_look::story(rt, alloc, subject_asked(words), log, output)?,
     }
+    Ok(true)
 }
 
-// To how many columns a command cuts its lines, 0 for none. Those of a script are not cut.
-fn columns_of(name: &str, words: &ArgMatches<'_>, watch: Watch) -> u32 {
-    match name {
-        "script" => 0,
-        _ => columns_asked(words, watch.columns()),
-    }
-}
-
-// How far a command tells that its output is: only one that may be as long as the log.
-fn output_watch(name: &str, watch: Watch) -> Watch {
-    match name {
-        "dump" | "script" => watch.of_output(),
-        _ => watch.of_nothing(),
-    }
-}
-
-// Prints what a command shows on standard output.
+// Prints what a command shows on standard output. The lines of a script are not cut; and only what may
+// be as long as the log tells how far it is.
 fn print_shown<R>(rt: &R, asked: &Request<'_, '_>, watch: Watch) -> Result<bool, Trouble>
 where
     R: Print + Eprint + Clock + AllocGlobal + Threads + Sync,
 {
-    let (name, columns) = (asked.name, columns_of(asked.name, asked.words, watch));
-    let watched = Watched::new(rt, io::writer(rt), output_watch(name, watch), "written");
+    let columns = match asked.name {
+        "script" => 0,
+        _ => columns_asked(asked.words, watch.columns()),
+    };
+    let watch = match asked.name {
+        "dump" | "script" => watch.of_output(),
+        _ => watch.of_nothing(),
+    };
+    let watched = Watched::new(rt, io::writer(rt), watch, "written");
     let mut output = Narrow::new(rt.alloc(), watched, columns);
     perform(rt, asked, &mut output)
 }
 
-// Does the command on its log.
-fn act_on<R>(rt: &R, asked: &Request<'_, '_>, watch: Watch) -> Result<bool, Failure>
-where
-    R: Files + Print + Eprint + Clock + AllocGlobal + Threads + Sync,
-    R::File: AsFd,
-{
-    if asked.log.at.is_some() && begins_with_the_first(asked.name) {
-        return Err(of_file(rt, asked.file, FileTrouble::Carried));
-    }
-    if let Some(to) = asked.words.get_str("OUT") {
-        return make_file(rt, asked, to);
-    }
-    match print_shown(rt, asked, watch) {
-        Ok(fine) => Ok(fine),
-        Err(trouble) => Err(of_file(rt, asked.file, FileTrouble::Refused(trouble))),
-    }
-}
-
-// The file that the log is in.
-fn file_of<'a>(words: &'a ArgMatches<'_>) -> &'a str {
-    match words.get_str("LOG") {
-        Some(file) => file,
-        None => "-",
-    }
-}
-
 // Does the command of these words on the log.
-fn act_with<'a, R>(
+fn act_on<'a, R>(
     rt: &R,
     name: &'a str,
     words: &'a ArgMatches<'_>,
@@ -179,7 +138,25 @@ where
         file,
         log,
     };
-    act_on(rt, &asked, watch)
+    // These begin with the first record, and so show no log that was carried on.
+    if asked.log.at.is_some() && matches!(name, "script" | "salvage") {
+        return Err(of_file(rt, file, FileTrouble::Carried));
+    }
+    if let Some(to) = words.get_str("OUT") {
+        return make_file(rt, &asked, to);
+    }
+    match print_shown(rt, &asked, watch) {
+        Ok(fine) => Ok(fine),
+        Err(trouble) => Err(of_file(rt, file, FileTrouble::Refused(trouble))),
+    }
+}
+
+// The file that the log is in.
+fn file_of<'a>(words: &'a ArgMatches<'_>) -> &'a str {
+    match words.get_str("LOG") {
+        Some(file) => file,
+        None => "-",
+    }
 }
 
 /// Does the command of the words on its log. False answers that something is wrong with the log.
@@ -194,13 +171,12 @@ where
     let Some(plan) = plan_of(words) else {
         return Err(Failure::Workers);
     };
-    let file = file_of(words);
-    let bytes = read_log_file(rt, file, watch)?;
+    let bytes = read_log_file(rt, file_of(words), watch)?;
     watch.begins(rt, &bytes);
     let log = ShownLog {
         bytes: &bytes,
         at: begins_at(&bytes),
         plan: &plan,
     };
-    act_with(rt, name, words, log, watch)
+    act_on(rt, name, words, log, watch)
 }

@@ -19,6 +19,9 @@ const STREAM: u8 = 3;
 // The exit status if memory was refused.
 const MEMORY: u8 = 4;
 
+// What is said if memory is refused.
+const RESOURCES: &str = "resources";
+
 /// What is wrong with a file.
 #[derive(Drop)]
 pub(crate) enum FileTrouble {
@@ -84,17 +87,12 @@ fn tell_words(rt: &HostRuntime, words: &str, status: u8) -> u8 {
     status
 }
 
-// Says that memory is refused.
-fn memory_refused(rt: &HostRuntime) -> u8 {
-    tell_words(rt, "resources", MEMORY)
-}
-
 // Says that the output fails. One that was closed is no news. Lines that must fit a width take
 // memory on their way.
 fn output_failed(rt: &HostRuntime, error: &io::Error) -> u8 {
     match error.kind() {
         io::ErrorKind::BrokenPipe => 0,
-        io::ErrorKind::OutOfMemory => memory_refused(rt),
+        io::ErrorKind::OutOfMemory => tell_words(rt, RESOURCES, MEMORY),
         _ => {
             let _ = eprintln!(rt; "rqlook: standard output: {error}");
             STREAM
@@ -114,31 +112,23 @@ fn answer_words(rt: &HostRuntime, error: &clap::Error) -> u8 {
     }
 }
 
-// The name of a file, as it is told.
-fn told(file: &str) -> Seen<'_> {
-    Seen(shown_name(file))
-}
-
-fn refused(rt: &HostRuntime, file: &str, trouble: &Trouble) -> u8 {
-    if let Trouble::Output(error) = trouble {
-        return output_failed(rt, error);
-    }
-    let _ = eprintln!(rt; "rqlook: {}: {trouble}", told(file));
-    match trouble {
-        Trouble::Log(fault) => fault.exit(),
-        _ => REFUSED,
-    }
-}
-
 fn tell_file(rt: &HostRuntime, file: &str, trouble: &FileTrouble) -> u8 {
+    let name = Seen(shown_name(file));
     match trouble {
         FileTrouble::Stream(error) => {
-            let _ = eprintln!(rt; "rqlook: {}: {error}", told(file));
+            let _ = eprintln!(rt; "rqlook: {name}: {error}");
             STREAM
         }
-        FileTrouble::Refused(trouble) => refused(rt, file, trouble),
+        FileTrouble::Refused(Trouble::Output(error)) => output_failed(rt, error),
+        FileTrouble::Refused(trouble) => {
+            let _ = eprintln!(rt; "rqlook: {name}: {trouble}");
+            match trouble {
+                Trouble::Log(fault) => fault.exit(),
+                _ => REFUSED,
+            }
+        }
         FileTrouble::Carried => {
-            let _ = eprintln!(rt; "rqlook: {}: carried: use rqlog restart", told(file));
+            let _ = eprintln!(rt; "rqlook: {name}: carried: use rqlog restart");
             REFUSED
         }
     }
@@ -155,7 +145,7 @@ impl Failure {
             Failure::Same => tell_words(rt, "nothing is written over its log", USAGE),
             Failure::File(file, trouble) => tell_file(rt, file.as_str(), trouble),
             Failure::Output(error) => output_failed(rt, error),
-            Failure::Memory => memory_refused(rt),
+            Failure::Memory => tell_words(rt, RESOURCES, MEMORY),
         }
     }
 }

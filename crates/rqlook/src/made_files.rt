@@ -1,8 +1,8 @@
 //! The files that the program makes of a log.
 
+use crate::acts::Request;
 use crate::failures::{Failure, FileTrouble, of_file};
 use crate::log_files::{is_over_log, shown_name};
-use crate::requests::Request;
 use crate::words::{numbers_asked, order_asked};
 use rq_file::VERSION;
 use rq_found::{Fault, Trouble};

@@ -8,7 +8,6 @@ mod log_files;
 mod made_files;
 mod narrow_lines;
 mod progress;
-mod requests;
 mod words;
 
 use crate::acts::act;
@@ -51,19 +50,10 @@ where
     R: Files + Env + Input + Print + Eprint + Clock + AllocGlobal + Threads + Sync,
     R::File: AsFd,
 {
-    let all: Vec<String> = env::args(rt)
+    let words: Vec<String> = env::args(rt)
         .map_err(|error| unread(error))?
         .collect(rt.alloc())?;
-    obey(rt, all.as_slice(), watch)
-}
-
-// Does what these words ask for, of which the first is the program's name.
-fn obey<R>(rt: &R, words: &[String], watch: Watch) -> Result<bool, Failure>
-where
-    R: Files + Input + Print + Eprint + Clock + AllocGlobal + Threads + Sync,
-    R::File: AsFd,
-{
-    let matches = program(rt.alloc())?.try_get_matches_from(words)?;
+    let matches = program(rt.alloc())?.try_get_matches_from(words.as_slice())?;
     act(rt, &matches, watch)
 }
 

@@ -9,19 +9,15 @@ use rq_page::Order;
 use rq_words::commands;
 use std::alloc::{AllocError, Global};
 
-// The program without its commands.
-fn bare<'a>(alloc: Global) -> Command<'a> {
+/// The program's command.
+pub(crate) fn program<'a>(alloc: Global) -> Result<Command<'a>, AllocError> {
+    let commands = commands(alloc, subcommands())?;
     Command::new(alloc, "rqlook")
         .about("Shows what is in the log of a recoverable queue manager")
         .version(VERSION)
         .subcommand_required(true)
         .arg_required_else_help(true)
-}
-
-/// The program's command.
-pub(crate) fn program<'a>(alloc: Global) -> Result<Command<'a>, AllocError> {
-    let commands = commands(alloc, subcommands())?;
-    bare(alloc).subcommands(commands)
+        .subcommands(commands)
 }
 
 /// To how many columns the words want lines cut, 0 for none, if the output has so many where a person

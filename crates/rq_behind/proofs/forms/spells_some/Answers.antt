@@ -2,7 +2,7 @@ use Rattle.std.proofs.Common.{arith, subst, sym, ◌∙◌}
 use Rattle.std.specs.Prelude.{Bool, IsTrue, ◌↔◌}
 use Rattle.rq_record.specs.Views.{version_of}
 use Rattle.rq_behind.specs.Runs.{SpellsSome}
-use Rattle.rq_behind.proofs.Bodies.{spells_exactly}
+use Rattle.rq_behind.proofs.Ends.{spells_exactly}
 use Rattle.rq_behind.proofs.forms.spells_some.Goals as goal
 
 pub returns : goal.returns

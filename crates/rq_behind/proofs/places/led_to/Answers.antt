@@ -1,5 +1,5 @@
 use Rattle.std.proofs.Common.{◌+◌, arith}
-use Rattle.rq_behind.proofs.Seeking.{leads_on}
+use Rattle.rq_behind.proofs.Sound.{leads_on}
 use Rattle.rq_behind.proofs.places.led_to.Goals as goal
 
 pub returns-in-Some : goal.returns-in-Some

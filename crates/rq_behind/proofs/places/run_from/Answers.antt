@@ -1,6 +1,6 @@
 use Rattle.std.proofs.Common.{arith}
 use Rattle.rq_record.specs.Views.{version_of}
-use Rattle.rq_behind.proofs.Seeking.{none_more, run_place}
+use Rattle.rq_behind.proofs.Sound.{none_more, run_place}
 use Rattle.rq_behind.proofs.places.run_from.Goals as goal
 
 pub returns-in-Some : goal.returns-in-Some

@@ -1,6 +1,6 @@
 use Rattle.rq_record.specs.Views.{version_of}
 use Rattle.rq_behind.specs.Runs.{LooksRight, EndsOr}
-use Rattle.rq_behind.proofs.Seeking.{stands_there}
+use Rattle.rq_behind.proofs.Ends.{stands_there}
 use Rattle.rq_behind.proofs.runs.looks_like_run.Goals as goal
 
 pub returns-else-second-bytes : goal.returns-else-second-bytes

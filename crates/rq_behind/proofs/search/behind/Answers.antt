@@ -1,4 +1,4 @@
-use Rattle.std.proofs.Common.{◌≡◌, ◌∙◌, ℕ, ◌+◌, ◌-◌, List, [], ◌∷◌, ◌++◌, drop, Option, Some, None, sym, ap, subst, arith}
+use Rattle.std.proofs.Common.{◌≡◌, ◌∙◌, ℕ, ◌+◌, ◌-◌, List, [], ◌∷◌, ◌++◌, drop, Option, sym, ap, subst, arith}
 use Rattle.std.proofs.lemmas.List.Sums.{sum_by_push}
 use Rattle.rq_model.specs.Frames.{stated}
 use Rattle.rq_front.specs.declared.spans.Span.{Span}
@@ -41,35 +41,15 @@ frames-preserved c =
 
 pub returns-in-Nowhere-clause-found : goal.returns-in-Nowhere-clause-found
 returns-in-Nowhere-clause-found c =
-    found_all (version_of c.args.version) c.args.bytes.now c.args.from c.frames.at c.frames.spans.items None
-    c.frames.invariant.found c.in-Nowhere.ensures
+    found_all (version_of c.args.version) c.args.bytes.now c.args.from c.frames.at c.frames.spans.items
+    c.in-Nowhere.gave_up c.frames.invariant.found c.in-Nowhere.ensures
 
 pub returns-in-Nowhere-clause-right : goal.returns-in-Nowhere-clause-right
 returns-in-Nowhere-clause-right c =
-    found_right (version_of c.args.version) c.args.bytes.now c.args.from c.frames.spans.items None
-    (found_all (version_of c.args.version) c.args.bytes.now c.args.from c.frames.at c.frames.spans.items None
-    c.frames.invariant.found c.in-Nowhere.ensures)
+    found_right (version_of c.args.version) c.args.bytes.now c.args.from c.frames.spans.items c.in-Nowhere.gave_up
+    (returns-in-Nowhere-clause-found c)
 
 pub returns-in-Nowhere-clause-apart : goal.returns-in-Nowhere-clause-apart
 returns-in-Nowhere-clause-apart c =
-    found_apart (version_of c.args.version) c.args.bytes.now c.args.from c.frames.spans.items None c.requires.within
-    (found_all (version_of c.args.version) c.args.bytes.now c.args.from c.frames.at c.frames.spans.items None
-    c.frames.invariant.found c.in-Nowhere.ensures)
-
-pub returns-in-GaveUp-clause-found : goal.returns-in-GaveUp-clause-found
-returns-in-GaveUp-clause-found c =
-    found_all (version_of c.args.version) c.args.bytes.now c.args.from c.frames.at c.frames.spans.items
-    (Some c.in-GaveUp.place) c.frames.invariant.found c.in-GaveUp.ensures
-
-pub returns-in-GaveUp-clause-right : goal.returns-in-GaveUp-clause-right
-returns-in-GaveUp-clause-right c =
-    found_right (version_of c.args.version) c.args.bytes.now c.args.from c.frames.spans.items (Some c.in-GaveUp.place)
-    (found_all (version_of c.args.version) c.args.bytes.now c.args.from c.frames.at c.frames.spans.items
-    (Some c.in-GaveUp.place) c.frames.invariant.found c.in-GaveUp.ensures)
-
-pub returns-in-GaveUp-clause-apart : goal.returns-in-GaveUp-clause-apart
-returns-in-GaveUp-clause-apart c =
-    found_apart (version_of c.args.version) c.args.bytes.now c.args.from c.frames.spans.items (Some c.in-GaveUp.place)
-    c.requires.within
-    (found_all (version_of c.args.version) c.args.bytes.now c.args.from c.frames.at c.frames.spans.items
-    (Some c.in-GaveUp.place) c.frames.invariant.found c.in-GaveUp.ensures)
+    found_apart (version_of c.args.version) c.args.bytes.now c.args.from c.frames.spans.items c.in-Nowhere.gave_up
+    c.requires.within (returns-in-Nowhere-clause-found c)

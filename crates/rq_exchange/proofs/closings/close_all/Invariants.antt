@@ -1,6 +1,6 @@
 use Rattle.std.proofs.Common.{◌≡◌, length, map, reverse}
 use Rattle.rq_exchange.proofs.Words.{history_of, IsSettled, Halfway}
-use Rattle.rq_pool.specs.Countdowns.Closings.{histories_of}
+use Rattle.rq_pool.specs.Countdowns.Words.{histories_of}
 use Rattle.rq_exchange.proofs.closings.close_all.Given as goal
 
 abbrev pub invariant-loop-countdown : goal.invariant-loop-countdown

@@ -1,6 +1,6 @@
 use Rattle.std.proofs.Common.{◌≡◌, length, map, sym, ◌∙◌}
 use Rattle.rq_exchange.proofs.Words.{at, WorkDone, AreColumns, map-map, All-map}
-use Rattle.rq_exchange.proofs.Settles.{columns_own, columns_tell, columns_show}
+use Rattle.rq_exchange.proofs.Working.{columns_own, columns_tell, columns_show}
 use Rattle.rq_exchange.proofs.closings.close_countdowns.Goals.{In_ok-columns}
 use Rattle.rq_exchange.proofs.closings.close_countdowns.Goals as goal
 
@@ -17,14 +17,13 @@ turned c = rw (c.in_ok-rows.ensures.passes, c.len.ensures ∙ c.args.chain.count
 
 pub close_all-requires : goal.close_all-requires
 close_all-requires c = record {
-  own = columns_own (λ (k : WorkDone). k.passes) c.args.chain c.args.kept.items c.in_ok-columns.columns.items
-      c.requires.kept c.requires.passes c.requires.some (turned (goal.at.close_all-requires c).In_ok-columns);
+  own = columns_own (λ (k : WorkDone). k.passes) _ _ _ c.requires.kept c.requires.passes c.requires.some
+      (turned (goal.at.close_all-requires c).In_ok-columns);
 }
 
 pub returns-clause-settled : goal.returns-clause-settled
-returns-clause-settled c = columns_tell (λ (k : WorkDone). k.passes) c.args.chain c.args.kept.items
-    c.in_ok-columns.columns.items c.requires.kept c.requires.passes c.requires.some
-    (turned (goal.at.returns-clause-settled c).In_ok-columns) c.in_ok-closings.ensures.settled
+returns-clause-settled c = columns_tell (λ (k : WorkDone). k.passes) _ _ _ c.requires.kept c.requires.passes
+    c.requires.some (turned (goal.at.returns-clause-settled c).In_ok-columns) c.in_ok-closings.ensures.settled
 
 pub returns-clause-course : goal.returns-clause-course
 returns-clause-course c =
@@ -32,7 +31,6 @@ returns-clause-course c =
     record {
       redone = rw (course.redone, c.in_ok-rows.ensures.done, map-map);
       told = λ x there. rw (course.closings, course.slots, c.in_ok-closings.ensures.histories)
-          (columns_show (λ (k : WorkDone). k.passes) c.args.chain c.args.kept.items c.in_ok-columns.columns.items
-          c.requires.kept c.requires.passes c.requires.some (turned (goal.at.returns-clause-course c).In_ok-columns)
-          (at c.args.chain.slots.items x) there);
+          (columns_show (λ (k : WorkDone). k.passes) _ _ _ c.requires.kept c.requires.passes c.requires.some
+          (turned (goal.at.returns-clause-course c).In_ok-columns) (at c.args.chain.slots.items x) there);
     }

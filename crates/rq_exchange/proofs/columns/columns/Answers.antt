@@ -1,7 +1,7 @@
-use Rattle.std.proofs.Common.{◌≡◌, length, Vec, Global, ◌∙◌, rules}
+use Rattle.std.proofs.Common.{◌≡◌, length, Vec, Global, ◌∙◌}
 use Rattle.rq_exchange.proofs.Words.{length_push, map_push}
 use Rattle.rq_exchange.proofs.Pairs.{some_of}
-use Rattle.rq_exchange.proofs.Loops.{next_has, all_came}
+use Rattle.rq_exchange.proofs.Loops.{next_has}
 use Rattle.rq_exchange.proofs.columns.columns.Goals as goal
 
 pub loop-row-preserved : goal.loop-row-preserved
@@ -17,8 +17,3 @@ loop-row-preserved g c =
           rw (c.in_ok-spread.ensures.spread k d d x (rw i.len lt), length_push, i.long k d lt, length_push);
       each = λ k d x lt. rw (c.in_ok-spread.ensures.spread k d d x (rw i.len lt), i.each k d x lt, map_push);
     }
-
-pub returns-clause-columns : goal.returns-clause-columns
-returns-clause-columns g c =
-    let came : c.loop-row.yielded ≡ c.args.rows.items = search (rules, all_came) in
-    rw came at c.loop-row.invariant

@@ -50,16 +50,10 @@ pub finish-requires : goal.finish-requires
 finish-requires g c =
     let d = (goal.at.finish-requires g c).In_ok-seats in
     let keep = (back g d).keep in
+    let long = pairs_long (HasKept c.args.job.now c.args.chain.now) _ _ keep in
     let first : HasKept c.args.job.now c.args.chain.now (slice_index_or (map taken_of c.in_ok-seats.seats.items) 0 [])
-    c.index_mut.result.now = rw c.index_mut.ensures.value (pairs_at (HasKept c.args.job.now c.args.chain.now)
-    (map taken_of c.in_ok-seats.seats.items) c.in_ok-seats.kept.items keep 0 [] c.index_mut.result.now
-    (omega (
-      arith,
-      threads g d,
-      c.requires.count.0,
-      pairs_long (HasKept c.args.job.now c.args.chain.now)
-          (map taken_of c.in_ok-seats.seats.items) c.in_ok-seats.kept.items keep,
-    ))) in
+    c.index_mut.result.now = rw c.index_mut.ensures.value (pairs_at (HasKept c.args.job.now c.args.chain.now) _ _ keep 0
+    [] c.index_mut.result.now (omega (arith, long, threads g d, c.requires.count.0))) in
     record {
       job = c.requires.job;
       chain = c.requires.chain;
@@ -75,8 +69,7 @@ finish-requires g c =
 pub returns-clause-kept : goal.returns-clause-kept
 returns-clause-kept g c =
     let d = (goal.at.returns-clause-kept g c).In_ok-seats in
-    taken_over c.args.job.now c.args.chain.now (map taken_of c.in_ok-seats.seats.items) c.in_ok-seats.kept.items
-    c.left.result.now c.args.tasks.now (deal_of c.in_ok-room.room) c.index_mut.result.now c.finish.new.kept
+    taken_over c.args.job.now c.args.chain.now _ _ c.left.result.now c.args.tasks.now (deal_of c.in_ok-room.room) _ _
     (back g d).keep (omega (arith, threads g d, c.requires.count.0)) c.index_mut.ensures.value
     (λ s keeps. record {
       passes = c.in_ok-finish.ensures.passes;

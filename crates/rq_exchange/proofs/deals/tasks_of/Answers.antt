@@ -1,10 +1,8 @@
 use Rattle.std.proofs.Common.{arith}
-use Rattle.rq_exchange.proofs.Words.{listed_at, nil_from_length}
-use Rattle.rq_exchange.proofs.Tasks.{bare_stays, bare_more}
+use Rattle.rq_exchange.proofs.Words.{nil_from_length}
+use Rattle.rq_state.proofs.Listings.{listed_at}
+use Rattle.rq_exchange.proofs.Sources.{bare_stays, bare_more}
 use Rattle.rq_exchange.proofs.deals.tasks_of.Goals as goal
-
-pub loop-queue-init : goal.loop-queue-init
-loop-queue-init c = grind arith
 
 pub loop-queue-preserved-then-not-is_empty : goal.loop-queue-preserved-then-not-is_empty
 loop-queue-preserved-then-not-is_empty c =

@@ -1,6 +1,6 @@
 use Rattle.std.proofs.Common.{◌<◌, ◌==◌, ◌∙◌, length, get_or, arith, rules, ap, take}
 use Rattle.rq_exchange.proofs.Words.{common_steps, length-take, cases_Bool, take_more}
-use Rattle.rq_exchange.proofs.Indices.{few_from, indices_push}
+use Rattle.rq_exchange.proofs.Counting.{few_from, indices_push}
 use Rattle.rq_exchange.proofs.Sources.{ranks_more}
 use Rattle.rq_exchange.proofs.links.sources_of.Goals as goal
 
@@ -10,14 +10,10 @@ list-requires c =
     let e = get_or c.args.errors.now k 0 in
     let i = c.loop-queue.invariant in
     record {
-      few =
-          λ within. omega (
-            arith,
-            few_from (λ n. n == e) 0 (take k c.args.errors.now),
-            length-take k c.args.errors.now,
-            ap length (i.1 e (omega (arith, within, i.0))),
-            c.requires,
-          );
+      few = λ within.
+          let listed = ap length (i.1 e (omega (arith, within, i.0))) in
+          let few = few_from (λ n. n == e) 0 (take k c.args.errors.now) in
+          omega (arith, length-take k c.args.errors.now, c.requires);
     }
 
 pub loop-queue-preserved : goal.loop-queue-preserved

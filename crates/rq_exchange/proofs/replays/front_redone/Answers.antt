@@ -14,8 +14,7 @@ many g c = c.lawful-count.ensures ∙ c.in_ok-analysis.ensures.analysis.lawful
 
 first : (g : _) (c : After-lawful-count g)
     → map record_of (take c.lawful-count.result c.args.records.now) ≡ front g c
-first g c = kept_is (version_of c.args.version) c.args.state.now c.args.records.now
-    (take c.lawful-count.result c.args.records.now) c.lawful-count.result refl (many g c)
+first g c = kept_is (version_of c.args.version) c.args.state.now c.args.records.now _ _ refl (many g c)
 
 lawful : (g : _) (c : After-lawful-count g)
     → all_lawful (version_of c.args.version) c.args.state.now (front g c) ≡ true
@@ -24,14 +23,9 @@ lawful g c = (parted (version_of c.args.version) c.args.state.now (map record_of
 pub slice_bounds-lawful-end : goal.slice_bounds-lawful-end
 slice_bounds-lawful-end g c =
     let p = parted (version_of c.args.version) c.args.state.now (map record_of c.args.records.now) in
-    omega (
-      arith,
-      length-take c.lawful-count.result c.args.records.now,
-      many g c,
-      ap length p.whole,
-      length-append (front g c) p.more,
-      length-map c.args.records.now record_of,
-    )
+    let parts = length-append (front g c) p.more in
+    let some = length-take c.lawful-count.result c.args.records.now in
+    omega (arith, many g c, ap length p.whole, length-map c.args.records.now record_of)
 
 -- a replay wants what version 2 says of them
 pub replay_analysed-requires-clause-lawful : goal.replay_analysed-requires-clause-lawful
@@ -43,9 +37,8 @@ replay_analysed-requires-clause-lawful g c = λ κs within.
 pub replay_analysed-requires-clause-analysis : goal.replay_analysed-requires-clause-analysis
 replay_analysed-requires-clause-analysis g c = λ κs within.
     let d = (goal.at.replay_analysed-requires-clause-analysis g c).After-lawful-count in
-    rw (first g d) (analysis_is_wider c.versions.ensures.two (version_of c.args.version) c.args.state.now (front g d)
-    c.in_ok-analysis.analysis (lawful g d) (analysis_of_front (version_of c.args.version) c.args.state.now
-    (map record_of c.args.records.now) c.in_ok-analysis.analysis c.in_ok-analysis.ensures.analysis))
+    rw (first g d) (analysis_is_wider c.versions.ensures.two (version_of c.args.version) _ _ _ (lawful g d)
+    (analysis_of_front _ _ _ _ c.in_ok-analysis.ensures.analysis))
 
 pub returns-clause-redone : goal.returns-clause-redone
 returns-clause-redone g c =

@@ -3,7 +3,7 @@ use Rattle.rq_exchange.proofs.Words.{All-map, AreBare, HasKept, IsRedone, WorkDo
 use Rattle.rq_exchange.specs.declared.outboxes.Redone.{Redone}
 use Rattle.rq_exchange.proofs.Courses.{starts_by_last}
 use Rattle.rq_exchange.proofs.Pairs.{all_second}
-use Rattle.rq_exchange.proofs.Wholes.{whole}
+use Rattle.rq_exchange.proofs.Courses.{whole}
 use Rattle.rq_exchange.proofs.replays.redo_all.Goals.{In_ok-all}
 use Rattle.rq_exchange.proofs.replays.redo_all.Goals as goal
 
@@ -14,9 +14,8 @@ close_countdowns-requires-clause-kept g c = all_second (HasKept c.args.job.now c
 -- what all threads redid is right
 done : (g : _) (c : In_ok-all g) → All (λ done. All (IsRedone c.args.job.now) done.items) c.in_ok-all.all.items
 done g c = rw c.in_ok-all.ensures.done (All-map (λ (done : Vec Redone Global). All (IsRedone c.args.job.now) done.items)
-    (λ (k : WorkDone). k.done) c.in_ok-kept.kept.items (all_second (HasKept c.args.job.now c.in_ok-chain.chain)
-    (λ k. All (IsRedone c.args.job.now) k.done.items) (λ s k h. h.done) c.in_ok-kept.ensures.kept.starts
-    c.in_ok-kept.kept.items c.in_ok-kept.ensures.kept.keep))
+    (λ (k : WorkDone). k.done) c.in_ok-kept.kept.items (all_second (HasKept c.args.job.now c.in_ok-chain.chain) _
+    (λ s k h. h.done) _ _ c.in_ok-kept.ensures.kept.keep))
 
 pub placed-requires : goal.placed-requires
 placed-requires g c = let all = done g (goal.at.placed-requires g c).In_ok-all in
@@ -30,15 +29,13 @@ bare_in g c = rw (← c.requires.job.tables, c.deref.ensures.value) c.in_ok-task
 pub returns-clause-parts : goal.returns-clause-parts
 returns-clause-parts g c = λ x near.
     let d = (goal.at.returns-clause-parts g c).In_ok-all in
-    let one = whole c.args.job.now c.in_ok-chain.chain c.in_ok-chain.ensures.chain c.deref.result.now (bare_in g d)
-    c.in_ok-kept.kept.items c.in_ok-kept.ensures.kept c.in_ok-all.ensures.settled x
-    (omega (arith, near, c.in_ok-parts.ensures.size)) in
+    let one = whole _ _ c.in_ok-chain.ensures.chain _ (bare_in g d) _ c.in_ok-kept.ensures.kept
+    c.in_ok-all.ensures.settled x (omega (arith, near, c.in_ok-parts.ensures.size)) in
     c.in_ok-parts.ensures.placed (run c.args.job.now.state.now (records_of c.args.job.now))
     (λ i v lt j e l. (done g d i v lt j e l).1) x (rw (c.in_ok-all.ensures.done, map-map) (omega (arith, one)))
 
 pub returns-clause-course : goal.returns-clause-course
 returns-clause-course g c =
     let bare = bare_in g (goal.at.returns-clause-course g c).In_ok-all in
-    starts_by_last c.args.job.now c.in_ok-chain.chain c.requires.job c.in_ok-chain.ensures.chain c.deref.result.now bare
-    c.in_ok-kept.kept.items c.in_ok-kept.ensures.kept c.in_ok-all.ensures.settled c.in_ok-all.course
-    c.in_ok-all.ensures.course
+    starts_by_last _ _ c.requires.job c.in_ok-chain.ensures.chain _ bare _ c.in_ok-kept.ensures.kept
+    c.in_ok-all.ensures.settled _ c.in_ok-all.ensures.course

@@ -1,13 +1,8 @@
-use Rattle.std.proofs.Common.{◌≡◌, ◌++◌, [], ◌∷◌, map, drop}
-use Rattle.std.specs.List.{flat_map}
-use Rattle.std.specs.Prelude.{slice_index_or}
-use Rattle.rq_model.specs.States as model
+use Rattle.std.proofs.Common.{◌≡◌, ◌++◌, map, drop}
 use Rattle.rq_found.specs.Registrants.{registrant_entry, registrant_told}
 use Rattle.rq_found.proofs.registrants.registrants_shown.Given as goal
 
--- those found, and those at the indices that are left, are those at all indices
-abbrev pub invariant-loop-at : goal.invariant-loop-at
-invariant-loop-at l =
-    (x : model.Registrant) → map registrant_told l.found.items
-    ++ flat_map (λ index. registrant_entry (slice_index_or l.state.registrants index x) ∷ []) (drop l.at-index l.at-items)
-    ≡ flat_map (λ index. registrant_entry (slice_index_or l.state.registrants index x) ∷ []) l.at-items
+-- those found, and those that are left, are all
+abbrev pub invariant-loop-r : goal.invariant-loop-r
+invariant-loop-r l = map registrant_told l.found.items ++ map registrant_entry (drop l.r-index l.r-items)
+    ≡ map registrant_entry l.r-items

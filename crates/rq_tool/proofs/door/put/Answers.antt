@@ -1,8 +1,8 @@
 use Rattle.std.proofs.Common.{List, ℕ, subst, sym}
 use Rattle.rq_report.specs.Streams.{Delivers}
 use Rattle.rq_tool.specs.Works.{IsTextOf, IsWhyNot}
-use Rattle.rq_tool.specs.declared.door.Work.TheVariants as works
-use Rattle.rq_tool.proofs.Writing.{delivers_puts}
+use Rattle.rq_tool.specs.declared.works.Work.TheVariants as works
+use Rattle.rq_tool.proofs.Made.{delivers_puts}
 use Rattle.rq_tool.proofs.door.put.Goals as goal
 
 pub returns-in-Report : goal.returns-in-Report

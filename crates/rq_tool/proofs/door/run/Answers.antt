@@ -1,4 +1,4 @@
-use Rattle.rq_tool.proofs.Writing.{writes_only, writes_runs}
+use Rattle.rq_tool.proofs.Made.{writes_only, writes_runs}
 use Rattle.rq_tool.proofs.door.run.Goals as goal
 
 pub returns-clause-runs : goal.returns-clause-runs

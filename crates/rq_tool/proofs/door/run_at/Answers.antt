@@ -5,7 +5,7 @@ use Rattle.rq_front.specs.Chains.{IsLog}
 use Rattle.rq_judged.specs.Refusals.{RefusedAt}
 use Rattle.rq_record.specs.declared.fault.Fault.TheVariants.{Resources}
 use Rattle.rq_tool.specs.Works.{HasNoReportAt}
-use Rattle.rq_tool.proofs.Writing.{writes_else}
+use Rattle.rq_tool.proofs.Made.{writes_else}
 use Rattle.rq_tool.proofs.door.run_at.Goals as goal
 
 pub returns-clause-runs : goal.returns-clause-runs

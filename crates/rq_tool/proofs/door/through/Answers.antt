@@ -2,12 +2,10 @@ use Rattle.std.proofs.Common.{List, ℕ, subst}
 use Rattle.std.specs.Prelude.{Ok, Err}
 use Rattle.std.proofs.lemmas.Result.{err_from_is_err_and}
 use Rattle.rq_front.specs.Chains.{Refused}
-use Rattle.rq_tool.specs.Streams.{ReadsFile}
+use Rattle.rq_tool.specs.Streams.{ReadsFile, Writes}
 use Rattle.rq_tool.specs.Works.{IsTextOf, IsWhyNot}
-use Rattle.rq_tool.specs.Written.{Writes}
 use Rattle.rq_tool.proofs.Reading.{all_taken, told_of}
-use Rattle.rq_tool.proofs.Made.{refuses}
-use Rattle.rq_tool.proofs.Writing.{puts_writes, unread_writes}
+use Rattle.rq_tool.proofs.Made.{refuses, puts_writes, unread_writes}
 use Rattle.rq_tool.proofs.door.through.Goals as goal
 
 pub returns-in_err-bytes-clause-writes : goal.returns-in_err-bytes-clause-writes

@@ -2,12 +2,10 @@ use Rattle.std.proofs.Common.{◌≤◌, List, ℕ, length, subst, sym}
 use Rattle.std.specs.Prelude.{Ok, Err}
 use Rattle.std.proofs.lemmas.Result.{err_from_is_err_and}
 use Rattle.rq_record.specs.Views.{version_of}
-use Rattle.rq_tool.specs.Streams.{IsOverlong, ReadsFile}
-use Rattle.rq_tool.specs.Written.{Writes}
-use Rattle.rq_tool.specs.Scripts.{HasNoLog, IsLogOf}
+use Rattle.rq_tool.specs.Streams.{IsOverlong, ReadsFile, Writes}
+use Rattle.rq_tool.specs.Works.{HasNoLog, IsLogOf}
 use Rattle.rq_tool.proofs.Reading.{all_taken, told_of}
-use Rattle.rq_tool.proofs.Writing.{puts_writes, unread_writes}
-use Rattle.rq_tool.proofs.Made.{overlong}
+use Rattle.rq_tool.proofs.Made.{puts_writes, unread_writes, overlong}
 use Rattle.rq_tool.proofs.made_logs.make_log_in.Goals as goal
 
 pub returns-in_err-script-clause-makes : goal.returns-in_err-script-clause-makes

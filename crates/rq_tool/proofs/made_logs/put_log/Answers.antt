@@ -5,9 +5,8 @@ use Rattle.std.proofs.lemmas.Result.{err_from_is_err_and}
 use Rattle.rq_record.specs.Views.{version_of}
 use Rattle.rq_report.specs.Streams.{Delivers}
 use Rattle.rq_writer.specs.Made.{Made}
-use Rattle.rq_tool.specs.Scripts.{HasNoLog, IsLogOf}
-use Rattle.rq_tool.proofs.Writing.{delivers_puts, puts_none}
-use Rattle.rq_tool.proofs.Made.{unmade}
+use Rattle.rq_tool.specs.Works.{HasNoLog, IsLogOf}
+use Rattle.rq_tool.proofs.Made.{delivers_puts, puts_none, unmade}
 use Rattle.rq_tool.proofs.made_logs.put_log.Goals as goal
 
 pub returns-in_err-log : goal.returns-in_err-log

@@ -1,6 +1,6 @@
 use Rattle.std.proofs.Common.{length, ◌-◌, ◌≡◌, ◌≤◌, take, drop}
 use Rattle.rq_writer.specs.Reading.{cut_at}
-use Rattle.rq_writer.proofs.Cuts.{past}
+use Rattle.rq_writer.proofs.Parts.{past}
 use Rattle.rq_writer.proofs.fields.split_once.Given as goal
 
 abbrev pub invariant-loop-at : goal.invariant-loop-at

@@ -1,7 +1,7 @@
 use Rattle.std.proofs.Common.{rules, Bor, Vec, Global, List, [], ◌∷◌, ◌++◌, ℕ}
 use Rattle.std.specs.Prelude.{⊤}
 use Rattle.std.proofs.lemmas.Result.{err_from_is_err_and}
-use Rattle.rq_writer.proofs.Cuts.{cut_shorter}
+use Rattle.rq_writer.proofs.Parts.{cut_shorter}
 use Rattle.rq_writer.proofs.Steps.{nonzero, making_more, no_line_stops, line_stops}
 use Rattle.rq_writer.proofs.made_logs.make_in.Goals as goal
 

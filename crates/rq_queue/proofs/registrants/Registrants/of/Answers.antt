@@ -1,28 +1,24 @@
-use Rattle.std.proofs.Common.{[], None, ℕ, arith}
-use Rattle.std.specs.Prelude.{slice_index_or}
-use Rattle.rq_model.specs.States as model
-use Rattle.rq_queue.proofs.Registered.{comes_last, rolls_on, rolled}
+use Rattle.std.proofs.Common.{◌∙◌, ap, map, sym, subst, List}
+use Rattle.rq_model.specs.States.{Registrant}
+use Rattle.rq_queue.specs.Roll.{IsRoll, registrant_of, entry_of}
+use Rattle.rq_queue.proofs.Registered.{own_rise, own_again, first_begins, second_begins, second_ends}
 use Rattle.rq_queue.proofs.registrants.Registrants.of.Goals as goal
 
-abbrev nobody : model.Registrant
-nobody = record { queue = 0; name = []; last = None }
+pub fill-requires-clause-rise : goal.fill-requires-clause-rise
+fill-requires-clause-rise c = subst (λ (rs : List Registrant). IsRoll (map entry_of rs)) (sym c.registrants_of-own.ensures)
+    (own_rise c.args.queue.0 c.args.state.now.registrants c.is_well_formed.ensures.registrants_rise)
 
-pub push-requires : goal.push-requires
-push-requires c = comes_last c.args.queue.0 c.args.state.now.registrants
-    (λ (index : ℕ). slice_index_or c.args.state.now.registrants index nobody) c.registrants_of-at-items.result.now
-    (c.registrants_of-at-items.ensures.registrants nobody) c.loop-at.all c.loop-at.at-index 0
-    c.registrant.result.now (omega (arith, c.loop-at-test.true)) (c.registrant.ensures nobody)
-    (c.loop-at.invariant nobody) c.is_well_formed.ensures.registrants_rise
+pub fill-requires-clause-early : goal.fill-requires-clause-early
+fill-requires-clause-early c = c.none-all.ensures ∙ first_begins (map entry_of c.registrants_of-own.result.now)
 
-pub loop-at-preserved : goal.loop-at-preserved
-loop-at-preserved c = λ x. rolls_on c.args.queue.0 c.args.state.now.registrants
-    (λ (index : ℕ). slice_index_or c.args.state.now.registrants index x) c.registrants_of-at-items.result.now
-    (c.registrants_of-at-items.ensures.registrants x) c.loop-at.all c.push.new.self c.loop-at.at-index 0
-    c.registrant.result.now (omega (arith, c.loop-at-test.true)) (c.registrant.ensures x)
-    (c.loop-at.invariant x) c.in_ok-push.ensures.done
+pub fill-requires-2-clause-rise : goal.fill-requires-2-clause-rise
+fill-requires-2-clause-rise c = subst (λ (rs : List Registrant). IsRoll (map entry_of rs)) (sym c.registrants_of-own.ensures)
+    (own_rise c.args.queue.0 c.args.state.now.registrants c.is_well_formed.ensures.registrants_rise)
+
+pub fill-requires-2-clause-early : goal.fill-requires-2-clause-early
+fill-requires-2-clause-early c = c.in_ok-fill.ensures.done ∙ second_begins (map entry_of c.registrants_of-own.result.now)
 
 pub returns-clause-done : goal.returns-clause-done
-returns-clause-done c = rolled c.args.queue.0 c.args.state.now.registrants
-    (λ (index : ℕ). slice_index_or c.args.state.now.registrants index nobody) c.registrants_of-at-items.result.now
-    (c.registrants_of-at-items.ensures.registrants nobody) c.loop-at.all c.loop-at.at-index
-    (omega (arith, c.loop-at-test.false)) (c.loop-at.invariant nobody)
+returns-clause-done c = ap (map (registrant_of c.args.queue.0)) (c.in_ok-fill-2.ensures.done
+    ∙ (second_ends (map entry_of c.registrants_of-own.result.now) ∙ ap (map entry_of) c.registrants_of-own.ensures))
+    ∙ own_again c.args.queue.0 c.args.state.now.registrants

@@ -2,7 +2,7 @@ use Rattle.std.proofs.Common.{◌≡◌, List, length, map, sym, ap, ◌∙◌, 
 use Rattle.rq_model.specs.States.{State, Definition, id_before, registrant_before}
 use Rattle.rq_model.specs.WellFormed.{IsWellFormed}
 use Rattle.rq_model.specs.Queues.{Part, part_of}
-use Rattle.rq_model.specs.Laws.{gathered}
+use Rattle.rq_state.specs.Laws.{gathered}
 use Rattle.rq_record.specs.declared.record.UnitNo.{UnitNo}
 use Rattle.rq_state.specs.Views.{unit_of}
 use Rattle.rq_state.specs.Inside.{state_of}

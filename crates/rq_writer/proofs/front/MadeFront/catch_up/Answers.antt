@@ -1,6 +1,6 @@
 use Rattle.std.proofs.Common.{ap, length, refl, arith}
 use Rattle.rq_record.specs.Views.{version_of}
-use Rattle.rq_writer.proofs.Fronting.{behind_fits, ended_is, caught}
+use Rattle.rq_writer.proofs.Splitting.{behind_fits, ended_is, caught}
 use Rattle.rq_writer.proofs.front.MadeFront.catch_up.Goals as goal
 
 pub returns-then-self-clause-state : goal.returns-then-self-clause-state

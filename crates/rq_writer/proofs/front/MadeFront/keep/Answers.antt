@@ -1,6 +1,6 @@
 use Rattle.std.proofs.Common.{[], ◌∷◌, ◌++◌, ap, ◌∙◌}
 use Rattle.rq_record.specs.Views.{Record}
-use Rattle.rq_writer.proofs.Fronting.{pushed, let_go}
+use Rattle.rq_writer.proofs.Splitting.{pushed, let_go}
 use Rattle.rq_writer.proofs.front.MadeFront.keep.Goals as goal
 
 pub returns-in_ok-push-clause-kept : goal.returns-in_ok-push-clause-kept

@@ -1,0 +1,144 @@
+-- The appender of a judged front, of a log or from a checkpoint on, and records behind the front.
+use Rattle.std.proofs.Common.{◌≡◌, ℕ, ◌≤◌, List, ◌∷◌, length, drop, ap, arith, [], ◌++◌, take, sym, subst, ◌∙◌}
+use Rattle.std.proofs.lemmas.List.{length-append, length-drop, append-nil, take-append-drop}
+use Rattle.std.specs.Prelude.{Some}
+use Rattle.rq_model.specs.Records.{Record, Checkpoint, Version}
+use Rattle.rq_model.specs.Frames.{log_limit, header, start, log_of, frames_of, before}
+use Rattle.rq_model.specs.Fronts.{IsFront}
+use Rattle.rq_model.proofs.Longest.{front_whole, log_joins}
+use Rattle.rq_model.proofs.Restarts.{header_long}
+use Rattle.rq_model.specs.Appending.{CrashWhileAppending, AppendedIsFront}
+use Rattle.rq_judged.specs.declared.judged.JudgedFront.{JudgedFront}
+use Rattle.rq_judged.specs.JudgedFronts.{IsJudged, IsJudgedAt}
+use Rattle.rq_journal.specs.Appenders.{length_with, behind_header, AppendsEach, AppendsUpTo}
+use Rattle.rq_journal.specs.Openings.{IsOpened, IsOpenedAt, AreWrittenBehind, IsHeldBack}
+use Rattle.rq_journal.specs.declared.appender.Appender.{Appender}
+use Rattle.rq_journal.specs.declared.appender.NotTaken.{NotTaken}
+use Rattle.rq_journal.specs.declared.opened_logs.Opened.{Opened}
+use Rattle.rq_journal.proofs.Taking.{later}
+
+-- how long a log is
+pub log_long : (version : Version) (rs : List Record)
+    → length (log_of version rs) ≡ length_with (behind_header version) rs
+log_long version rs = omega (arith, length-append (header version) (frames_of (start version) rs), header_long version)
+
+-- the log of a front is no longer than one may be
+pub log_short : (b : List ℕ) (version : Version) (rs : List Record) (rest : List ℕ) → IsFront b version rs rest
+    → length (log_of version rs) ≤ log_limit
+log_short b version rs rest front =
+    omega (arith, front.short, ap length (front_whole b version rs rest front), length-append (log_of version rs) rest)
+
+pub opened : (b : List ℕ) (f : JudgedFront) → IsJudged b f
+    → IsOpened b (record {
+      appender = record { judge = f.judge; last = f.last; len = f.used };
+      used = f.used;
+      records = f.records;
+      why = f.why;
+    })
+opened b f h =
+    let long = log_long h.version h.records in
+    record {
+      version = h.version;
+      records = h.records;
+      front = h.front;
+      ends = h.ends;
+      used = h.used;
+      count = h.count;
+      stands = record {
+        may = record { records = h.front.longest.begins.records; lawful = h.front.longest.begins.lawful };
+        short = omega (arith, long, log_short b h.version h.records (drop f.used b) h.front);
+        judge = h.judge;
+        last = h.last;
+        len = omega (arith, h.used, long);
+      };
+    }
+
+pub opened_at : (b : List ℕ) (offset : ℕ) (f : JudgedFront) → IsJudgedAt b offset f
+    → IsOpenedAt b offset (record {
+      appender = record { judge = f.judge; last = f.last; len = f.used };
+      used = f.used;
+      records = f.records;
+      why = f.why;
+    })
+opened_at b offset f h =
+    let xs : List Record = Checkpoint h.kept ∷ h.after in
+    let begins = h.front.front.begins in
+    let within : f.used ≤ length b =
+    omega (
+      arith,
+      h.used,
+      ap length begins.whole,
+      length-append (frames_of (before offset b) xs) (drop f.used b),
+      length-drop offset b,
+      h.front.checkpoint.frame.whole.room,
+    ) in
+    record {
+      version = h.version;
+      base = h.base;
+      kept = h.kept;
+      after = h.after;
+      front = h.front;
+      ends = h.ends;
+      used = h.used;
+      count = h.count;
+      stands = record {
+        may = record { records = begins.records; lawful = begins.lawful };
+        short = omega (arith, within, h.front.short, h.used);
+        judge = h.judge;
+        last = h.last;
+        len = h.used;
+      };
+    }
+
+-- records behind the front
+pub behind : (b : List ℕ) (o : Opened) (a : Appender) (xs : List Record) (written : List ℕ) → IsOpened b o
+    → AppendsEach o.appender a xs [] written → CrashWhileAppending → AppendedIsFront → AreWrittenBehind b xs written
+behind b o a xs written h takes crash appended =
+    let v = h.version in
+    let rs = h.records in
+    let (there, bytes) = takes (behind_header v) rs h.stands in
+    let may = later (behind_header v) rs xs a there in
+    let joined : log_of v (rs ++ xs) ≡ log_of v rs ++ written =
+    log_joins v rs xs ∙ ap (λ (z : List ℕ). log_of v rs ++ z) (sym bytes) in
+    let short : length (log_of v (rs ++ xs)) ≤ log_limit = omega (arith, log_long v (rs ++ xs), there.short) in
+    record {
+      version = v;
+      records = rs;
+      rest = drop o.used b;
+      front = h.front;
+      crash = λ part missing parts. crash b v rs (drop o.used b) xs part missing h.front may (sym bytes ∙ parts)
+          (omega (
+            arith,
+            short,
+            ap length joined,
+            ap length parts,
+            length-append part missing,
+            length-append (log_of v rs) written,
+            length-append (log_of v rs) part,
+          ));
+      whole = subst (λ (z : List ℕ). IsFront z v (rs ++ xs) []) joined
+          (appended b v rs (drop o.used b) xs h.front may short);
+    }
+
+-- where none is left, all were taken
+pub all_taken : (n : ℕ) (xs : List Record) → drop n xs ≡ [] → take n xs ≡ xs
+all_taken n xs none =
+    sym (append-nil (take n xs)) ∙ ap (λ (z : List Record). take n xs ++ z) (sym none) ∙ take-append-drop n xs
+
+pub held_back : (b : List ℕ) (o : Opened) (a : Appender) (xs : List Record) (index : ℕ) (written : List ℕ)
+    (why : NotTaken) → IsOpened b o → AppendsEach o.appender a (take index xs) [] written
+    → AppendsUpTo o.appender (take index xs) (drop index xs) (Some why) → IsHeldBack b xs index why
+held_back b o a xs index written why h takes (next, more, left, refused) =
+    let v = h.version in
+    let rs = h.records in
+    record {
+      version = v;
+      records = rs;
+      rest = drop o.used b;
+      next = next;
+      more = more;
+      front = h.front;
+      may = later (behind_header v) rs (take index xs) a (takes (behind_header v) rs h.stands).0;
+      left = left;
+      refused = refused (behind_header v) rs h.stands;
+    }

@@ -1,5 +1,0 @@
-use Rattle.rq_report.proofs.Streams.{reports_of}
-use Rattle.rq_report.proofs.writers.write_report_by.Goals as goal
-
-pub returns-in-Ok : goal.returns-in-Ok
-returns-in-Ok g c = reports_of _ _ _ _ _ _ _ (rw (c.deref.ensures.value) c.in-Ok.ensures) c.write_pieces.ensures

@@ -1,8 +1,0 @@
-use Rattle.rq_tool.proofs.acts.act.Goals as goal
-
-pub returns-in-RestartAt-clause-acts : goal.returns-in-RestartAt-clause-acts
-returns-in-RestartAt-clause-acts g c = rw c.in-RestartAt.is
-    (λ b is. (c.run_at.ensures.runs b is, c.run_at.ensures.same b is))
-
-pub returns-in-RestartAt-clause-quiet : goal.returns-in-RestartAt-clause-quiet
-returns-in-RestartAt-clause-quiet g c = rw c.in-RestartAt.is c.run_at.ensures.quiet
