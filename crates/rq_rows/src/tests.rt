@@ -3,7 +3,7 @@ mod fronts;
 mod gates;
 mod layers;
 mod program;
-//mod scarce;
+mod scarce;
 mod standby;
 mod streams;
 
