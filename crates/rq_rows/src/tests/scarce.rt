@@ -7,7 +7,11 @@ mod replays;
 mod rooms;
 mod workers;
 
+use appending::Appending;
+use commands::Acting;
 use host::Scarce;
+use replays::Replaying;
+use rooms::{arrive, open};
 use rq_tool::Fault;
 use std::alloc::Global;
 use std::test::Fail;
@@ -23,17 +27,37 @@ const ENOUGH: u32 = 500;
 const ROUNDS: usize = 20_000;
 
 /// A call that is refused memory at each place in turn.
-trait Call {
-    /// Calls, and puts what it answers behind what is lent.
+#[derive(Drop)]
+enum Call<'a> {
+    Act(Acting<'a>),
+    Append(Appending),
+    Arrive,
+    Open,
+    Replay(Replaying<'a>),
+}
+
+impl Call<'_> {
+    // Calls, and puts what it answers behind what is lent.
     fn call<R: Threads + Sync + AllocGlobal>(
         &mut self,
         rt: &R,
         lent: &mut Vec<u8>,
-    ) -> Result<(), Fault>;
+    ) -> Result<(), Fault> {
+        match self {
+            Call::Act(acting) => acting.call(rt, lent),
+            Call::Append(appending) => appending.call(lent),
+            Call::Arrive => arrive(rt.alloc(), lent),
+            Call::Open => open(rt.alloc(), lent),
+            Call::Replay(replaying) => replaying.call(rt),
+        }
+    }
 
-    /// Puts there what it could not while there was little memory.
-    fn tell(&mut self, _alloc: Global, _lent: &mut Vec<u8>) -> Result<(), Fail> {
-        Ok(())
+    // Puts there what it could not while there was little memory.
+    fn tell(&mut self, alloc: Global, lent: &mut Vec<u8>) -> Result<(), Fail> {
+        match self {
+            Call::Replay(replaying) => replaying.tell(alloc, lent),
+            _ => Ok(()),
+        }
     }
 }
 
@@ -63,14 +87,22 @@ impl Trial<'_> {
         Ok(())
     }
 
+    fn is_whole(&self) -> bool {
+        self.lent.as_slice() == self.want
+    }
+
+    fn is_untouched(&self) -> bool {
+        self.lent.as_slice() == self.before
+    }
+
     // Counts a round that ended so.
     fn count(&mut self, answer: Result<(), Fault>) {
         match answer {
-            Ok(()) if self.lent.as_slice() == self.want => {
+            Ok(()) if self.is_whole() => {
                 self.last = self.last.wrapping_add(1);
                 return;
             }
-            Err(Fault::Resources) if self.lent.as_slice() == self.before => {
+            Err(Fault::Resources) if self.is_untouched() => {
                 self.refused = self.refused.wrapping_add(1);
             }
             _ => self.wrong = self.wrong.wrapping_add(1),
@@ -85,11 +117,11 @@ impl Trial<'_> {
 }
 
 // Calls with this many bytes left.
-fn round<R: Threads + Sync + AllocGlobal, C: Call>(
+fn round<R: Threads + Sync + AllocGlobal>(
     rt: &R,
     scarce: &mut Scarce,
     bytes: usize,
-    call: &mut C,
+    call: &mut Call<'_>,
     trial: &mut Trial<'_>,
 ) -> Result<(), Fail> {
     trial.prepare(rt.alloc())?;
@@ -102,10 +134,10 @@ fn round<R: Threads + Sync + AllocGlobal, C: Call>(
 }
 
 // Calls with ever more, until that is enough.
-fn rounds<R: Threads + Sync + AllocGlobal, C: Call>(
+fn rounds<R: Threads + Sync + AllocGlobal>(
     rt: &R,
     scarce: &mut Scarce,
-    call: &mut C,
+    call: &mut Call<'_>,
     trial: &mut Trial<'_>,
 ) -> Result<(), Fail> {
     for place in 0..ROUNDS {
@@ -119,9 +151,9 @@ fn rounds<R: Threads + Sync + AllocGlobal, C: Call>(
 
 // Whether the call answers this, however little memory there is, or is refused memory and leaves
 // what was there before.
-fn is_right<R: Threads + Sync + AllocGlobal, C: Call>(
+fn is_right<R: Threads + Sync + AllocGlobal>(
     rt: &R,
-    call: &mut C,
+    call: &mut Call<'_>,
     before: &[u8],
     want: &[u8],
 ) -> Result<bool, Fail> {

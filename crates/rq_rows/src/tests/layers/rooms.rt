@@ -113,6 +113,7 @@ fn rooms_answer_one_thread(rt: HostRuntime) -> Result<(), Fail> {
 
 // This many numbers, from `first` on.
 fn counted(alloc: Global, first: u32, count: usize) -> Result<Vec<u32>, Fault>
+    requires { count ≤ 4000 }
     ensures { IfOk result (λ v. length v.items ≡ count) }
 {
     let mut list = Vec::new(alloc);

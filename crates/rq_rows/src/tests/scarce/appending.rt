@@ -8,27 +8,23 @@ use std::alloc::Global;
 use std::test::Fail;
 use std::thread::Threads;
 
-// What is appended.
+/// What is appended.
 #[derive(Clone, Copy, Debug)]
-enum What {
+pub enum What {
     Header,
     Frame,
     Body,
 }
 
-// The header, a frame, or the record's body.
+/// The header, a frame, or the record's body.
 #[derive(Drop)]
-struct Appending {
+pub struct Appending {
     what: What,
     record: Record,
 }
 
-impl Call for Appending {
-    fn call<R: Threads + Sync + AllocGlobal>(
-        &mut self,
-        _rt: &R,
-        lent: &mut Vec<u8>,
-    ) -> Result<(), Fault> {
+impl Appending {
+    pub fn call(&self, lent: &mut Vec<u8>) -> Result<(), Fault> {
         match self.what {
             What::Header => header(lent),
             What::Frame => frame(&[7; 32], &[5; 600], lent),
@@ -59,11 +55,11 @@ fn appends<R: Threads + Sync + AllocGlobal>(
     bytes: usize,
 ) -> Result<bool, Fail> {
     let record = long_record(rt.alloc())?;
-    let mut appending = Appending { what, record };
+    let appending = Appending { what, record };
     let mut want = Vec::from_slice(rt.alloc(), BEFORE)?;
-    appending.call(rt, &mut want)?;
+    appending.call(&mut want)?;
     let more = want.len().saturating_sub(BEFORE.len());
-    Ok(more == bytes && is_right(rt, &mut appending, BEFORE, &want)?)
+    Ok(more == bytes && is_right(rt, &mut Call::Append(appending), BEFORE, &want)?)
 }
 
 #[test]

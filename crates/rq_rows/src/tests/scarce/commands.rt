@@ -7,15 +7,15 @@ use std::mem;
 use std::test::Fail;
 use std::thread::Threads;
 
-// A command, and the bytes that it reads.
+/// A command, and the bytes that it reads.
 #[derive(Drop)]
-struct Acting<'a> {
+pub struct Acting<'a> {
     command: Command<'a>,
     bytes: &'a [u8],
 }
 
-impl Call for Acting<'_> {
-    fn call<R: Threads + Sync + AllocGlobal>(
+impl Acting<'_> {
+    pub fn call<R: Threads + Sync + AllocGlobal>(
         &mut self,
         rt: &R,
         lent: &mut Vec<u8>,
@@ -34,7 +34,7 @@ fn acts<R: Threads + Sync + AllocGlobal>(
     bytes: &[u8],
     want: &[u8],
 ) -> Result<bool, Fail> {
-    is_right(rt, &mut Acting { command, bytes }, &[], want)
+    is_right(rt, &mut Call::Act(Acting { command, bytes }), &[], want)
 }
 
 // An element of `jobs` goes to `dead` at its second abort; `ann` finds it there at its second look.

@@ -18,25 +18,21 @@ const CHAINED: &[u8] = b"define dead 0 -\ndefine late 1 0\ndefine jobs 1 1\nregi
     begin 3\ndequeue 3 1 - 0\nabort 3\n\
     begin 4\ndequeue 4 0 ann 70\n";
 
-// Lawful records, and the state after them, which is spelled once there is memory again.
+/// Lawful records, and the state after them, which is spelled once there is memory again.
 #[derive(Drop)]
-struct Replaying<'a> {
+pub struct Replaying<'a> {
     plan: Plan,
     lawful: &'a Lawful,
     state: Option<State>,
 }
 
-impl Call for Replaying<'_> {
-    fn call<R: Threads + Sync + AllocGlobal>(
-        &mut self,
-        rt: &R,
-        _lent: &mut Vec<u8>,
-    ) -> Result<(), Fault> {
+impl Replaying<'_> {
+    pub fn call<R: Threads + Sync + AllocGlobal>(&mut self, rt: &R) -> Result<(), Fault> {
         self.state = Some(replayed(rt, self.lawful, &self.plan)?);
         Ok(())
     }
 
-    fn tell(&mut self, alloc: Global, lent: &mut Vec<u8>) -> Result<(), Fail> {
+    pub fn tell(&mut self, alloc: Global, lent: &mut Vec<u8>) -> Result<(), Fail> {
         if let Some(state) = self.state.take() {
             lent.extend_from_slice(&spelled(alloc, &state)?)?;
         }
@@ -61,11 +57,11 @@ fn a_replay_is_whole_or_refused(rt: HostRuntime) -> Result<(), Fail> {
     assert!(rt; lawful.records.len() == 15);
     let want = wanted(&rt, &lawful)?;
     for workers in [1, 2] {
-        let mut replaying = Replaying {
+        let mut replaying = Call::Replay(Replaying {
             plan: Plan::new(workers, 1).ok_or("plan")?,
             lawful: &lawful,
             state: None,
-        };
+        });
         assert!(rt;
             is_right(&rt, &mut replaying, &[], &want)?,
             "{workers} workers"

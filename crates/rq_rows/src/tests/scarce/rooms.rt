@@ -6,51 +6,33 @@ use crate::tests::layers::countdowns::Parcel;
 use crate::tests::layers::rooms::{two, two_took};
 use rq_pool::{Arrival, Countdown, Room};
 use rq_tool::Fault;
+use std::alloc::Global;
 use std::test::Fail;
-use std::thread::Threads;
 
 // What a call tells that goes as it must.
 const WELL: &[u8] = b"well";
 
-// In a room of `[[0, 1], [2]]` the second of two seats takes a number of its own.
-#[derive(Drop)]
-struct Opening;
-
-impl Call for Opening {
-    fn call<R: Threads + Sync + AllocGlobal>(
-        &mut self,
-        rt: &R,
-        lent: &mut Vec<u8>,
-    ) -> Result<(), Fault> {
-        let (room, mut seats) = Room::open(rt.alloc(), two(rt.alloc(), &[0, 1], &[2])?)?;
-        let _ = seats[1].take(&room);
-        let left = room.close(seats);
-        if two_took(&left, &[], &[2], 2) {
-            lent.extend_from_slice(WELL)?;
-        }
-        Ok(())
+/// In a room of `[[0, 1], [2]]` the second of two seats takes a number of its own.
+pub fn open(alloc: Global, lent: &mut Vec<u8>) -> Result<(), Fault> {
+    let (room, mut seats) = Room::open(alloc, two(alloc, &[0, 1], &[2])?)?;
+    let _ = seats[1].take(&room);
+    let left = room.close(seats);
+    if two_took(&left, &[], &[2], 2) {
+        lent.extend_from_slice(WELL)?;
     }
+    Ok(())
 }
 
-// At a countdown of two the second that arrives is told that it is the last.
-#[derive(Drop)]
-struct Arriving;
-
-impl Call for Arriving {
-    fn call<R: Threads + Sync + AllocGlobal>(
-        &mut self,
-        rt: &R,
-        lent: &mut Vec<u8>,
-    ) -> Result<(), Fault> {
-        let (countdown, mut passes) = Countdown::<Parcel>::open(rt.alloc(), (), 2, 2)?;
-        let _ = countdown.arrive(&mut passes[1], 1, Parcel { number: 1 });
-        let second = countdown.arrive(&mut passes[0], 0, Parcel { number: 0 });
-        let closing = countdown.close(passes);
-        if closing.arrived() == 2 && is_last(&second) {
-            lent.extend_from_slice(WELL)?;
-        }
-        Ok(())
+/// At a countdown of two the second that arrives is told that it is the last.
+pub fn arrive(alloc: Global, lent: &mut Vec<u8>) -> Result<(), Fault> {
+    let (countdown, mut passes) = Countdown::<Parcel>::open(alloc, (), 2, 2)?;
+    let _ = countdown.arrive(&mut passes[1], 1, Parcel { number: 1 });
+    let second = countdown.arrive(&mut passes[0], 0, Parcel { number: 0 });
+    let closing = countdown.close(passes);
+    if closing.arrived() == 2 && is_last(&second) {
+        lent.extend_from_slice(WELL)?;
     }
+    Ok(())
 }
 
 fn is_last(answer: &Arrival<Parcel>) -> bool {
@@ -59,8 +41,8 @@ fn is_last(answer: &Arrival<Parcel>) -> bool {
 
 #[test]
 fn a_room_or_a_countdown_is_opened_or_refused(rt: HostRuntime) -> Result<(), Fail> {
-    assert!(rt; is_right(&rt, &mut Opening, &[], WELL)?, "a room");
-    assert!(rt; is_right(&rt, &mut Arriving, &[], WELL)?, "a countdown");
+    assert!(rt; is_right(&rt, &mut Call::Open, &[], WELL)?, "a room");
+    assert!(rt; is_right(&rt, &mut Call::Arrive, &[], WELL)?, "a countdown");
     Ok(())
 }
 
