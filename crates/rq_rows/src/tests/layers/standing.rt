@@ -13,7 +13,7 @@ use Plain::{
 };
 use rq_catalog::Rule;
 use rq_plan::Plan;
-use rq_record::{KeptRecord, Record, Version};
+use rq_record::{ElemId, KeptRecord, Record, Version};
 use rq_standing::{Standing, Taken};
 use rq_state::State;
 use std::alloc::Global;
@@ -97,14 +97,34 @@ fn kept(alloc: Global, plain: &Plain) -> Result<KeptRecord, Fail> {
     Ok(KeptRecord::of(alloc, &record)?)
 }
 
-// Whether what is noted beside a record became of it. The rule that there is no KILL is one of
-// version 1 alone.
-fn is_noted(taken: Taken, want: &Want) -> bool {
-    match (taken, want) {
-        (Taken::Unlawful(rule), Want::Nothing) => !matches!(rule, Rule::NoKill),
-        (Taken::Done(None), Want::Done) => true,
-        (Taken::Done(Some(element)), Want::Took(id)) => element.0 == *id,
+// Whether what was done, and the element that was taken, is what is noted beside the record.
+fn is_done(element: Option<ElemId>, want: &Want) -> bool {
+    match (element, want) {
+        (None, Want::Done) => true,
+        (Some(element), Want::Took(id)) => element.0 == *id,
         _ => false,
+    }
+}
+
+// The rule that there is no KILL is one of version 1 alone.
+fn is_broken(rule: Rule, want: &Want) -> bool {
+    !matches!(rule, Rule::NoKill) && matches!(want, Want::Nothing)
+}
+
+// Whether this becomes of the record.
+fn takes(
+    alloc: Global,
+    standing: &mut Standing,
+    record: &KeptRecord,
+    want: &Want,
+) -> Result<bool, Fail>
+    requires { (version : records.Version) × (s : states.State) × Stands version standing.old s }
+    ensures { IfOk result (λ _.
+        (version : records.Version) × (s : states.State) × Stands version standing.new s) }
+{
+    match standing.take(alloc, record)? {
+        Taken::Unlawful(rule) => Ok(is_broken(rule, want)),
+        Taken::Done(element) => Ok(is_done(element, want)),
     }
 }
 
@@ -115,8 +135,7 @@ fn goes_by(alloc: Global, standing: &mut Standing, case: &Case) -> Result<bool, 
         (version : records.Version) × (s : states.State) × Stands version standing.new s) }
 {
     let record = kept(alloc, &case.1)?;
-    let taken = standing.take(alloc, &record)?;
-    Ok(is_noted(taken, &case.0))
+    takes(alloc, standing, &record, &case.0)
 }
 
 // Whether what is noted beside each record becomes of it.
