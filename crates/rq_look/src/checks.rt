@@ -4,9 +4,8 @@ ghost use Rattle.std.specs.Prelude.{◌≡◌, ◌++◌, IfOk, IfErr, OnOk, code
 ghost use Rattle.rq_judged.specs.Views.{why_of};
 ghost use Rattle.rq_found.specs.Ends.{end_text};
 ghost use Rattle.rq_found.specs.Refusals.{IsRefusal};
-ghost use Rattle.rq_look.specs.Findings.{IsFindings, findings_text};
-ghost use Rattle.rq_look.specs.Looks.{all_fine, all_true, checkpoint_finding, end_finding};
-ghost use Rattle.rq_look.specs.Rests.{behind_finding};
+ghost use Rattle.rq_look.specs.Findings.{IsFindings, findings_text, all_fine, checkpoint_finding};
+ghost use Rattle.rq_look.specs.Findings.{end_finding, behind_finding};
 
 use crate::behind_fronts::{put_rest, standing_behind};
 use rq_behind::Found;
@@ -26,16 +25,10 @@ pub struct Findings {
     pub text: String,
 }
 
-fn are_true(found: &[(u64, bool)]) -> bool
-    ensures { result ≡ all_true found.now }
-{
-    found.iter().all(|checkpoint| checkpoint.1)
-}
-
 fn is_fine(end: &End, checkpoints: &[(u64, bool)]) -> bool
     ensures { result ≡ all_fine (why_of end.now.why) checkpoints.now }
 {
-    is_whole(end.why) && are_true(checkpoints)
+    is_whole(end.why) && checkpoints.iter().all(|checkpoint| checkpoint.1)
 }
 
 fn put_checkpoint(text: &mut String, offset: u64, truth: bool) -> Put

@@ -4,7 +4,7 @@ use Rattle.std.specs.Prelude.{slice_index_or}
 use Rattle.std.proofs.lemmas.List.{map-append}
 use Rattle.rq_model.specs.States as model
 use Rattle.rq_report.proofs.Indexed.{indexed_more, indexed_all, flat_of_map}
-use Rattle.rq_found.specs.Registrants.{registrant_entry, registrant_told}
+use Rattle.rq_found.specs.Records.{registrant_entry, registrant_told}
 use Rattle.rq_found.proofs.registrants.registrants_shown.Goals as goal
 
 abbrev nobody : model.Registrant

@@ -2,7 +2,7 @@ use Rattle.std.proofs.Common.{◌≡◌, ◌++◌, [], ◌∷◌, map, drop}
 use Rattle.std.specs.List.{flat_map}
 use Rattle.std.specs.Prelude.{slice_index_or}
 use Rattle.rq_model.specs.States as model
-use Rattle.rq_found.specs.Registrants.{registrant_entry, registrant_told}
+use Rattle.rq_found.specs.Records.{registrant_entry, registrant_told}
 use Rattle.rq_found.proofs.registrants.registrants_shown.Given as goal
 
 -- those found, and those at the indices that are left, are those at all indices
