@@ -89,11 +89,11 @@ fn chain_reason(alloc: Global, before: &[u8], rest: &[u8]) -> Result<String, All
 /// Why no record of the version has the body, in a sentence without its full stop. It is asked of
 /// bodies that spell none.
 pub fn form_reason(alloc: Global, version: Version, body: &[u8]) -> Result<String, AllocError> {
-    match &misfit_of(version, body) {
-        Some((at, words)) => {
-            let at = *at;
+    match misfit_of(version, body) {
+        Some(misfit) => {
+            let at = misfit.0;
             let mut text = format!(in alloc; "byte {at} of the body: ")?;
-            put_text_pieces(&mut text, words)?;
+            put_text_pieces(&mut text, &misfit.1)?;
             Ok(text)
         }
         None => String::from_str(alloc, "no record has the body"),
