@@ -1,6 +1,6 @@
 -- A script under way.
-use Rattle.std.proofs.Common.{◌≡◌, ◌∙◌, ℕ, ◌+◌, ◌<◌, ◌≤◌, List, [], ◌∷◌, ◌++◌, length, take, drop, Option, Some, None}
-use Rattle.std.proofs.Common.{refl, sym, ap, subst, append_assoc, append-nil, arith}
+use Rattle.std.proofs.Common.{◌≡◌, ◌∙◌, ℕ, ◌+◌, ◌<◌, ◌≤◌, List, [], ◌∷◌, ◌++◌, length, take, drop, Option, Some, None, Result, Ok}
+use Rattle.std.proofs.Common.{Err, OnOk, refl, sym, ap, subst, append_assoc, append-nil, arith}
 use Rattle.std.specs.Prelude.{min}
 use Rattle.std.specs.List.{AllByRecursion}
 use Rattle.std.specs.Io.KnownBytes.{Appends}
@@ -37,6 +37,12 @@ pub record IsUnderWay (b rest : List ℕ) (number : ℕ) (text : List ℕ) (old 
   pub counted : number ≡ length done
   pub appends : Appends old now put
   pub told : put ++ text ≡ script_text done
+
+-- a text behind a word
+pub put_behind : {A E : Type 0} (r : Result A E) (old mid new word put : List ℕ) → mid ≡ old ++ word
+    → OnOk r (new ≡ mid ++ put) → OnOk r (new ≡ old ++ (word ++ put))
+put_behind (Ok x) old mid new word put e h = h ∙ ap (λ (z : List ℕ). z ++ put) e ∙ append_assoc old word put
+put_behind (Err x) old mid new word put e h = tt
 
 -- the first `used` bytes hold the header
 pub used_fits : (b : List ℕ) (r : Restarted) → IsRestart b r → (40 ≤ r.used) × (r.used ≤ length b)

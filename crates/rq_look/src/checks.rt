@@ -1,6 +1,7 @@
 //! Whether a log is whole, and each of its checkpoints true.
 
 ghost use Rattle.std.specs.Prelude.{◌≡◌, ◌++◌, IfOk, IfErr, OnOk, codes, string_bytes};
+ghost use Rattle.std.specs.List.{list_all};
 ghost use Rattle.rq_judged.specs.Views.{why_of};
 ghost use Rattle.rq_found.specs.Ends.{end_text};
 ghost use Rattle.rq_found.specs.Refusals.{IsRefusal};
@@ -25,10 +26,16 @@ pub struct Findings {
     pub text: String,
 }
 
+fn are_true(found: &[(u64, bool)]) -> bool
+    ensures { result ≡ list_all (λ x. x.1) found.now }
+{
+    found.iter().all(|checkpoint| checkpoint.1)
+}
+
 fn is_fine(end: &End, checkpoints: &[(u64, bool)]) -> bool
     ensures { result ≡ all_fine (why_of end.now.why) checkpoints.now }
 {
-    is_whole(end.why) && checkpoints.iter().all(|checkpoint| checkpoint.1)
+    is_whole(end.why) && are_true(checkpoints)
 }
 
 fn put_checkpoint(text: &mut String, offset: u64, truth: bool) -> Put

@@ -119,7 +119,6 @@ fn put_closing(alloc: Global, text: &mut String, end: &End, wanted: &Wanted<'_>)
 
 // Puts those records of the front that are wanted. So many queues are defined before the first.
 // Answers how many more may be put.
-#[tactic(auto, using(crate::proofs::Puts::both_put))]
 fn put_records<W: io::Write>(
     alloc: Global,
     frames: PlacedFrames<'_>,
@@ -147,7 +146,6 @@ fn put_records<W: io::Write>(
 }
 
 // Puts those frames that are wanted, so many at most.
-#[tactic(auto, using(crate::proofs::Puts::both_put))]
 fn put_frames<W: io::Write>(
     alloc: Global,
     bytes: &[u8],

@@ -40,13 +40,11 @@ fn put_digits(alloc: Global, text: &mut String, bytes: &[u8]) -> Put
     Ok(())
 }
 
-// Puts a word, and bytes in hexadecimal.
-fn put_hex(alloc: Global, text: &mut String, word: &str, bytes: &[u8]) -> Put
+fn put_hex(alloc: Global, text: &mut String, bytes: &[u8]) -> Put
     ensures text { OnOk result
-        (string_bytes text.new ≡ string_bytes text.old ++ (word.now ++ payload_text bytes.now)) }
+        (string_bytes text.new ≡ string_bytes text.old ++ payload_text bytes.now) }
     ensures bytes { AreBytes bytes.now }
 {
-    text.push_str(word)?;
     if bytes.is_empty() {
         return text.push_str("-");
     }
@@ -119,7 +117,18 @@ fn put_element(alloc: Global, text: &mut String, priority: u8, by: &KeptBy, payl
 {
     write!(text, " {priority}")?;
     put_who(text, by)?;
-    put_hex(alloc, text, " ", payload)
+    text.push_str(" ")?;
+    put_hex(alloc, text, payload)
+}
+
+// Puts the record of a checkpoint, in hexadecimal.
+fn put_checkpoint(alloc: Global, text: &mut String, bytes: &[u8]) -> Put
+    ensures text { OnOk result (string_bytes text.new ≡ string_bytes text.old
+        ++ record_text (model.Checkpoint bytes.now)) }
+    ensures bytes { AreBytes bytes.now }
+{
+    text.push_str("checkpoint-hex ")?;
+    put_hex(alloc, text, bytes)
 }
 
 // Puts a record, but for the end of its line.
@@ -150,9 +159,7 @@ fn put_record(alloc: Global, text: &mut String, r: &KeptRecord) -> Put
             put_unit_and_queue(text, "dequeue ", *unit, *queue)?;
             put_who(text, by)
         }
-        KeptRecord::Checkpoint { bytes } => {
-            put_hex(alloc, text, "checkpoint-hex ", bytes.bytes())
-        }
+        KeptRecord::Checkpoint { bytes } => put_checkpoint(alloc, text, bytes.bytes()),
         KeptRecord::Kill { queue, element } => {
             let (queue, element) = (queue.0, element.0);
             write!(text, "kill {queue} {element}")

@@ -1,6 +1,6 @@
 //! The report of a log, as text and as JSON.
 
-ghost use Rattle.std.specs.Prelude.{◌≡◌, ◌++◌, ℕ, List, codes, IfOk, IfErr, OnOk, string_bytes};
+ghost use Rattle.std.specs.Prelude.{◌≡◌, ◌++◌, ℕ, List, false, codes, IfOk, IfErr, OnOk, string_bytes};
 ghost use Rattle.std.specs.Io.KnownBytes.{Appends};
 ghost use Rattle.rq_model.specs.Reports.{IsText};
 ghost use Rattle.rq_record.specs.declared.fault.Fault.TheVariants.{Resources};
