@@ -6,7 +6,7 @@ use Rattle.rq_model.specs.Fronts.{Restarted}
 use Rattle.rq_model.specs.Reports.{IsReport}
 use Rattle.rq_model.specs.Checkpoints.{IsReportAt}
 use Rattle.rq_front.specs.Chains.{IsLog}
-use Rattle.rq_found.specs.Ends.{IsRestartFrom, beginning_text, end_line, is_whole}
+use Rattle.rq_found.specs.Ends.{IsRestartFrom, beginning_text, end_line}
 use Rattle.rq_found.specs.Refusals.{IsBroken, IsRefusal, StaysUnshown}
 use Rattle.rq_look.specs.Scripts.{LeavesOut}
 use Rattle.rq_found.specs.declared.trouble.Subject.{Subject}
