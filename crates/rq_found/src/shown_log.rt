@@ -1,7 +1,7 @@
 //! A log that is shown: where its records begin, and its restart from there.
 
 ghost use Rattle.std.specs.Prelude.{◌≡◌, IfOk, IfErr, IfSome, OnOk, drop, take};
-ghost use Rattle.rq_model.specs.Continuing.{carried_gap};
+ghost use Rattle.rq_model.specs.Carrying.{carried_gap};
 ghost use Rattle.rq_front.specs.Chains.{IsLog};
 ghost use Rattle.rq_found.specs.Ends.{IsRestartFrom};
 ghost use Rattle.rq_found.specs.Refusals.{RefusedFrom};
