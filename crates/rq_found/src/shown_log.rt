@@ -1,8 +1,9 @@
 //! A log that is shown: where its records begin, and its restart from there.
 
-ghost use Rattle.std.specs.Prelude.{◌≡◌, IfOk, IfErr, IfSome, OnOk, drop, take};
+ghost use Rattle.std.specs.Prelude.{◌≡◌, None, IfOk, IfErr, IfSome, IfNone, OnOk, drop, take};
 ghost use Rattle.rq_model.specs.Carrying.{carried_gap};
-ghost use Rattle.rq_front.specs.Chains.{IsLog};
+ghost use Rattle.rq_model.specs.States.{empty};
+ghost use Rattle.rq_front.specs.Chains.{IsHeaded, IsLog};
 ghost use Rattle.rq_found.specs.Ends.{IsRestartFrom};
 ghost use Rattle.rq_found.specs.Refusals.{RefusedFrom};
 ghost use Rattle.rq_found.specs.Records.{StandFrom, front_at};
@@ -30,7 +31,10 @@ pub struct ShownLog<'a> {
 /// Where the first frame of a log stands that was carried on into a file of its own: a checkpoint.
 /// Of any other log there is none.
 pub fn begins_at(bytes: &[u8]) -> Option<u64>
-    ensures { IfSome result (λ at. (at ≡ 96) × (take 24 (drop 40 bytes.now) ≡ carried_gap)) }
+    ensures some { IfSome result (λ at. (at ≡ 96) × IsHeaded bytes.now
+        × (take 24 (drop 40 bytes.now) ≡ carried_gap)) }
+    ensures none { IfNone result
+        (IsHeaded bytes.now × (take 24 (drop 40 bytes.now) ≡ carried_gap) → ⊥) }
 {
     if is_carried(bytes) {
         Some(CARRIED_AT as u64)
@@ -53,7 +57,8 @@ fn state_at(alloc: Global, bytes: &[u8], at: u64) -> Option<State> {
 /// The state behind which the records of a front begin: that of the checkpoint at the offset, if
 /// there is one, which a restart has found there.
 pub fn first_state(alloc: Global, bytes: &[u8], at: Option<u64>) -> Result<State, Fault>
-    ensures { IfErr result (λ e. e ≡ Resources) }
+    ensures beginning { at ≡ None → IfOk result (λ s. s ≡ empty) }
+    ensures refused { IfErr result (λ e. e ≡ Resources) }
 {
     let Some(at) = at else {
         return Ok(State::empty(alloc));
