@@ -1,8 +1,8 @@
 -- Where the front of a log ends, as it is found and told.
 use Rattle.std.specs.Prelude.{ℕ, Bool, true, false, List, [], ◌++◌, codes, Option, Some, None}
 use Rattle.std.specs.Fmt.{decimal}
-use Rattle.rq_model.specs.Frames.{Whole, Cut, Length, Digest}
-use Rattle.rq_model.specs.Fronts.{Why, Ends, Form, Law, Restarted, IsRestart}
+use Rattle.rq_model.specs.Frames.{Whole}
+use Rattle.rq_model.specs.Fronts.{Why, Ends, Restarted, IsRestart}
 use Rattle.rq_model.specs.Reports.{why_text}
 use Rattle.rq_model.specs.Checkpoints.{IsRestartAt}
 use Rattle.rq_judged.specs.declared.ends.FrontEnd.{FrontEnd}
@@ -11,11 +11,7 @@ use Rattle.rq_found.specs.declared.ends.End.{End}
 -- nothing follows the front
 abbrev pub is_whole : Why → Bool
 is_whole (Ends Whole) = true
-is_whole (Ends Cut) = false
-is_whole (Ends Length) = false
-is_whole (Ends Digest) = false
-is_whole Form = false
-is_whole Law = false
+is_whole _ = false
 
 -- the restart of b, or that from the checkpoint at an offset
 abbrev pub IsRestartFrom : Option ℕ → List ℕ → Restarted → Type 0

@@ -1,7 +1,4 @@
 pub mod Ends
-pub mod Hidden
-pub mod Kinds
-pub mod Pieces
+pub mod Records
 pub mod Refusals
-pub mod Registrants
-pub mod Walks
+pub mod Texts

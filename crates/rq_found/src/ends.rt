@@ -11,9 +11,8 @@ ghost use Rattle.rq_found.specs.Ends.{IsRestartFrom, beginning_text, end_text, f
 ghost use Rattle.rq_found.specs.Refusals.{RefusedFrom};
 
 use crate::frames::{first_frame, stated_length};
-use crate::misfits::{Misfit, misfit_of};
-use crate::pieces::TextPiece::{Number, Word};
-use crate::pieces::{Put, joined_text};
+use crate::misfits::misfit_of;
+use crate::pieces::{Put, put_text_pieces};
 use crate::shown_log::ShownLog;
 use rq_catalog::Rule;
 use rq_front::{FRAME_LEN, version};
@@ -55,23 +54,19 @@ pub fn is_whole(why: Why) -> bool
 }
 
 fn cut_reason(alloc: Global, rest: &[u8]) -> Result<String, AllocError> {
-    let count = Number(rest.len() as u64);
+    let count = rest.len();
     match stated_length(rest) {
         Some(len) => {
-            let whole = Number(len.saturating_add(FRAME_LEN) as u64);
-            joined_text(
-                alloc,
-                &[count, Word(" bytes follow, and the frame has "), whole],
-            )
+            let whole = len.saturating_add(FRAME_LEN);
+            format!(in alloc; "{count} bytes follow, and the frame has {whole}")
         }
-        None => joined_text(alloc, &[count, Word(" bytes follow, and a length has 4")]),
+        None => format!(in alloc; "{count} bytes follow, and a length has 4"),
     }
 }
 
 fn length_reason(alloc: Global, rest: &[u8]) -> Result<String, AllocError> {
-    let len = Number(stated_length(rest).unwrap_or(0) as u64);
-    let room = Word(" bytes is stated, and one has 1 to 268435456");
-    joined_text(alloc, &[Word("a body of "), len, room])
+    let len = stated_length(rest).unwrap_or(0);
+    format!(in alloc; "a body of {len} bytes is stated, and one has 1 to 268435456")
 }
 
 // The digest of what a frame states, behind these bytes.
@@ -88,31 +83,19 @@ fn chain_reason(alloc: Global, before: &[u8], rest: &[u8]) -> Result<String, All
     };
     let stated = hex::encode(alloc, frame.digest)?;
     let digest = digest_text(alloc, before, frame.stated)?;
-    let (stated, digest) = (Word(stated.as_str()), Word(digest.as_str()));
-    joined_text(
-        alloc,
-        &[
-            Word("the digest is "),
-            stated,
-            Word(", and that of the bytes "),
-            digest,
-        ],
-    )
-}
-
-// Why the body is none that a record has, which shows at this byte of it.
-fn misfit_reason(alloc: Global, at: usize, misfit: &Misfit) -> Result<String, AllocError> {
-    let at = Number(at as u64);
-    let mut text = joined_text(alloc, &[Word("byte "), at, Word(" of the body: ")])?;
-    misfit.put(&mut text)?;
-    Ok(text)
+    format!(in alloc; "the digest is {stated}, and that of the bytes {digest}")
 }
 
 /// Why no record of the version has the body, in a sentence without its full stop. It is asked of
 /// bodies that spell none.
 pub fn form_reason(alloc: Global, version: Version, body: &[u8]) -> Result<String, AllocError> {
     match misfit_of(version, body) {
-        Some((at, misfit)) => misfit_reason(alloc, at, &misfit),
+        Some(misfit) => {
+            let at = misfit.0;
+            let mut text = format!(in alloc; "byte {at} of the body: ")?;
+            put_text_pieces(&mut text, &misfit.1)?;
+            Ok(text)
+        }
         None => String::from_str(alloc, "no record has the body"),
     }
 }
@@ -192,20 +175,6 @@ fn ruled_end<R: Threads + Sync>(
     }
 }
 
-// The rule that ends the front of a log of which there is a restart: so memory alone is refused.
-fn rule_after<R: Threads + Sync>(
-    rt: &R,
-    alloc: Global,
-    log: &ShownLog<'_>,
-) -> Result<Option<Rule>, Fault>
-    ensures { IfErr result (λ e. e ≡ Resources) }
-{
-    match ruled_end(rt, alloc, log) {
-        Ok((_, rule)) => Ok(rule),
-        Err(_) => Err(Fault::Resources),
-    }
-}
-
 /// Where the front ends of which the restart is known. Refuses with `Resources` where memory is
 /// refused.
 pub fn end_after<R: Threads + Sync>(
@@ -223,9 +192,13 @@ pub fn end_after<R: Threads + Sync>(
         total: r.total(),
         why: r.why(),
     };
-    // A restart keeps no rule: so of a log that ends by one this reads the front once more.
+    // A restart keeps no rule: so of a log that ends by one this reads the front once more. There is a
+    // restart of it, so memory alone is refused.
     let rule = match end.why {
-        Why::Law => rule_after(rt, alloc, log)?,
+        Why::Law => match ruled_end(rt, alloc, log) {
+            Ok((_, rule)) => rule,
+            Err(_) => return Err(Fault::Resources),
+        },
         Why::Whole | Why::Cut | Why::Length | Why::Chain | Why::Form => None,
     };
     let told = told(alloc, log, &end, rule)?;

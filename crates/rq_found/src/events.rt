@@ -1,7 +1,5 @@
 //! What happens to elements.
 
-use crate::pieces::TextPiece::{self, Number, Word};
-use crate::pieces::write_piece;
 use std::fmt;
 
 /// What happens to an element.
@@ -32,52 +30,22 @@ pub enum Event {
     To(u64, Effect),
 }
 
-// What is said before the number of an element, and behind it.
-fn words_of(effect: Effect) -> (&'static str, &'static str) {
-    match effect {
-        Effect::Put => ("puts in element ", ""),
-        Effect::Taken => ("takes element ", ""),
-        Effect::Free(_) => ("element ", " is free in queue "),
-        Effect::Gone => ("element ", " is gone"),
-        Effect::Undone => ("element ", " was not put in"),
-        Effect::Back(..) => ("element ", " is back in queue "),
-        Effect::Moved(_) => ("element ", " moves to queue "),
-    }
-}
-
-// The queue in which an element is then, and the attempts, if they are said.
-fn rest_of(effect: Effect) -> [TextPiece<'static>; 3] {
-    let (queue, attempts) = match effect {
-        Effect::Free(queue) | Effect::Moved(queue) => (queue, None),
-        Effect::Back(queue, attempts) => (queue, Some(attempts)),
-        _ => return [Word(""); 3],
-    };
-    let queue = Number(u64::from(queue));
-    match attempts {
-        Some(attempts) => [queue, Word(", attempts "), Number(attempts)],
-        None => [queue, Word(""), Word("")],
-    }
-}
-
-impl Event {
-    // What it says, one behind the other.
-    fn pieces(&self) -> [TextPiece<'static>; 6] {
-        let Event::To(element, effect) = *self else {
-            let none = Word("");
-            return [Word("finds no element"), none, none, none, none, none];
-        };
-        let (before, behind) = words_of(effect);
-        let [queue, words, attempts] = rest_of(effect);
-        let element = Number(element);
-        [Word(before), element, Word(behind), queue, words, attempts]
-    }
-}
-
 impl fmt::Display for Event {
     fn fmt<W: fmt::Write>(&self, f: &mut fmt::Formatter<W>) -> fmt::Result {
-        for piece in &self.pieces() {
-            write_piece(f, piece)?;
+        let Event::To(element, effect) = *self else {
+            return f.write_str("finds no element");
+        };
+        match effect {
+            Effect::Put => write!(f, "puts in element {element}"),
+            Effect::Taken => write!(f, "takes element {element}"),
+            Effect::Free(queue) => write!(f, "element {element} is free in queue {queue}"),
+            Effect::Gone => write!(f, "element {element} is gone"),
+            Effect::Undone => write!(f, "element {element} was not put in"),
+            Effect::Back(queue, attempts) => write!(
+                f,
+                "element {element} is back in queue {queue}, attempts {attempts}"
+            ),
+            Effect::Moved(queue) => write!(f, "element {element} moves to queue {queue}"),
         }
-        Ok(())
     }
 }

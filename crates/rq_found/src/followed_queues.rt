@@ -48,22 +48,16 @@ pub struct FollowedQueues {
 }
 
 impl FollowedQueues {
-    // Before the first record.
-    fn new(alloc: Global) -> FollowedQueues {
-        FollowedQueues {
+    /// Behind a state. What an open unit put in or took is told by number when it ends.
+    pub fn of(alloc: Global, state: &State) -> Result<FollowedQueues, AllocError> {
+        let mut queues = FollowedQueues {
             alloc,
             events: Vec::new(alloc),
-            defined: 0,
+            defined: queues_of(state.definitions()),
             shelves: Vec::new(alloc),
             kept: BTreeMap::new(alloc),
             open: BTreeMap::new(alloc),
-        }
-    }
-
-    /// Behind a state. What an open unit put in or took is told by number when it ends.
-    pub fn of(alloc: Global, state: &State) -> Result<FollowedQueues, AllocError> {
-        let mut queues = FollowedQueues::new(alloc);
-        queues.defined = queues_of(state.definitions());
+        };
         for definition in state.definitions() {
             queues.define(definition.limit, definition.error)?;
         }
@@ -131,21 +125,10 @@ impl FollowedQueues {
         Ok(())
     }
 
-    fn put(&mut self, unit: UnitNo, element: u64, kept: Queued) -> Result<Event, AllocError> {
-        self.kept.insert(element, kept)?;
-        let fresh = true;
-        self.own(unit, Owned { element, fresh })?;
-        Ok(Event::To(element, Effect::Put))
-    }
-
     fn best_of(&mut self, queue: QueueNo) -> Option<u64> {
-        match self.shelves.get_mut(queue.0 as usize) {
-            Some(shelf) => match shelf.free.pop_first() {
-                Some((_, element)) => Some(element),
-                None => None,
-            },
-            None => None,
-        }
+        let shelf = self.shelves.get_mut(queue.0 as usize)?;
+        let (_, element) = shelf.free.pop_first()?;
+        Some(element)
     }
 
     fn take(&mut self, unit: UnitNo, queue: QueueNo) -> Result<Event, AllocError> {
@@ -220,59 +203,49 @@ impl FollowedQueues {
         }
     }
 
-    fn end_all(&mut self, all: &[Owned], commits: bool) -> Result<(), AllocError> {
-        for owned in all {
+    // Ends a unit, and adds what happens to each element that it put in or took, in the order in
+    // which it did.
+    fn end(&mut self, unit: u64, commits: bool) -> Result<(), AllocError> {
+        let Some(all) = self.open.remove(&unit) else {
+            return Ok(());
+        };
+        for owned in all.iter() {
             self.end_one(*owned, commits)?;
         }
         Ok(())
     }
 
-    // Ends a unit, and adds what happens to each element that it put in or took, in the order in
-    // which it did.
-    fn end(&mut self, unit: u64, commits: bool) -> Result<(), AllocError> {
-        match self.open.remove(&unit) {
-            Some(all) => self.end_all(&all, commits),
-            None => Ok(()),
-        }
-    }
-
-    // Does an operation, and answers what happens.
-    fn operate(&mut self, it: &Numbered) -> Result<Option<Event>, AllocError> {
-        match &it.record {
+    // Does a record that is lawful here, and adds what happens.
+    fn step(&mut self, it: &Numbered) -> Result<(), AllocError> {
+        let event = match &it.record {
+            KeptRecord::Define { limit, error, .. } => return self.define(*limit, *error),
+            KeptRecord::Begin { unit } => {
+                self.open.insert(unit.0, Vec::new(self.alloc))?;
+                return Ok(());
+            }
+            KeptRecord::Commit { unit } => return self.end(unit.0, true),
+            KeptRecord::Abort { unit } => return self.end(unit.0, false),
             KeptRecord::Enqueue {
                 unit,
                 queue,
                 priority,
                 ..
             } => {
+                let (element, fresh) = (it.number, true);
                 let kept = Queued {
                     home: queue.0,
                     priority: *priority,
                     attempts: 0,
                 };
-                Ok(Some(self.put(*unit, it.number, kept)?))
+                self.kept.insert(element, kept)?;
+                self.own(*unit, Owned { element, fresh })?;
+                Event::To(element, Effect::Put)
             }
-            KeptRecord::Dequeue { unit, queue, .. } => Ok(Some(self.take(*unit, *queue)?)),
-            KeptRecord::Kill { queue, element } => Ok(Some(self.kill(*queue, *element))),
-            _ => Ok(None),
-        }
-    }
-
-    // Does a record that is lawful here, and adds what happens.
-    fn step(&mut self, it: &Numbered) -> Result<(), AllocError> {
-        match &it.record {
-            KeptRecord::Define { limit, error, .. } => self.define(*limit, *error)?,
-            KeptRecord::Begin { unit } => {
-                self.open.insert(unit.0, Vec::new(self.alloc))?;
-            }
-            KeptRecord::Commit { unit } => self.end(unit.0, true)?,
-            KeptRecord::Abort { unit } => self.end(unit.0, false)?,
-            _ => {
-                if let Some(event) = self.operate(it)? {
-                    self.events.push(event)?;
-                }
-            }
-        }
+            KeptRecord::Dequeue { unit, queue, .. } => self.take(*unit, *queue)?,
+            KeptRecord::Kill { queue, element } => self.kill(*queue, *element),
+            _ => return Ok(()),
+        };
+        self.events.push(event)?;
         Ok(())
     }
 

@@ -2,7 +2,7 @@
 
 ghost use Rattle.std.specs.Prelude.{◌≡◌, ◌+◌, ◌<◌, ◌≤◌, length, drop, MatchOption, IfSome};
 ghost use Rattle.rq_model.specs.Frames.{stated, body_in};
-ghost use Rattle.rq_found.specs.Walks.{StandFrom};
+ghost use Rattle.rq_found.specs.Records.{StandFrom};
 
 use byteorder::{BigEndian, ByteOrder};
 use rq_front::{FRAME_LEN, HEADER_LEN};
@@ -101,7 +101,7 @@ impl<'a> Iterator for PlacedFrames<'a> {
 
     ghost use Rattle.std.specs.Prelude.{length};
     ghost use Rattle.std.specs.Iterator.{at_most};
-    ghost use Rattle.rq_found.specs.Walks.{WalksOn};
+    ghost use Rattle.rq_found.specs.Records.{WalksOn};
 
     ghost next_gives = { λ s r t. WalksOn s r t };
 

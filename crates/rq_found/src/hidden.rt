@@ -1,16 +1,18 @@
 //! Characters that nobody sees.
 
-ghost use Rattle.std.specs.Prelude.{◌≡◌, ◌||◌};
-ghost use Rattle.rq_found.specs.Hidden as hidden;
+ghost use Rattle.std.specs.Prelude.{◌≡◌};
+ghost use Rattle.rq_found.specs.Texts as texts;
 
 use std::fmt;
 
-// Whether Unicode counts it among its format characters.
-fn is_format(c: char) -> bool
-    ensures { result ≡ (hidden.is_among c hidden.format_runs
-        || hidden.is_among c hidden.old_script_runs) }
+/// Whether a character is a control or a format character of Unicode, or separates lines or
+/// paragraphs: it may move a terminal's cursor, take no room, or turn the direction of the text
+/// around it.
+pub fn is_hidden(c: char) -> bool
+    ensures { result ≡ texts.is_hidden c }
 {
-    matches!(
+    c.is_control()
+        || matches!(
         c,
         '\u{ad}'
             | '\u{600}'..='\u{605}'
@@ -21,21 +23,12 @@ fn is_format(c: char) -> bool
             | '\u{8e2}'
             | '\u{180e}'
             | '\u{200b}'..='\u{200f}'
-            | '\u{202a}'..='\u{202e}'
+            | '\u{2028}'..='\u{202e}'
             | '\u{2060}'..='\u{2064}'
             | '\u{2066}'..='\u{206f}'
             | '\u{feff}'
             | '\u{fff9}'..='\u{fffb}'
-    ) || is_format_of_old_scripts(c)
-}
-
-// Those that stand behind the first 65,536 characters.
-fn is_format_of_old_scripts(c: char) -> bool
-    ensures { result ≡ hidden.is_among c hidden.old_script_runs }
-{
-    matches!(
-        c,
-        '\u{110bd}'
+            | '\u{110bd}'
             | '\u{110cd}'
             | '\u{13430}'..='\u{1343f}'
             | '\u{1bca0}'..='\u{1bca3}'
@@ -43,15 +36,6 @@ fn is_format_of_old_scripts(c: char) -> bool
             | '\u{e0001}'
             | '\u{e0020}'..='\u{e007f}'
     )
-}
-
-/// Whether a character is a control or a format character of Unicode, or separates lines or
-/// paragraphs: it may move a terminal's cursor, take no room, or turn the direction of the text
-/// around it.
-pub fn is_hidden(c: char) -> bool
-    ensures { result ≡ hidden.is_hidden c }
-{
-    c.is_control() || matches!(c, '\u{2028}' | '\u{2029}') || is_format(c)
 }
 
 /// A text in which each hidden character is told by its number, as `\u{202e}`.

@@ -3,13 +3,13 @@
 ghost use Rattle.std.specs.Prelude.{◌≡◌};
 
 use crate::ends::End;
-use crate::objects::{JsonPiece, write_pieces};
 use rq_report::why_word;
-use serde::{Described, Serialize, Serializer};
+use serde::{Serialize, Serializer};
 
 /// Where a front ends, and where the checkpoint stands that a log begins with which was carried on.
-#[derive(Clone, Copy)]
+#[derive(Clone, Copy, Serialize)]
 pub struct FrontShown<'a> {
+    #[serde(skip_serializing_if = "Option::is_none")]
     carried_at: Option<u64>,
     records: u64,
     used: u64,
@@ -19,33 +19,11 @@ pub struct FrontShown<'a> {
 }
 
 impl FrontShown<'_> {
-    // The object.
-    fn pieces(&self) -> [JsonPiece<'_>; 8] {
-        [
-            JsonPiece::Begin,
-            JsonPiece::Number("carried_at", self.carried_at),
-            JsonPiece::Number("records", Some(self.records)),
-            JsonPiece::Number("used", Some(self.used)),
-            JsonPiece::Number("total", Some(self.total)),
-            JsonPiece::Text("why", Some(self.why)),
-            JsonPiece::Text("reason", Some(self.reason)),
-            JsonPiece::End,
-        ]
-    }
-
     /// Begins an object of which it is the first field.
     pub fn begin<S: Serializer>(&self, out: &mut S) -> Result<(), S::Error> {
         out.begin_map(None)?;
         out.key("front")?;
         self.serialize(out)
-    }
-}
-
-impl Described for FrontShown<'_> {}
-
-impl Serialize for FrontShown<'_> {
-    fn serialize<S: Serializer>(&self, out: &mut S) -> Result<(), S::Error> {
-        write_pieces(&self.pieces(), out)
     }
 }
 

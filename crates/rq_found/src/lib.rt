@@ -3,7 +3,6 @@
 //! and `rq_page` show it.
 #![tactic(auto)]
 
-mod beginning;
 mod ends;
 mod events;
 mod followed_queues;
@@ -12,15 +11,11 @@ mod hidden;
 mod json;
 mod misfits;
 mod numbered;
-mod objects;
 mod pieces;
 mod registrants;
-mod restarts;
 mod shown_log;
-mod subjects;
 mod trouble;
 
-pub use beginning::{begins_at, first_state, front_frames};
 pub use ends::{End, end_after, end_of, form_reason, is_whole, put_beginning, put_end};
 pub use events::{Effect, Event};
 pub use followed_queues::FollowedQueues;
@@ -28,11 +23,8 @@ pub use frames::{Placed, PlacedFrames};
 pub use hidden::{Seen, is_hidden};
 pub use json::{FrontShown, front_shown};
 pub use numbered::{Numbered, kind_of, queue_named, queues_behind, queues_of, unit_of};
-pub use objects::{JsonPiece, JsonTables};
 pub use pieces::{Put, TextPiece, put_digits, put_text_pieces};
 pub use registrants::{LastShown, RegistrantShown, registrants_shown};
-pub use restarts::restarted_from;
 pub use rq_restart::{Fault, Plan};
-pub use shown_log::ShownLog;
-pub use subjects::Subject;
-pub use trouble::Trouble;
+pub use shown_log::{ShownLog, begins_at, first_state, front_frames, restarted_from};
+pub use trouble::{Subject, Trouble};

@@ -1,7 +1,6 @@
 //! Where a body is none that a record has.
 
-use crate::pieces::TextPiece::{Number, Word};
-use crate::pieces::{Put, TextPiece, put_text_pieces};
+use crate::pieces::TextPiece::{self, Number, Word};
 use rq_record::Version;
 
 // The most bytes of a name.
@@ -10,67 +9,8 @@ const NAME: usize = 64;
 // The most bytes of a payload.
 const PAYLOAD: usize = 65_535;
 
-/// Why a body spells no record.
-#[derive(Clone, Copy)]
-pub(crate) enum Misfit {
-    /// No record has this kind.
-    Kind(u8),
-    /// The body ends in a field.
-    Cut(&'static str),
-    /// A name has no bytes.
-    Nameless,
-    /// A name, or a payload, has too many.
-    Long(&'static str, usize),
-    /// A byte that no name has.
-    Letter(u8),
-    /// Nobody is named, and the tag is not 0.
-    Tagged,
-    /// Bytes stand behind the last field.
-    More(usize),
-}
-
-// Two pieces, among as many as the longest text has.
-fn two(first: TextPiece<'static>, second: TextPiece<'static>) -> [TextPiece<'static>; 5] {
-    let none = Word("");
-    [first, second, none, none, none]
-}
-
-impl Misfit {
-    // The same in words.
-    fn pieces(&self) -> [TextPiece<'static>; 5] {
-        let none = Word("");
-        match self {
-            Misfit::Kind(kind) => two(Word("no record has the kind "), Number(u64::from(*kind))),
-            Misfit::Cut(field) => two(Word("the body ends in its "), Word(*field)),
-            Misfit::Nameless => two(Word("the name has no bytes"), none),
-            Misfit::Long(field, count) => [
-                Word("the "),
-                Word(*field),
-                Word(" has "),
-                Number(*count as u64),
-                Word(" bytes"),
-            ],
-            Misfit::Letter(byte) => two(Word("no name has the byte "), Number(u64::from(*byte))),
-            Misfit::Tagged => two(Word("nobody is named, and the tag is not 0"), none),
-            Misfit::More(count) => two(Number(*count as u64), Word(" bytes too many")),
-        }
-    }
-
-    /// Puts it in words.
-    pub(crate) fn put(&self, text: &mut String) -> Put {
-        put_text_pieces(text, &self.pieces())
-    }
-}
-
-// What is left of a body, and at which of its bytes that begins.
-#[derive(Clone, Copy)]
-struct BodyRest<'a> {
-    bytes: &'a [u8],
-    at: usize,
-}
-
-/// A misfit, and at which byte of the body.
-pub(crate) type Found = (usize, Misfit);
+/// At which byte a body shows that it spells no record, and why, in words.
+pub(crate) type Misfit = (usize, [TextPiece<'static>; 3]);
 
 // What stands in a body, one behind the other.
 #[derive(Clone, Copy)]
@@ -85,124 +25,113 @@ enum Field {
     Payload,
 }
 
-fn are_zero(bytes: &[u8]) -> bool {
-    for byte in bytes {
-        if *byte != 0 {
-            return false;
-        }
+// What a body says that ends in this field.
+fn cut(field: &'static str) -> [TextPiece<'static>; 3] {
+    [Word("the body ends in its "), Word(field), Word("")]
+}
+
+// Whether the bytes, which begin at this byte of a body, are a name.
+fn fits_name(name: &[u8], mut at: usize) -> Result<(), Misfit> {
+    let count = Number(name.len() as u64);
+    if name.is_empty() {
+        return Err((at, [Word("the name has no bytes"), Word(""), Word("")]));
     }
-    true
+    if name.len() > NAME {
+        return Err((at, [Word("the name has "), count, Word(" bytes")]));
+    }
+    for byte in name {
+        let number = Number(u64::from(*byte));
+        if !matches!(byte, b'a'..=b'z' | b'0'..=b'9' | b'-' | b'.' | b'_') {
+            return Err((at, [Word("no name has the byte "), number, Word("")]));
+        }
+        at = at.saturating_add(1);
+    }
+    Ok(())
+}
+
+// What is left of a body, and at which of its bytes that begins.
+#[derive(Clone, Copy)]
+struct BodyRest<'a> {
+    bytes: &'a [u8],
+    at: usize,
 }
 
 impl<'a> BodyRest<'a> {
-    // The bytes of the next field, which the rest then lacks.
-    fn field(self, count: usize, name: &'static str) -> Result<(&'a [u8], BodyRest<'a>), Found> {
+    // Takes the bytes of the next field.
+    fn field(&mut self, count: usize, name: &'static str) -> Result<&'a [u8], Misfit> {
         if self.bytes.len() < count {
-            return Err((self.at, Misfit::Cut(name)));
+            return Err((self.at, cut(name)));
         }
         let (field, bytes) = self.bytes.split_at(count);
-        let at = self.at.saturating_add(count);
-        Ok((field, BodyRest { bytes, at }))
+        self.bytes = bytes;
+        self.at = self.at.saturating_add(count);
+        Ok(field)
     }
 
-    // What stands behind all that is left: nothing.
-    fn ended(self) -> BodyRest<'a> {
-        BodyRest {
-            bytes: &[],
-            at: self.at,
+    // Takes a name of so many bytes.
+    fn name(&mut self, count: usize) -> Result<(), Misfit> {
+        let at = self.at;
+        fits_name(self.field(count, "name")?, at)
+    }
+
+    // Takes a registrant and a tag, or nobody, whose tag is 0.
+    fn who(&mut self) -> Result<(), Misfit> {
+        let count = self
+            .field(1, "name's length")?
+            .first()
+            .copied()
+            .unwrap_or(0);
+        if count > 0 {
+            self.name(count as usize)?;
         }
-    }
-
-    // The first byte that no name has, and where it stands.
-    fn letters(self) -> Result<BodyRest<'a>, Found> {
-        let mut at = self.at;
-        for byte in self.bytes {
-            if !matches!(byte, b'a'..=b'z' | b'0'..=b'9' | b'-' | b'.' | b'_') {
-                return Err((at, Misfit::Letter(*byte)));
-            }
-            at = at.saturating_add(1);
+        let at = self.at;
+        let tag = self.field(8, "tag")?;
+        if count == 0 && tag.iter().any(|byte| *byte != 0) {
+            let words = Word("nobody is named, and the tag is not 0");
+            return Err((at, [words, Word(""), Word("")]));
         }
-        Ok(self.ended())
+        Ok(())
     }
 
-    // All that is left is a name.
-    fn name(self) -> Result<BodyRest<'a>, Found> {
-        if self.bytes.is_empty() {
-            return Err((self.at, Misfit::Nameless));
+    // Takes all that is left as a payload.
+    fn payload(&mut self) -> Result<(), Misfit> {
+        let (at, count) = (self.at, self.bytes.len());
+        self.field(count, "payload")?;
+        if count > PAYLOAD {
+            let number = Number(count as u64);
+            return Err((at, [Word("the payload has "), number, Word(" bytes")]));
         }
-        if self.bytes.len() > NAME {
-            return Err((self.at, Misfit::Long("name", self.bytes.len())));
-        }
-        self.letters()
+        Ok(())
     }
 
-    // All that is left is a payload.
-    fn payload(self) -> Result<BodyRest<'a>, Found> {
-        if self.bytes.len() > PAYLOAD {
-            return Err((self.at, Misfit::Long("payload", self.bytes.len())));
-        }
-        Ok(self.ended())
-    }
-
-    // A tag, which is 0 if nobody is named.
-    fn tag(self, is_named: bool) -> Result<BodyRest<'a>, Found> {
-        let (tag, left) = self.field(8, "tag")?;
-        if !is_named && !are_zero(tag) {
-            return Err((self.at, Misfit::Tagged));
-        }
-        Ok(left)
-    }
-
-    // A name of so many bytes, and a tag.
-    fn named(self, count: usize) -> Result<BodyRest<'a>, Found> {
-        let (name, tagged) = self.field(count, "name")?;
-        let name = BodyRest {
-            bytes: name,
-            at: self.at,
-        };
-        name.name()?;
-        tagged.tag(true)
-    }
-
-    // A registrant and a tag, or nobody.
-    fn who(self) -> Result<BodyRest<'a>, Found> {
-        let (len, rest) = self.field(1, "name's length")?;
-        match len {
-            [0] => rest.tag(false),
-            [count] => rest.named(*count as usize),
-            _ => rest.tag(false),
-        }
-    }
-
-    // What stands behind a field.
-    fn behind(self, field: &Field) -> Result<BodyRest<'a>, Found> {
+    // Takes a field.
+    fn take(&mut self, field: &Field) -> Result<(), Misfit> {
         match field {
-            Field::Bytes(count, name) => match self.field(*count, name) {
-                Ok((_, rest)) => Ok(rest),
-                Err(found) => Err(found),
-            },
+            Field::Bytes(count, name) => {
+                self.field(*count, name)?;
+                Ok(())
+            }
             Field::Who => self.who(),
-            Field::Name => self.name(),
+            Field::Name => self.name(self.bytes.len()),
             Field::Payload => self.payload(),
         }
     }
 
     // These fields are all that is left.
-    fn fits(self, fields: &[Field]) -> Result<(), Found> {
-        let mut rest = self;
+    fn fits(mut self, fields: &[Field]) -> Result<(), Misfit> {
         for field in fields {
-            rest = rest.behind(field)?;
+            self.take(field)?;
         }
-        if rest.bytes.is_empty() {
-            Ok(())
-        } else {
-            Err((rest.at, Misfit::More(rest.bytes.len())))
+        if self.bytes.is_empty() {
+            return Ok(());
         }
+        let count = Number(self.bytes.len() as u64);
+        Err((self.at, [count, Word(" bytes too many"), Word("")]))
     }
 }
 
 // Whether the fields of a kind of record are all that is left.
-fn fits(version: Version, kind: u8, rest: BodyRest<'_>) -> Result<(), Found> {
+fn fits(version: Version, kind: u8, rest: BodyRest<'_>) -> Result<(), Misfit> {
     let (unit, queue) = (Field::Bytes(8, "unit"), Field::Bytes(4, "queue"));
     match kind {
         1 => rest.fits(&[
@@ -222,15 +151,18 @@ fn fits(version: Version, kind: u8, rest: BodyRest<'_>) -> Result<(), Found> {
         6 => rest.fits(&[unit, queue, Field::Who]),
         9 => Ok(()),
         10 if version == Version::Two => rest.fits(&[queue, Field::Bytes(8, "element")]),
-        _ => Err((0, Misfit::Kind(kind))),
+        _ => {
+            let number = Number(u64::from(kind));
+            Err((0, [Word("no record has the kind "), number, Word("")]))
+        }
     }
 }
 
 /// Why the body spells no record of the version, and at which of its bytes that shows; none where
 /// nothing is found. It is asked of bodies that spell none, and what it finds is tested.
-pub(crate) fn misfit_of(version: Version, body: &[u8]) -> Option<Found> {
+pub(crate) fn misfit_of(version: Version, body: &[u8]) -> Option<Misfit> {
     match body {
-        [] => Some((0, Misfit::Cut("kind"))),
+        [] => Some((0, cut("kind"))),
         [kind, bytes @ ..] => fits(version, *kind, BodyRest { bytes, at: 1 }).err(),
     }
 }

@@ -5,8 +5,8 @@ ghost use Rattle.rq_model.specs.Records.{Two};
 ghost use Rattle.rq_model.specs.Spelling.{Spells};
 ghost use Rattle.rq_record.specs.Views.{record_of};
 ghost use Rattle.rq_record.specs.declared.fault.Fault.TheVariants.{Resources};
-ghost use Rattle.rq_found.specs.Kinds as kinds;
-ghost use Rattle.rq_found.specs.Kinds.{kind_word, queue_shown, unit_shown};
+ghost use Rattle.rq_found.specs.Records as records;
+ghost use Rattle.rq_found.specs.Records.{kind_word, queue_shown, unit_shown};
 
 use crate::frames::Placed;
 use rq_record::{Fault, KeptRecord, QueueNo, UnitNo, Version, decode_kept};
@@ -72,7 +72,7 @@ pub fn queue_named(r: &KeptRecord) -> Option<QueueNo>
 
 /// How many queues are defined behind the body of a record, of which so many are before it.
 pub fn queues_behind(queues: u32, body: &[u8]) -> u32
-    ensures { result ≡ kinds.queues_behind queues body.now }
+    ensures { result ≡ records.queues_behind queues body.now }
 {
     match body {
         [1, ..] => queues.saturating_add(1),

@@ -3,10 +3,10 @@
 
 ghost use Rattle.std.specs.Prelude.{◌≡◌, ◌++◌, OnOk, string_bytes};
 ghost use Rattle.std.specs.List.{flat_map};
-ghost use Rattle.rq_found.specs.Pieces.{piece_text};
+ghost use Rattle.rq_found.specs.Texts.{piece_text};
 
 use std::alloc::{AllocError, Global};
-use std::fmt::{self, Write};
+use std::fmt::Write;
 
 /// What is answered by a call that puts something into a text: memory alone refuses it.
 pub type Put = Result<(), AllocError>;
@@ -30,17 +30,6 @@ fn put_piece(text: &mut String, piece: &TextPiece<'_>) -> Put
     }
 }
 
-/// Writes a piece where something is formatted.
-pub(crate) fn write_piece<W: fmt::Write>(
-    f: &mut fmt::Formatter<W>,
-    piece: &TextPiece<'_>,
-) -> fmt::Result {
-    match piece {
-        TextPiece::Word(word) => f.write_str(word),
-        TextPiece::Number(number) => write!(f, "{number}"),
-    }
-}
-
 /// Puts the pieces, in order.
 pub fn put_text_pieces(text: &mut String, pieces: &[TextPiece<'_>]) -> Put
     ensures { OnOk result (string_bytes text.new
@@ -50,13 +39,6 @@ pub fn put_text_pieces(text: &mut String, pieces: &[TextPiece<'_>]) -> Put
         put_piece(text, piece)?;
     }
     Ok(())
-}
-
-/// The text of the pieces.
-pub(crate) fn joined_text(alloc: Global, pieces: &[TextPiece<'_>]) -> Result<String, AllocError> {
-    let mut text = String::new(alloc);
-    put_text_pieces(&mut text, pieces)?;
-    Ok(text)
 }
 
 /// Puts the first bytes as digits, two each, and answers how many these are.

@@ -1,6 +1,21 @@
-//! A log that is shown.
+//! A log that is shown: where its records begin, and its restart from there.
 
-use rq_restart::Plan;
+ghost use Rattle.std.specs.Prelude.{◌≡◌, None, IfOk, IfErr, IfSome, IfNone, OnOk, drop, take};
+ghost use Rattle.rq_model.specs.Carrying.{carried_gap};
+ghost use Rattle.rq_model.specs.States.{empty};
+ghost use Rattle.rq_front.specs.Chains.{IsHeaded, IsLog};
+ghost use Rattle.rq_found.specs.Ends.{IsRestartFrom};
+ghost use Rattle.rq_found.specs.Refusals.{RefusedFrom};
+ghost use Rattle.rq_found.specs.Records.{StandFrom, front_at};
+ghost use Rattle.rq_record.specs.declared.fault.Fault.TheVariants.{Resources};
+
+use crate::frames::{PlacedFrames, first_frame};
+use rq_front::{CARRIED_AT, HEADER_LEN, is_carried, version};
+use rq_record::Fault;
+use rq_restart::{Open, Plan, Restarted, restart, restart_at};
+use rq_state::{State, read_in};
+use std::alloc::Global;
+use std::thread::Threads;
 
 /// A log that is shown, and how its records are read.
 #[derive(Clone, Copy)]
@@ -11,4 +26,85 @@ pub struct ShownLog<'a> {
     pub at: Option<u64>,
     /// By how many workers its records are read.
     pub plan: &'a Plan,
+}
+
+/// Where the first frame of a log stands that was carried on into a file of its own: a checkpoint.
+/// Of any other log there is none.
+pub fn begins_at(bytes: &[u8]) -> Option<u64>
+    ensures some { IfSome result (λ at. (at ≡ 96) × IsHeaded bytes.now
+        × (take 24 (drop 40 bytes.now) ≡ carried_gap)) }
+    ensures none { IfNone result
+        (IsHeaded bytes.now × (take 24 (drop 40 bytes.now) ≡ carried_gap) → ⊥) }
+{
+    if is_carried(bytes) {
+        Some(CARRIED_AT as u64)
+    } else {
+        None
+    }
+}
+
+// The state that the checkpoint at an offset spells.
+fn state_at(alloc: Global, bytes: &[u8], at: u64) -> Option<State> {
+    let version = version(bytes)?;
+    let (frame, _) = first_frame(bytes.get(at as usize..)?)?;
+    let spelled = frame.body.get(1..)?;
+    match read_in(alloc, version, spelled) {
+        Ok(state) => Some(state),
+        Err(_) => None,
+    }
+}
+
+/// The state behind which the records of a front begin: that of the checkpoint at the offset, if
+/// there is one, which a restart has found there.
+pub fn first_state(alloc: Global, bytes: &[u8], at: Option<u64>) -> Result<State, Fault>
+    ensures beginning { at ≡ None → IfOk result (λ s. s ≡ empty) }
+    ensures refused { IfErr result (λ e. e ≡ Resources) }
+{
+    let Some(at) = at else {
+        return Ok(State::empty(alloc));
+    };
+    // The restart read the same state, so memory alone is refused.
+    match state_at(alloc, bytes, at) {
+        Some(state) => Ok(state),
+        None => Err(Fault::Resources),
+    }
+}
+
+// Where the first frame of a front stands.
+fn offset_of(at: Option<u64>) -> u64
+    ensures { result ≡ front_at at }
+{
+    match at {
+        Some(at) => at,
+        None => HEADER_LEN as u64,
+    }
+}
+
+/// The frames of a front that begins behind a state, in the first `used` bytes: from the checkpoint
+/// at the offset on, if there is one, else from the header on.
+pub fn front_frames<'a>(
+    bytes: &'a [u8],
+    first: &State,
+    at: Option<u64>,
+    used: u64,
+) -> PlacedFrames<'a>
+    ensures { StandFrom bytes.now (front_at at) first.now.next used result }
+{
+    PlacedFrames::beginning_at(bytes, offset_of(at), first.next(), used)
+}
+
+/// The restart of a log, from the checkpoint on that it begins with, if there is one.
+pub fn restarted_from<R: Threads + Sync>(
+    rt: &R,
+    alloc: Global,
+    log: &ShownLog<'_>,
+) -> Result<Restarted, Fault>
+    ensures log { OnOk result (IsLog log.now.bytes.now) }
+    ensures restart { IfOk result (λ r. IsRestartFrom log.now.at log.now.bytes.now r) }
+    ensures refused { IfErr result (RefusedFrom log.now.at log.now.bytes.now) }
+{
+    match log.at {
+        None => restart(rt, alloc, log.bytes, log.plan, &Open),
+        Some(at) => restart_at(rt, alloc, log.bytes, at, log.plan, &Open),
+    }
 }

@@ -1,14 +1,31 @@
-//! Why nothing more is shown.
+//! Why nothing more is shown, and of what.
 
 ghost use Rattle.std.specs.Prelude.{◌≡◌};
 ghost use Rattle.rq_record.specs.declared.fault.Fault.TheVariants.{Resources};
 ghost use Rattle.rq_found.specs.declared.trouble.Trouble.TheVariants.{Log, Output};
 
-use crate::subjects::Subject;
 use rq_record::Fault;
 use std::alloc::AllocError;
-use std::io;
+use std::{fmt, io};
 use thiserror::Error;
+
+/// What is told of a log.
+#[derive(Clone, Copy, Debug, PartialEq, Eq)]
+pub enum Subject {
+    /// What became of the element of this number.
+    Element(u64),
+    /// What the unit of this number did.
+    Unit(u64),
+}
+
+impl fmt::Display for Subject {
+    fn fmt<W: fmt::Write>(&self, f: &mut fmt::Formatter<W>) -> fmt::Result {
+        match self {
+            Subject::Element(element) => write!(f, "element {element}"),
+            Subject::Unit(unit) => write!(f, "unit {unit}"),
+        }
+    }
+}
 
 /// Why a log is not shown, or not to its end.
 #[derive(Debug, Drop, Error)]

@@ -8,7 +8,9 @@ use Rattle.rq_model.specs.Fronts.{Restarted}
 use Rattle.rq_judged.specs.FrontEnds.{IsEndOf}
 use Rattle.rq_judged.specs.Views.{why_of}
 use Rattle.rq_behind.specs.declared.search.Found.{Found}
-use Rattle.rq_look.specs.Rests.{behind_finding, IsChoice}
+use Rattle.rq_look.specs.Findings.{behind_finding}
+use Rattle.rq_look.specs.Looks.{AppendsSome, IsReportFrom, BreaksOff}
+use Rattle.rq_look.specs.Scripts.{IsChoice, LeavesOut}
 use Rattle.rq_found.specs.Ends.{front_end_of, IsRestartFrom}
 use Rattle.rq_found.specs.Refusals.{RefusedFrom, IsBroken}
 use Rattle.rq_found.specs.declared.ends.End.{End}
@@ -17,8 +19,6 @@ use Rattle.rq_found.specs.declared.trouble.Trouble.TheVariants.{Log, Output, Unt
 use Rattle.rq_record.specs.declared.fault.Fault.{Fault}
 use Rattle.rq_record.specs.declared.fault.Fault.TheVariants.{Resources}
 use Rattle.rq_model.specs.Reports.{IsText}
-use Rattle.rq_look.specs.Looks.{AppendsSome, IsReportFrom, BreaksOff}
-use Rattle.rq_look.specs.Scripts.{LeavesOut}
 
 -- one behind the other
 pub both_put : (old mid new : Option (List ℕ)) → AppendsSome old mid → AppendsSome mid new → AppendsSome old new

@@ -1,15 +1,15 @@
 -- A script under way.
-use Rattle.std.proofs.Common.{◌≡◌, ◌∙◌, ℕ, ◌+◌, ◌<◌, ◌≤◌, List, [], ◌∷◌, ◌++◌, length, take, drop, Option, Result, Ok}
+use Rattle.std.proofs.Common.{◌≡◌, ◌∙◌, ℕ, ◌+◌, ◌<◌, ◌≤◌, List, [], ◌∷◌, ◌++◌, length, take, drop, Option, Some, None, Result, Ok}
 use Rattle.std.proofs.Common.{Err, OnOk, refl, sym, ap, subst, append_assoc, append-nil, arith}
 use Rattle.std.specs.Prelude.{min}
 use Rattle.std.specs.List.{AllByRecursion}
 use Rattle.std.specs.Io.KnownBytes.{Appends}
 use Rattle.std.proofs.KnownBytes.{Appends-nil, Appends-trans}
 use Rattle.std.proofs.lemmas.Grind.{flat_map-append}
-use Rattle.std.proofs.lemmas.List.{length-append, drop_at}
+use Rattle.std.proofs.lemmas.List.{length-append, length-drop, drop_at}
 use Rattle.rq_model.specs.Records.{Record, Version, One, Two}
 use Rattle.rq_model.specs.Spelling.{body_of, IsRecord, Spells}
-use Rattle.rq_model.specs.Frames.{digest, header, start, frames_of, log_of, stated, body_in}
+use Rattle.rq_model.specs.Frames.{before, digest, header, start, frames_of, log_of, stated, body_in}
 use Rattle.rq_model.specs.Fronts.{IsFront, IsRestart, Restarted}
 use Rattle.rq_model.proofs.RecordReaders.{body_fits, one_record}
 use Rattle.rq_model.proofs.Lists.{each_append}
@@ -18,6 +18,7 @@ use Rattle.rq_model.proofs.Longest.{front_whole, used_is_front, used_long}
 use Rattle.rq_model.proofs.Restarts.{each_cut, frames_many, header_long}
 use Rattle.rq_model.proofs.Upgraded.{record_is_wider}
 use Rattle.rq_writer.specs.Script.{IsTellable}
+use Rattle.rq_found.specs.Ends.{IsRestartFrom}
 use Rattle.rq_found.specs.declared.trouble.Trouble.{Trouble}
 use Rattle.rq_found.specs.declared.trouble.Trouble.TheVariants.{Log, Output, Untold, NoQueue, Nothing}
 use Rattle.rq_look.specs.Scripts.{script_line, script_text, PutsScript, IsDash, by_in, LeavesBody, LeavesOut}
@@ -55,6 +56,20 @@ used_fits b r h =
         ap length (front_whole b h.version h.records h.rest h.front),
         length-append (log_of h.version h.records) h.rest,
       ),
+    )
+
+-- so do those of a restart from a checkpoint, and they are of the log
+pub used_within : (at : Option ℕ) (b : List ℕ) (r : Restarted) → IsRestartFrom at b r
+    → (32 ≤ r.used) × (r.used ≤ length b)
+used_within None b r is = let fits = used_fits b r is in (omega (arith, fits.0), fits.1)
+used_within (Some at) b r is =
+    let used = ap (λ (x : Restarted). x.used) is.answer in
+    let room = is.checkpoint.frame.whole.room in
+    let whole = ap length is.front.begins.whole in
+    let parts = length-append (frames_of (before at b) is.records) is.rest in
+    let low = is.checkpoint.past_header in (
+      omega (arith, used, room, whole, parts, low, length-drop at b),
+      omega (arith, used),
     )
 
 -- no record is told yet

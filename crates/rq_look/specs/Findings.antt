@@ -1,14 +1,70 @@
--- What a check of a log finds.
-use Rattle.std.specs.Prelude.{◌≡◌, ℕ, Bool, false, List, ◌++◌, map, codes, Option}
-use Rattle.std.specs.Prelude.{Some, None}
-use Rattle.std.specs.List.{flat_map}
+-- What stands behind the front of a log, and what a check of it finds.
+use Rattle.std.specs.Prelude.{◌≡◌, ℕ, ◌+◌, ◌-◌, ◌&&◌, Bool, false, List, [], ◌∷◌, ◌++◌, length, map}
+use Rattle.std.specs.Prelude.{codes, Option, Some, None, if◌then◌else◌}
+use Rattle.std.specs.List.{flat_map, list_all}
+use Rattle.std.specs.Fmt.{decimal}
+use Rattle.rq_model.specs.Records.{Version}
+use Rattle.rq_model.specs.Frames.{HasHeader}
 use Rattle.rq_model.specs.Fronts.{Why, Restarted, IsRestart}
 use Rattle.rq_model.specs.Checkpoints.{IsAudit, IsRestartAt}
-use Rattle.rq_restart.specs.Audits.{audited_of}
+use Rattle.rq_front.specs.declared.spans.Span.{Span}
+use Rattle.rq_behind.specs.Behind.{AreRightFrames, frame_bytes, looked_to}
 use Rattle.rq_behind.specs.declared.search.Found.{Found}
-use Rattle.rq_found.specs.Ends.{end_line}
-use Rattle.rq_look.specs.Looks.{all_fine, checkpoint_finding, end_finding}
-use Rattle.rq_look.specs.Rests.{IsBehind, behind_finding}
+use Rattle.rq_judged.specs.FrontEnds.{IsEndOf}
+use Rattle.rq_restart.specs.Audits.{audited_of}
+use Rattle.rq_found.specs.Ends.{IsRestartFrom, end_line, end_text, front_end_of, is_whole}
+use Rattle.rq_found.specs.declared.ends.End.{End}
+
+-- a front of b ends there, that of its restart or that of one from a checkpoint
+abbrev pub EndsFrontOf : List ℕ → End → Type 0
+EndsFrontOf b end = (at : Option ℕ) × (r : Restarted) × IsRestartFrom at b r
+    × IsEndOf r (front_end_of end)
+
+-- the right frames of b behind the first `used` bytes, how many of the bytes that were looked at
+-- belong to none, and where the search gave up, if it did
+abbrev pub IsBehind : List ℕ → ℕ → Found → Type 0
+IsBehind b used found = (version : Version) × HasHeader version b
+    × AreRightFrames version b used found.spans.items found.gave_up
+    × (used + (found.unfit + frame_bytes found.spans.items) ≡ looked_to b found.gave_up)
+
+-- how many they are, and where the first of them begins
+abbrev pub frames_text : List Span → List ℕ
+frames_text [] = codes "no frame is right in itself"
+frames_text (s ∷ ss) = decimal (length (s ∷ ss))
+    ++ (codes " frames are right in themselves, the first at " ++ decimal (s.start - 4))
+
+-- the line of where the search gave up, if it did, of so many bytes
+abbrev pub given_up_text : Option ℕ → ℕ → List ℕ
+given_up_text None total = []
+given_up_text (Some place) total = codes "the search gave up at " ++ (decimal place ++ (codes ": "
+    ++ (decimal (total - place) ++ codes " bytes were not looked at\n")))
+
+-- the line of what stands behind a front
+abbrev pub count_text : Found → List ℕ
+count_text found = codes "behind it " ++ (frames_text found.spans.items ++ (codes "; "
+    ++ (decimal found.unfit ++ codes " bytes fit nothing\n")))
+
+-- this line of a log of so many bytes, and that of where the search gave up
+abbrev pub behind_text : Found → ℕ → List ℕ
+behind_text found total = count_text found ++ given_up_text found.gave_up total
+
+-- these lines, unless nothing follows the front
+abbrev pub behind_finding : Why → Found → ℕ → List ℕ
+behind_finding why found total = if is_whole why then [] else behind_text found total
+
+-- nothing follows the front, and each of its checkpoints, by their offsets, is true
+abbrev pub all_fine : Why → List (ℕ × Bool) → Bool
+all_fine why found = is_whole why && list_all (λ x. x.1) found
+
+-- the line of where a front ends, unless nothing follows it
+abbrev pub end_finding : ℕ → ℕ → ℕ → Why → List ℕ → List ℕ
+end_finding records used total why reason =
+    if is_whole why then [] else end_text records used total why reason
+
+-- the line of a checkpoint, by its offset and whether it is true, unless it is
+abbrev pub checkpoint_finding : ℕ × Bool → List ℕ
+checkpoint_finding x = if x.1 then [] else codes "the checkpoint at "
+    ++ (decimal x.0 ++ codes " does not spell the state before it\n")
 
 -- the lines of where a front ends, of what stands behind it, and of its checkpoints
 abbrev pub findings_text : ℕ → ℕ → ℕ → Why → List ℕ → Found → List (ℕ × Bool) → List ℕ

@@ -1,4 +1,3 @@
 pub mod Findings
 pub mod Looks
-pub mod Rests
 pub mod Scripts

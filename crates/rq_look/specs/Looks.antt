@@ -1,17 +1,15 @@
 -- What a look at a log promises.
-use Rattle.std.specs.Prelude.{◌≡◌, ℕ, ◌<◌, ◌≤◌, ◌⊎◌, ◌&&◌, Bool, true, false, ⊤, if◌then◌else◌}
-use Rattle.std.specs.Prelude.{List, [], ◌++◌, length, codes, Option, Some, None}
-use Rattle.std.specs.List.{list_all}
-use Rattle.std.specs.Fmt.{decimal}
+use Rattle.std.specs.Prelude.{◌≡◌, ℕ, ◌<◌, ◌≤◌, ◌⊎◌, Bool, true, false, ⊤, List, ◌++◌, length, codes}
+use Rattle.std.specs.Prelude.{Option, Some, None}
 use Rattle.std.specs.Io.KnownBytes.{Appends}
-use Rattle.rq_model.specs.Fronts.{Why, Restarted, IsRestart}
+use Rattle.rq_model.specs.Fronts.{Restarted}
 use Rattle.rq_model.specs.Reports.{IsReport}
 use Rattle.rq_model.specs.Checkpoints.{IsReportAt}
 use Rattle.rq_front.specs.Chains.{IsLog}
-use Rattle.rq_found.specs.Ends.{IsRestartFrom, beginning_text, end_line, end_text, is_whole}
+use Rattle.rq_found.specs.Ends.{IsRestartFrom, beginning_text, end_line}
 use Rattle.rq_found.specs.Refusals.{IsBroken, IsRefusal, StaysUnshown}
 use Rattle.rq_look.specs.Scripts.{LeavesOut}
-use Rattle.rq_found.specs.declared.subjects.Subject.{Subject}
+use Rattle.rq_found.specs.declared.trouble.Subject.{Subject}
 use Rattle.rq_found.specs.declared.trouble.Trouble.{Trouble}
 use Rattle.rq_found.specs.declared.trouble.Trouble.TheVariants.{Log, Output, Untold, NoQueue, Nothing}
 use Rattle.rq_record.specs.declared.fault.Fault.TheVariants.{Resources}
@@ -24,55 +22,27 @@ AppendsSome old new = (put : List ℕ) × Appends old new put
 abbrev pub AppendsLine : Option (List ℕ) → Option (List ℕ) → Type 0
 AppendsLine old new = (text : List ℕ) × Appends old new (text ++ codes "\n")
 
--- of checkpoints, each with its offset and whether it is true
-abbrev pub all_true : List (ℕ × Bool) → Bool
-all_true found = list_all (λ x. x.1) found
-
--- nothing follows the front, and each of its checkpoints is true
-abbrev pub all_fine : Why → List (ℕ × Bool) → Bool
-all_fine why found = is_whole why && all_true found
-
--- whether b is whole
-abbrev pub IsKnownWhole : List ℕ → Bool → Type 0
-IsKnownWhole b whole = (r : Restarted) × IsRestart b r × (whole ≡ is_whole r.why)
-
--- the text is the line of where the front of b ends, with some reason
-abbrev pub IsEndText : Option ℕ → List ℕ → List ℕ → Type 0
-IsEndText at b text =
-    (r : Restarted) × (reason : List ℕ) × IsRestartFrom at b r × (text ≡ end_line r reason)
-
--- the last line of a dump of b: an object of JSON, or this line
+-- the last line of a dump of b: an object of JSON, or that of where its front ends, with some reason
 abbrev pub IsClosing : Option ℕ → List ℕ → Bool → List ℕ → Type 0
 IsClosing at b true text = (object : List ℕ) × (text ≡ object ++ codes "\n")
-IsClosing at b false text = IsEndText at b text
+IsClosing at b false text = (r : Restarted) × (reason : List ℕ) × IsRestartFrom at b r
+    × (text ≡ end_line r reason)
 
 -- some text is appended, and then the last line of a dump of b
 abbrev pub EndsDump : Option ℕ → List ℕ → Bool → Option (List ℕ) → Option (List ℕ) → Type 0
 EndsDump at b json old new = (records closing : List ℕ) × IsClosing at b json closing
     × Appends old new (records ++ closing)
 
--- the line of where a front ends, unless nothing follows it
-abbrev pub end_finding : ℕ → ℕ → ℕ → Why → List ℕ → List ℕ
-end_finding records used total why reason =
-    if is_whole why then [] else end_text records used total why reason
-
--- the line of a checkpoint, by its offset and whether it is true, unless it is
-abbrev pub checkpoint_finding : ℕ × Bool → List ℕ
-checkpoint_finding x = if x.1 then [] else codes "the checkpoint at "
-    ++ (decimal x.0 ++ codes " does not spell the state before it\n")
-
 -- a script broke off: so is told of a record that no script tells, and of what `IsBroken` says
 abbrev pub BreaksOff : Trouble → Type 0
 BreaksOff (Untold number) = ⊤
 BreaksOff e = IsBroken e
 
--- there is no whole script of b: it is not shown, or it is a log and its script broke off
-abbrev pub StaysUntold : List ℕ → Option (List ℕ) → Option (List ℕ) → Trouble → Type 0
-StaysUntold b old new e = (IsLog b × BreaksOff e) ⊎ StaysUnshown None b old new e
-
--- there is no whole script of b; where a record of its front is left untold, it is the first such
+-- there is no whole script of b: it is not shown, or it is a log and its script broke off; where a
+-- record of its front is left untold, it is the first such
 abbrev pub LacksScript : List ℕ → Option (List ℕ) → Option (List ℕ) → Trouble → Type 0
-LacksScript b old new e = LeavesOut b old new e × StaysUntold b old new e
+LacksScript b old new e = LeavesOut b old new e
+    × ((IsLog b × BreaksOff e) ⊎ StaysUnshown None b old new e)
 
 -- the story of the subject is missing, and the output holds what it held; or it broke off
 abbrev pub LacksStory : Subject → Option (List ℕ) → Option (List ℕ) → Trouble → Type 0
@@ -90,14 +60,10 @@ abbrev pub HasQueue : Restarted → Option ℕ → Type 0
 HasQueue r None = ⊤
 HasQueue r (Some queue) = queue < length r.state.definitions
 
--- a queue is wanted that b does not have
-abbrev pub IsNoQueue : Option ℕ → List ℕ → Option ℕ → ℕ → Type 0
-IsNoQueue at b wanted queue = (wanted ≡ Some queue)
-    × (r : Restarted) × IsRestartFrom at b r × (length r.state.definitions ≤ queue)
-
 -- why b has no report with the queue that is wanted: it is refused, or has no such queue
 abbrev pub LacksReport : Option ℕ → List ℕ → Option ℕ → Trouble → Type 0
-LacksReport at b wanted (NoQueue queue) = IsNoQueue at b wanted queue
+LacksReport at b wanted (NoQueue queue) = (wanted ≡ Some queue)
+    × (r : Restarted) × IsRestartFrom at b r × (length r.state.definitions ≤ queue)
 LacksReport at b wanted e = IsRefusal at b e
 
 -- b is a log that has the queue, if one is wanted
@@ -122,17 +88,11 @@ abbrev pub IsReportFrom : Option ℕ → List ℕ → List ℕ → Type 0
 IsReportFrom None b text = IsReport b text
 IsReportFrom (Some at) b text = IsReportAt b at text
 
--- where no queue is wanted alone, the report of b is appended, behind the line that says where b
--- begins; else b is a log that has the queue, and some text is
-abbrev pub PutsReport : Option ℕ → List ℕ → Option ℕ → Option (List ℕ) → Option (List ℕ) → Type 0
-PutsReport at b None old new = (text : List ℕ) × IsReportFrom at b text
-    × Appends old new (beginning_text at ++ text)
-PutsReport at b (Some queue) old new = HasWanted at b (Some queue)
-    × (text : List ℕ) × Appends old new text
-
--- of b, which has the queue that is wanted, this is appended; or one value of JSON is, and the end of
--- its line
+-- of b, which has the queue that is wanted, one value of JSON is appended, and the end of its line; or
+-- its report is, behind the line that says where b begins; or, if one queue is wanted alone, some text
 abbrev pub PutsReportAs : Bool → Option ℕ → List ℕ → Option ℕ → Option (List ℕ) → Option (List ℕ)
     → Type 0
-PutsReportAs false at b wanted old new = PutsReport at b wanted old new
 PutsReportAs true at b wanted old new = HasWanted at b wanted × AppendsLine old new
+PutsReportAs false at b None old new = (text : List ℕ) × IsReportFrom at b text
+    × Appends old new (beginning_text at ++ text)
+PutsReportAs false at b (Some queue) old new = HasWanted at b (Some queue) × AppendsSome old new

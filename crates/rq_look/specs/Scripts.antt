@@ -1,11 +1,13 @@
--- The script of a log.
-use Rattle.std.specs.Prelude.{◌≡◌, ℕ, ⊤, List, ◌∷◌, ◌++◌, length, codes, Option, Some, None}
+-- The script of a log, and what a salvage has behind it.
+use Rattle.std.specs.Prelude.{◌≡◌, ℕ, ⊤, Bool, true, false, List, [], ◌∷◌, ◌++◌, length, codes}
+use Rattle.std.specs.Prelude.{Option, Some, None}
 use Rattle.std.specs.List.{AllByRecursion, flat_map}
 use Rattle.std.specs.Io.KnownBytes.{Appends}
 use Rattle.rq_model.specs.Records.{By, Record, Enqueue, Dequeue, Version, Two}
 use Rattle.rq_model.specs.Spelling.{Spells}
-use Rattle.rq_model.specs.Fronts.{IsFront}
+use Rattle.rq_model.specs.Fronts.{IsFront, IsRestart, Restarted}
 use Rattle.rq_writer.specs.Script.{record_text, IsTellable}
+use Rattle.rq_found.specs.Ends.{is_whole}
 use Rattle.rq_found.specs.declared.trouble.Trouble.{Trouble}
 use Rattle.rq_found.specs.declared.trouble.Trouble.TheVariants.{Untold}
 
@@ -53,3 +55,14 @@ LeavesOut b old new (Untold number) = (version : Version) × (before : List Reco
     × (number ≡ length before) × AllByRecursion IsTellable before × IsDash (by_in r)
     × Appends old new (script_text before)
 LeavesOut b old new _ = ⊤
+
+-- what a salvage has behind the script of the front: nothing if the front is whole, else a text that
+-- begins with a sign with which no line of a script begins
+abbrev pub IsChoice : Bool → List ℕ → Type 0
+IsChoice true text = text ≡ []
+IsChoice false text = (words : List ℕ) × (text ≡ codes "# " ++ words)
+
+-- the script of the front of b is appended, and behind it such a text
+abbrev pub PutsSalvage : List ℕ → Option (List ℕ) → Option (List ℕ) → Type 0
+PutsSalvage b old new = (r : Restarted) × IsRestart b r × (script choice : List ℕ)
+    × IsScriptOf b script × IsChoice (is_whole r.why) choice × Appends old new (script ++ choice)

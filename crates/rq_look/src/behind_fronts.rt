@@ -4,8 +4,8 @@ ghost use Rattle.std.specs.Prelude.{◌≡◌, ◌++◌, IfOk, IfErr, OnOk, stri
 ghost use Rattle.rq_front.specs.Chains.{IsLog};
 ghost use Rattle.rq_record.specs.declared.fault.Fault.TheVariants.{Resources};
 ghost use Rattle.rq_judged.specs.Views.{why_of};
-ghost use Rattle.rq_look.specs.Rests.{EndsFrontOf, IsBehind, behind_finding, behind_text, count_text};
-ghost use Rattle.rq_look.specs.Rests.{frames_text, given_up_text};
+ghost use Rattle.rq_look.specs.Findings.{EndsFrontOf, IsBehind, behind_finding, behind_text};
+ghost use Rattle.rq_look.specs.Findings.{count_text, frames_text, given_up_text};
 
 use rq_behind::{Found, behind};
 use rq_found::{End, Put, is_whole};

@@ -28,19 +28,10 @@ fn is_shown(c: char) -> bool {
     matches!(c, ' '..='~') || escape_of(c).is_some() || !is_hidden(c)
 }
 
-fn is_printable(text: &str) -> bool {
-    for c in text.chars() {
-        if !is_shown(c) {
-            return false;
-        }
-    }
-    true
-}
-
 /// The text that the bytes spell, where no character of it is hidden but for ends of lines and tabs.
 pub(crate) fn printable(bytes: &[u8]) -> Option<&str> {
     match from_utf8(bytes) {
-        Ok(text) if is_printable(text) => Some(text),
+        Ok(text) if text.chars().all(|c| is_shown(c)) => Some(text),
         _ => None,
     }
 }
@@ -69,17 +60,6 @@ fn put_quoted(text: &mut String, word: &str, most: usize) -> Result<usize, Alloc
     Ok(shown)
 }
 
-// Puts the first bytes as digits, and that they are some, and answers how many these are.
-fn put_hex(
-    alloc: Global,
-    text: &mut String,
-    bytes: &[u8],
-    most: usize,
-) -> Result<usize, AllocError> {
-    text.push_str("hex ")?;
-    put_digits(alloc, text, bytes, most)
-}
-
 /// Puts bytes as a text where they are printable, else as digits, and `-` for none; the first of
 /// them alone where they are not wanted in full, and then their number behind, if these are not
 /// all.
@@ -91,7 +71,10 @@ pub(crate) fn put_bytes(alloc: Global, text: &mut String, bytes: &[u8], full: bo
     let most = if full { count } else { SHOWN };
     let shown = match printable(bytes) {
         Some(word) => put_quoted(text, word, most)?,
-        None => put_hex(alloc, text, bytes, most)?,
+        None => {
+            text.push_str("hex ")?;
+            put_digits(alloc, text, bytes, most)?
+        }
     };
     if count <= shown {
         return Ok(());

@@ -1,12 +1,12 @@
 //! Whether a log is whole, and each of its checkpoints true.
 
 ghost use Rattle.std.specs.Prelude.{◌≡◌, ◌++◌, IfOk, IfErr, OnOk, codes, string_bytes};
+ghost use Rattle.std.specs.List.{list_all};
 ghost use Rattle.rq_judged.specs.Views.{why_of};
 ghost use Rattle.rq_found.specs.Ends.{end_text};
 ghost use Rattle.rq_found.specs.Refusals.{IsRefusal};
-ghost use Rattle.rq_look.specs.Findings.{IsFindings, findings_text};
-ghost use Rattle.rq_look.specs.Looks.{all_fine, all_true, checkpoint_finding, end_finding};
-ghost use Rattle.rq_look.specs.Rests.{behind_finding};
+ghost use Rattle.rq_look.specs.Findings.{IsFindings, findings_text, all_fine, checkpoint_finding};
+ghost use Rattle.rq_look.specs.Findings.{end_finding, behind_finding};
 
 use crate::behind_fronts::{put_rest, standing_behind};
 use rq_behind::Found;
@@ -27,7 +27,7 @@ pub struct Findings {
 }
 
 fn are_true(found: &[(u64, bool)]) -> bool
-    ensures { result ≡ all_true found.now }
+    ensures { result ≡ list_all (λ x. x.1) found.now }
 {
     found.iter().all(|checkpoint| checkpoint.1)
 }

@@ -1,35 +1,107 @@
-//! A line for each record of a log.
+//! A line for each record of a log, and for each right frame behind its front.
 
 ghost use Rattle.std.specs.Prelude.{◌≡◌, ◌++◌, ℕ, List, Option, IfErr, OnOk, string_bytes};
 ghost use Rattle.rq_model.specs.Fronts.{Restarted};
 ghost use Rattle.rq_judged.specs.FrontEnds.{IsEndOf};
 ghost use Rattle.rq_front.specs.Chains.{IsLog};
+ghost use Rattle.rq_record.specs.declared.fault.Fault.TheVariants.{Resources};
 ghost use Rattle.rq_found.specs.Ends.{IsRestartFrom, front_end_of};
 ghost use Rattle.rq_found.specs.Refusals.{IsBroken, StaysUnshown};
+ghost use Rattle.rq_look.specs.Findings.{EndsFrontOf};
 ghost use Rattle.rq_look.specs.Looks.{AppendsSome, EndsDump, IsClosing};
 
-use crate::beyond::put_wanted_behind;
-use crate::entries::{DumpEntry, put_entry};
-use crate::json::{put_closing_object, put_numbered};
-use crate::lines::put_record_line;
-use crate::sheet::write_out;
+use crate::behind_fronts::{put_behind, standing_behind};
+use crate::json::{put_behind_object, put_closing_object, put_object, put_unspelled};
+use crate::lines::put_record;
+use crate::sheet::{relieve, write_out};
+use crate::shown_records::{ShownFrame, ShownRecord};
 use crate::wanted::Wanted;
+use rq_behind::Found;
 use rq_found::{
-    End, Numbered, Placed, PlacedFrames, Put, ShownLog, Trouble, end_of, first_state, front_frames,
+    End, PlacedFrames, Put, ShownLog, Trouble, end_of, first_state, form_reason, front_frames,
     put_beginning, put_end, queues_behind, queues_of,
 };
-use rq_record::Fault;
+use rq_front::Span;
+use rq_record::{Fault, KeptRecord};
 use rq_state::State;
 use std::alloc::{AllocError, Global};
-use std::io::Write;
+use std::fmt::Write;
+use std::io;
 use std::thread::Threads;
 
 // Puts a record in the form that is wanted.
-fn put_shown(alloc: Global, text: &mut String, it: &Numbered, wanted: &Wanted<'_>) -> Put {
+fn put_shown(alloc: Global, text: &mut String, it: &ShownRecord<'_>, wanted: &Wanted<'_>) -> Put {
     if wanted.json {
-        return put_numbered(alloc, text, it);
+        return put_object(alloc, text, it);
     }
-    put_record_line(alloc, text, it, wanted.full)
+    put_record(alloc, text, it, wanted.full)?;
+    text.push_str("\n")
+}
+
+// Puts a frame whose body spells no record, and why, in the form that is wanted.
+fn put_formless(alloc: Global, text: &mut String, it: &ShownFrame<'_>, wanted: &Wanted<'_>) -> Put {
+    let reason = form_reason(alloc, it.version, it.body)?;
+    if wanted.json {
+        return put_unspelled(alloc, text, it.offset, reason.as_str());
+    }
+    let offset = it.offset;
+    write!(text, "{offset} behind no record: {reason}\n")
+}
+
+// Puts the line of a frame's record, or of one that spells none, if it is wanted. Answers whether it
+// is.
+fn put_if_wanted(
+    alloc: Global,
+    text: &mut String,
+    it: &ShownFrame<'_>,
+    record: &Option<KeptRecord>,
+    wanted: &Wanted<'_>,
+) -> Result<bool, AllocError> {
+    let Some(record) = record else {
+        let is_wanted = wanted.wants_no_record();
+        if is_wanted {
+            put_formless(alloc, text, it, wanted)?;
+        }
+        return Ok(is_wanted);
+    };
+    let shown = it.shown(record);
+    let is_wanted = wanted.wants(&shown);
+    if is_wanted {
+        put_shown(alloc, text, &shown, wanted)?;
+    }
+    Ok(is_wanted)
+}
+
+// Puts the line of a frame, if it is wanted. Answers whether it is.
+fn put_frame(
+    alloc: Global,
+    text: &mut String,
+    it: &ShownFrame<'_>,
+    wanted: &Wanted<'_>,
+) -> Result<bool, Fault>
+    ensures { IfErr result (λ e. e ≡ Resources) }
+{
+    if it.offset < wanted.from {
+        return Ok(false);
+    }
+    let record = it.record(alloc)?;
+    Ok(put_if_wanted(alloc, text, it, &record, wanted)?)
+}
+
+// Puts the line of a frame on its way to the output, if it is wanted. Answers whether it is.
+fn put_entry<W: io::Write>(
+    alloc: Global,
+    wanted: &Wanted<'_>,
+    it: &ShownFrame<'_>,
+    text: &mut String,
+    output: &mut W,
+) -> Result<bool, Trouble>
+    ensures only { OnOk result (AppendsSome (W.contents output.old) (W.contents output.new)) }
+    ensures refused { IfErr result IsBroken }
+{
+    let is_wanted = put_frame(alloc, text, it, wanted)?;
+    relieve(text, output)?;
+    Ok(is_wanted)
 }
 
 // Puts where the front ends in the form that is wanted.
@@ -45,41 +117,9 @@ fn put_closing(alloc: Global, text: &mut String, end: &End, wanted: &Wanted<'_>)
     Ok(put_end(text, end)?)
 }
 
-// Puts a record if it is wanted. Answers whether it is.
-fn put_if_wanted(
-    alloc: Global,
-    text: &mut String,
-    it: &Numbered,
-    wanted: &Wanted<'_>,
-) -> Result<bool, AllocError> {
-    let is_wanted = wanted.wants(it);
-    if is_wanted {
-        put_shown(alloc, text, it, wanted)?;
-    }
-    Ok(is_wanted)
-}
-
-// The frame of a record of the front, before which so many queues are defined.
-#[derive(Clone, Copy)]
-struct Recorded<'a> {
-    placed: Placed<'a>,
-    queues: u32,
-}
-
-impl DumpEntry for Recorded<'_> {
-    fn offset(&self) -> u64 {
-        self.placed.offset
-    }
-
-    fn put(&self, alloc: Global, wanted: &Wanted<'_>, text: &mut String) -> Result<bool, Fault> {
-        let it = Numbered::of(alloc, self.placed, self.queues)?;
-        Ok(put_if_wanted(alloc, text, &it, wanted)?)
-    }
-}
-
 // Puts those records of the front that are wanted. So many queues are defined before the first.
 // Answers how many more may be put.
-fn put_records<W: Write>(
+fn put_records<W: io::Write>(
     alloc: Global,
     frames: PlacedFrames<'_>,
     before: u32,
@@ -96,13 +136,77 @@ fn put_records<W: Write>(
         if left == 0 {
             return Ok(0);
         }
-        let entry = Recorded { placed, queues };
-        if put_entry(alloc, wanted, &entry, text, output)? {
+        let frame = ShownFrame::of(placed, queues);
+        if put_entry(alloc, wanted, &frame, text, output)? {
             left -= 1;
         }
         queues = queues_behind(queues, placed.body);
     }
     Ok(left)
+}
+
+// Puts those frames that are wanted, so many at most.
+fn put_frames<W: io::Write>(
+    alloc: Global,
+    bytes: &[u8],
+    spans: &[Span],
+    wanted: &Wanted<'_>,
+    mut most: u64,
+    text: &mut String,
+    output: &mut W,
+) -> Result<(), Trouble>
+    ensures only { OnOk result (AppendsSome (W.contents output.old) (W.contents output.new)) }
+    ensures refused { IfErr result IsBroken }
+{
+    for span in spans {
+        if most == 0 {
+            return Ok(());
+        }
+        let frame = ShownFrame::behind(bytes, *span);
+        if put_entry(alloc, wanted, &frame, text, output)? {
+            most -= 1;
+        }
+    }
+    Ok(())
+}
+
+// Puts how many frames there are in the form that is wanted.
+fn put_count(
+    alloc: Global,
+    text: &mut String,
+    found: &Found,
+    total: u64,
+    wanted: &Wanted<'_>,
+) -> Put {
+    if wanted.json {
+        return put_behind_object(alloc, text, found);
+    }
+    put_behind(text, found, total)
+}
+
+// Puts the right frames behind the front that are wanted, so many at most, and how many there are;
+// nothing if what stands behind the front is not wanted.
+fn put_wanted_behind<W: io::Write>(
+    alloc: Global,
+    bytes: &[u8],
+    end: &End,
+    wanted: &Wanted<'_>,
+    most: u64,
+    text: &mut String,
+    output: &mut W,
+) -> Result<(), Trouble>
+    requires log { IsLog bytes.now }
+    requires end { EndsFrontOf bytes.now end.now }
+    ensures only { OnOk result (AppendsSome (W.contents output.old) (W.contents output.new)) }
+    ensures refused { IfErr result IsBroken }
+{
+    if !wanted.behind {
+        return Ok(());
+    }
+    let found = standing_behind(alloc, bytes, end)?;
+    put_frames(alloc, bytes, &found.spans, wanted, most, text, output)?;
+    put_count(alloc, text, &found, end.total, wanted)?;
+    Ok(())
 }
 
 // Puts, before the last line, with which checkpoint the log begins. In JSON the last line has it.
@@ -115,7 +219,7 @@ fn put_origin(text: &mut String, end: &End, wanted: &Wanted<'_>) -> Put {
 
 // Writes the line of each record that is wanted, of the front, which begins behind this state, and of
 // what stands behind it; and the last lines.
-fn put_lines<W: Write>(
+fn put_lines<W: io::Write>(
     alloc: Global,
     log: &ShownLog<'_>,
     end: &End,
@@ -150,7 +254,7 @@ fn put_lines<W: Write>(
 /// Refuses what a restart from there refuses, and before anything is written; else with `Output`
 /// where the output fails, and with `Resources` where memory is refused, and then some of it may be
 /// written.
-pub fn dump<R: Threads + Sync, W: Write>(
+pub fn dump<R: Threads + Sync, W: io::Write>(
     rt: &R,
     alloc: Global,
     log: &ShownLog<'_>,

@@ -3,22 +3,20 @@
 ghost use Rattle.std.specs.Prelude.{◌≡◌, ◌++◌, ℕ, List, codes, OnOk, string_bytes};
 
 use crate::bytes::is_plain;
-use crate::fields::{by_of, element_of, registrant_of, unit_number};
+use crate::shown_records::{ShownRecord, by_of, registrant_of, unit_number};
 use rq_behind::Found;
-use rq_found::{
-    End, FrontShown, JsonPiece, JsonTables, Numbered, Put, front_shown, is_hidden, kind_of,
-    queue_named,
-};
+use rq_found::{End, FrontShown, Put, front_shown, is_hidden, kind_of};
 use rq_record::{KeptRecord, QueueNo};
-use serde::{Described, Serialize, Serializer};
+use serde::Serialize;
 use std::alloc::{AllocError, Global};
 use std::fmt::Write;
 use std::str::from_utf8;
 
-/// Bytes as digits, and as text where they are one and it is asked for.
-#[derive(Drop)]
+/// Bytes as digits, and as text if they are one and it is asked for.
+#[derive(Drop, Serialize)]
 pub(crate) struct BytesShown<'a> {
     hex: String,
+    #[serde(skip_serializing_if = "Option::is_none")]
     text: Option<&'a str>,
 }
 
@@ -29,33 +27,6 @@ impl<'a> BytesShown<'a> {
             hex: hex::encode(alloc, bytes)?,
             text: from_utf8(bytes).ok(),
         })
-    }
-
-    // Those of a checkpoint, which are as many as a state has: as digits alone.
-    fn digits(alloc: Global, bytes: &[u8]) -> Result<BytesShown<'static>, AllocError> {
-        Ok(BytesShown {
-            hex: hex::encode(alloc, bytes)?,
-            text: None,
-        })
-    }
-
-    // Those of a record; no bytes if it has neither a payload nor those of a checkpoint.
-    fn of_record(alloc: Global, record: &'a KeptRecord) -> Result<BytesShown<'a>, AllocError> {
-        match record {
-            KeptRecord::Enqueue { payload, .. } => BytesShown::of(alloc, payload.bytes()),
-            KeptRecord::Checkpoint { bytes } => BytesShown::digits(alloc, bytes.bytes()),
-            _ => BytesShown::digits(alloc, &[]),
-        }
-    }
-
-    /// The object.
-    pub(crate) fn pieces(&self) -> [JsonPiece<'_>; 4] {
-        [
-            JsonPiece::Begin,
-            JsonPiece::Text("hex", Some(self.hex.as_str())),
-            JsonPiece::Text("text", self.text),
-            JsonPiece::End,
-        ]
     }
 }
 
@@ -68,112 +39,91 @@ pub(crate) fn queue_number(queue: QueueNo) -> Option<u32> {
     }
 }
 
-// What a definition says beside its queue.
-#[derive(Clone, Copy)]
-struct Defined<'a> {
+// A record with those fields that its kind has.
+#[derive(Drop, Serialize)]
+struct RecordObject<'a> {
+    offset: u64,
+    #[serde(skip_serializing_if = "Option::is_none")]
+    record: Option<u64>,
+    #[serde(skip_serializing_if = "Option::is_none")]
+    behind: Option<bool>,
+    kind: &'a str,
+    #[serde(skip_serializing_if = "Option::is_none")]
+    unit: Option<u64>,
+    #[serde(skip_serializing_if = "Option::is_none")]
+    queue: Option<u32>,
+    #[serde(skip_serializing_if = "Option::is_none")]
+    element: Option<u64>,
+    #[serde(skip_serializing_if = "Option::is_none")]
     name: Option<&'a str>,
-    limit: Option<u64>,
-    error: Option<u64>,
+    #[serde(skip_serializing_if = "Option::is_none")]
+    limit: Option<u16>,
+    #[serde(skip_serializing_if = "Option::is_none")]
+    error: Option<u32>,
+    #[serde(skip_serializing_if = "Option::is_none")]
+    priority: Option<u8>,
+    #[serde(skip_serializing_if = "Option::is_none")]
+    registrant: Option<&'a str>,
+    #[serde(skip_serializing_if = "Option::is_none")]
+    tag: Option<u64>,
+    #[serde(skip_serializing_if = "Option::is_none")]
+    payload: Option<BytesShown<'a>>,
+    #[serde(skip_serializing_if = "Option::is_none")]
+    bytes: Option<BytesShown<'a>>,
 }
 
-impl<'a> Defined<'a> {
-    fn of(record: &'a KeptRecord) -> Defined<'a> {
-        match record {
-            KeptRecord::Define { limit, error, name } => Defined {
-                name: Some(name.text()),
-                limit: Some(u64::from(*limit)),
-                error: queue_number(*error).map(u64::from),
+impl<'a> RecordObject<'a> {
+    // With the fields that records of several kinds have.
+    fn of(it: &ShownRecord<'a>) -> RecordObject<'a> {
+        RecordObject {
+            offset: it.offset,
+            record: it.number,
+            behind: if it.number.is_none() {
+                Some(true)
+            } else {
+                None
             },
-            _ => Defined {
-                name: None,
-                limit: None,
-                error: None,
-            },
+            kind: kind_of(it.record),
+            unit: unit_number(it.record),
+            queue: it.queue.map(|queue| queue.0),
+            element: None,
+            name: None,
+            limit: None,
+            error: None,
+            priority: None,
+            registrant: registrant_of(it.record),
+            tag: by_of(it.record).map(|by| by.tag),
+            payload: None,
+            bytes: None,
         }
     }
-}
 
-// The priority of an element that a record puts in.
-fn priority_of(record: &KeptRecord) -> Option<u64> {
-    match record {
-        KeptRecord::Enqueue { priority, .. } => Some(u64::from(*priority)),
-        _ => None,
+    // Takes those that no other kind has. The bytes of a checkpoint, which are as many as a state has,
+    // are shown as digits alone.
+    fn take_fields(&mut self, alloc: Global, record: &'a KeptRecord) -> Put {
+        match record {
+            KeptRecord::Define { limit, error, name } => {
+                self.name = Some(name.text());
+                self.limit = Some(*limit);
+                self.error = queue_number(*error);
+            }
+            KeptRecord::Enqueue {
+                priority,
+                payload,
+                ..
+            } => {
+                self.priority = Some(*priority);
+                self.payload = Some(BytesShown::of(alloc, payload.bytes())?);
+            }
+            KeptRecord::Checkpoint { bytes } => {
+                let hex = hex::encode(alloc, bytes.bytes())?;
+                self.bytes = Some(BytesShown { hex, text: None });
+            }
+            KeptRecord::Kill { element, .. } => self.element = Some(element.0),
+            _ => {}
+        }
+        Ok(())
     }
-}
-
-// The tag of the operation of a registrant.
-fn tag_of(record: &KeptRecord) -> Option<u64> {
-    match by_of(record) {
-        Some(by) => Some(by.tag),
-        None => None,
-    }
-}
-
-// A record that defines or names a queue, with its bytes. Behind the front it has no number.
-#[derive(Clone, Copy)]
-struct Shown<'a> {
-    offset: u64,
-    number: Option<u64>,
-    record: &'a KeptRecord,
-    queue: Option<QueueNo>,
-    bytes: &'a BytesShown<'a>,
-}
-
-impl Shown<'_> {
-    // The fields but for its bytes, each if its kind has it.
-    fn fields(&self) -> [JsonPiece<'_>; 14] {
-        let defined = Defined::of(self.record);
-        [
-            JsonPiece::Begin,
-            JsonPiece::Number("offset", Some(self.offset)),
-            JsonPiece::Number("record", self.number),
-            match self.number {
-                Some(_) => JsonPiece::Skip,
-                None => JsonPiece::Yes("behind"),
-            },
-            JsonPiece::Text("kind", Some(kind_of(self.record))),
-            JsonPiece::Number("unit", unit_number(self.record)),
-            JsonPiece::Number("queue", self.queue.map(|queue| u64::from(queue.0))),
-            JsonPiece::Number("element", element_of(self.record)),
-            JsonPiece::Text("name", defined.name),
-            JsonPiece::Number("limit", defined.limit),
-            JsonPiece::Number("error", defined.error),
-            JsonPiece::Number("priority", priority_of(self.record)),
-            JsonPiece::Text("registrant", registrant_of(self.record)),
-            JsonPiece::Number("tag", tag_of(self.record)),
-        ]
-    }
-
-    // Its payload, or the bytes of its checkpoint, as a field; nothing if it has neither.
-    fn load(&self) -> [JsonPiece<'_>; 5] {
-        let name = match self.record {
-            KeptRecord::Enqueue { .. } => "payload",
-            KeptRecord::Checkpoint { .. } => "bytes",
-            _ => return [JsonPiece::Skip; 5],
-        };
-        let [begin, hex, text, end] = self.bytes.pieces();
-        [JsonPiece::Name(name), begin, hex, text, end]
-    }
-}
-
-impl Described for Shown<'_> {}
-
-// Those fields that its kind has, in this order.
-impl Serialize for Shown<'_> {
-    fn serialize<S: Serializer>(&self, out: &mut S) -> Result<(), S::Error> {
-        let (fields, load) = (self.fields(), self.load());
-        JsonTables(&[&fields, &load, &[JsonPiece::End]]).serialize(out)
-    }
-}
-
-// Puts JSON in a line of its own, with each hidden character spelled by its numbers.
-fn put_json_line(alloc: Global, text: &mut String, json: String) -> Put
-    ensures { OnOk result ((json : List ℕ)
-        × (string_bytes text.new ≡ string_bytes text.old ++ (json ++ codes "\n"))) }
-{
-    let json = spelled_out(alloc, json)?;
-    text.push_str(json.as_str())?;
-    text.push_str("\n")
 }
 
 /// What serde answers, where it writes into memory: that fails for want of memory alone.
@@ -190,90 +140,69 @@ pub(crate) fn put_json<T: Serialize>(alloc: Global, text: &mut String, value: &T
         × (string_bytes text.new ≡ string_bytes text.old ++ (json ++ codes "\n"))) }
 {
     let json = written(serde_json::to_string(alloc, value))?;
-    put_json_line(alloc, text, json)
+    let json = spelled_out(alloc, json)?;
+    text.push_str(json.as_str())?;
+    text.push_str("\n")
 }
 
-// Puts a record as an object in a line, with those fields that its kind has.
-fn put_shown(
-    alloc: Global,
-    text: &mut String,
+/// Puts a record as an object in a line, with those fields that its kind has.
+pub(crate) fn put_object(alloc: Global, text: &mut String, it: &ShownRecord<'_>) -> Put {
+    let mut object = RecordObject::of(it);
+    object.take_fields(alloc, it.record)?;
+    put_json(alloc, text, &object)
+}
+
+// A frame behind the front whose body spells no record, and why.
+#[derive(Clone, Copy, Serialize)]
+struct Unspelled<'a> {
     offset: u64,
-    number: Option<u64>,
-    record: &KeptRecord,
-    queue: Option<QueueNo>,
-) -> Put {
-    let bytes = BytesShown::of_record(alloc, record)?;
-    let shown = Shown {
-        offset,
-        number,
-        record,
-        queue,
-        bytes: &bytes,
-    };
-    put_json(alloc, text, &shown)
-}
-
-/// Puts a record of the front as an object in a line, with those fields that its kind has.
-pub(crate) fn put_numbered(alloc: Global, text: &mut String, it: &Numbered) -> Put {
-    put_shown(
-        alloc,
-        text,
-        it.offset,
-        Some(it.number),
-        &it.record,
-        it.queue(),
-    )
-}
-
-/// The same of a record behind the front: its number is not known, nor that of a queue that it
-/// defines.
-pub(crate) fn put_loose(alloc: Global, text: &mut String, offset: u64, record: &KeptRecord) -> Put {
-    put_shown(alloc, text, offset, None, record, queue_named(record))
+    behind: bool,
+    reason: &'a str,
 }
 
 /// Puts a frame behind the front whose body spells no record, and why, as an object in a line.
 pub(crate) fn put_unspelled(alloc: Global, text: &mut String, offset: u64, reason: &str) -> Put {
-    let fields = [
-        JsonPiece::Begin,
-        JsonPiece::Number("offset", Some(offset)),
-        JsonPiece::Yes("behind"),
-        JsonPiece::Text("reason", Some(reason)),
-        JsonPiece::End,
-    ];
-    put_json(alloc, text, &JsonTables(&[&fields]))
+    let behind = true;
+    let object = Unspelled {
+        offset,
+        behind,
+        reason,
+    };
+    put_json(alloc, text, &object)
 }
 
-/// Puts how many right frames stand behind the front, where the first begins, how many bytes fit
-/// nothing, and where the search gave up, as an object in a line.
+// How many right frames stand behind the front, where the first begins, how many bytes fit nothing,
+// and where the search gave up.
+#[derive(Clone, Copy, Serialize)]
+struct FoundShown {
+    frames: usize,
+    #[serde(skip_serializing_if = "Option::is_none")]
+    first: Option<usize>,
+    unfit: usize,
+    #[serde(skip_serializing_if = "Option::is_none")]
+    gave_up: Option<usize>,
+}
+
+#[derive(Clone, Copy, Serialize)]
+struct BehindShown {
+    behind: FoundShown,
+}
+
+/// Puts what stands behind the front as an object in a line.
 pub(crate) fn put_behind_object(alloc: Global, text: &mut String, found: &Found) -> Put {
-    let first = found.spans.first().map(|span| span.offset() as u64);
-    let fields = [
-        JsonPiece::Begin,
-        JsonPiece::Name("behind"),
-        JsonPiece::Begin,
-        JsonPiece::Number("frames", Some(found.spans.len() as u64)),
-        JsonPiece::Number("first", first),
-        JsonPiece::Number("unfit", Some(found.unfit as u64)),
-        JsonPiece::Number("gave_up", found.gave_up.map(|place| place as u64)),
-        JsonPiece::End,
-        JsonPiece::End,
-    ];
-    put_json(alloc, text, &JsonTables(&[&fields]))
+    let behind = FoundShown {
+        frames: found.spans.len(),
+        first: found.spans.first().map(|span| span.offset()),
+        unfit: found.unfit,
+        gave_up: found.gave_up,
+    };
+    put_json(alloc, text, &BehindShown { behind })
 }
 
 // The last line of a dump.
-#[derive(Clone, Copy)]
+#[derive(Clone, Copy, Serialize)]
 struct ClosingShown<'a> {
     front: FrontShown<'a>,
-}
-
-impl Described for ClosingShown<'_> {}
-
-impl Serialize for ClosingShown<'_> {
-    fn serialize<S: Serializer>(&self, out: &mut S) -> Result<(), S::Error> {
-        self.front.begin(out)?;
-        out.end_map()
-    }
 }
 
 /// Puts the last line of a dump, of where the front ends, as an object.

@@ -4,19 +4,16 @@
 #![tactic(auto)]
 
 mod behind_fronts;
-mod beyond;
 mod bytes;
 mod checks;
 mod dumps;
-mod entries;
-mod fields;
 mod json;
 mod lines;
 mod log_script;
 mod reports;
 mod salvages;
 mod sheet;
-mod shown_queues;
+mod shown_records;
 mod stories;
 mod wanted;
 

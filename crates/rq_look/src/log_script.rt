@@ -15,13 +15,14 @@ ghost use Rattle.rq_record.specs.Views.{record_of};
 ghost use Rattle.rq_front.specs.Chains.{IsLog};
 ghost use Rattle.rq_judged.specs.FrontEnds.{IsEndOf};
 ghost use Rattle.rq_writer.specs.Script.{record_text, who_name, who_tag, IsNamed, IsTellable};
+ghost use Rattle.rq_found.specs.Ends as ends;
 ghost use Rattle.rq_found.specs.Ends.{front_end_of};
-ghost use Rattle.rq_look.specs.Looks.{BreaksOff, IsKnownWhole, LacksScript};
+ghost use Rattle.rq_look.specs.Looks.{BreaksOff, LacksScript};
 ghost use Rattle.rq_look.specs.Scripts.{IsDash, LeavesBody, LeavesOut, PutsScript, by_in};
 ghost use Rattle.rq_look.specs.Scripts.{script_line};
 
-use crate::fields::by_of;
 use crate::sheet::{relieve, write_out};
+use crate::shown_records::by_of;
 use rq_found::{End, Numbered, Placed, PlacedFrames, Put, ShownLog, Trouble, end_of, is_whole};
 use rq_record::{KeptBy, KeptName, KeptRecord, QueueNo, UnitNo};
 use rq_report::put_error;
@@ -100,7 +101,10 @@ fn put_who(text: &mut String, by: &KeptBy) -> Put
             text.push_str(by.name.text())?;
             write!(text, " {tag}")
         }
-        None => text.push_str(" - 0"),
+        None => {
+            let tag: u64 = 0;
+            write!(text, " - {tag}")
+        }
     }
 }
 
@@ -185,33 +189,8 @@ pub(crate) fn put_line(alloc: Global, text: &mut String, r: &KeptRecord) -> Put
     text.push_str("\n")
 }
 
-// Puts the line of a record. Where no line tells it, the text goes to the output before this is
-// said.
-fn put_numbered_line<W: io::Write>(
-    alloc: Global,
-    text: &mut String,
-    it: &Numbered,
-    output: &mut W,
-) -> Result<(), Trouble>
-    ensures line { OnOk result ((put : List ℕ) × IsTellable (record_of it.now.record)
-        × Appends (W.contents output.old) (W.contents output.new) put
-        × (string_bytes text.old ++ script_line (record_of it.now.record)
-        ≡ put ++ string_bytes text.new)) }
-    ensures untold { IfErr result (λ e. (body : List ℕ) → Spells Two (record_of it.now.record) body
-        → LeavesBody it.now.number body (string_bytes text.old)
-        (W.contents output.old) (W.contents output.new) e) }
-    ensures refused { IfErr result BreaksOff }
-{
-    if is_untold(&it.record) {
-        write_out(text, output)?;
-        return Err(Trouble::Untold(it.number));
-    }
-    put_line(alloc, text, &it.record)?;
-    relieve(text, output)?;
-    Ok(())
-}
-
-// Puts the line of the record of a frame, in the same way.
+// Puts the line of the record of a frame. Where no line tells it, the text goes to the output before
+// this is said.
 fn put_placed<W: io::Write>(
     alloc: Global,
     text: &mut String,
@@ -227,7 +206,13 @@ fn put_placed<W: io::Write>(
     ensures refused { IfErr result BreaksOff }
 {
     let it = Numbered::of(alloc, placed, 0)?;
-    put_numbered_line(alloc, text, &it, output)
+    if is_untold(&it.record) {
+        write_out(text, output)?;
+        return Err(Trouble::Untold(it.number));
+    }
+    put_line(alloc, text, &it.record)?;
+    relieve(text, output)?;
+    Ok(())
 }
 
 /// Writes the script of the front, of so many bytes.
@@ -290,7 +275,8 @@ pub fn script<R: Threads + Sync, W: io::Write>(
     plan: &Plan,
     output: &mut W,
 ) -> Result<bool, Trouble>
-    ensures script { IfOk result (IsKnownWhole bytes.now) }
+    ensures script { IfOk result (λ whole. (r : Restarted) × IsRestart bytes.now r
+        × (whole ≡ ends.is_whole r.why)) }
     ensures told { OnOk result
         (PutsScript bytes.now (W.contents output.old) (W.contents output.new)) }
     ensures refused { IfErr result

@@ -1,81 +1,117 @@
 //! The report of a log, as text and as JSON.
 
-ghost use Rattle.std.specs.Prelude.{◌≡◌, ◌++◌, ℕ, List, codes, IfOk, IfErr, OnOk, string_bytes};
+ghost use Rattle.std.specs.Prelude.{◌≡◌, ◌++◌, ℕ, List, false, codes, IfOk, IfErr, OnOk, string_bytes};
 ghost use Rattle.std.specs.Io.KnownBytes.{Appends};
 ghost use Rattle.rq_model.specs.Reports.{IsText};
 ghost use Rattle.rq_record.specs.declared.fault.Fault.TheVariants.{Resources};
 ghost use Rattle.rq_front.specs.Chains.{IsLog};
 ghost use Rattle.rq_found.specs.Ends.{IsRestartFrom, beginning_text};
 ghost use Rattle.rq_look.specs.Looks.{AppendsLine, BreaksReport, HasQueue, LacksReport};
-ghost use Rattle.rq_look.specs.Looks.{PutsReport, PutsReportAs, StaysUnreported};
+ghost use Rattle.rq_look.specs.Looks.{PutsReportAs, StaysUnreported};
 
-use crate::json::{spelled_out, written};
-use crate::shown_queues::{QueueShown, queues_shown};
+use crate::json::{BytesShown, queue_number, spelled_out, written};
 use rq_found::{
-    End, FrontShown, JsonPiece, JsonTables, ShownLog, Trouble, end_after, front_shown,
-    put_beginning, restarted_from,
+    End, FrontShown, RegistrantShown, ShownLog, Trouble, end_after, front_shown, put_beginning,
+    registrants_shown, restarted_from,
 };
-use rq_report::{OverWrite, write_report_by};
+use rq_record::QueueNo;
+use rq_report::{OverWrite, free_elements, write_report_by};
 use rq_restart::{Fault, Plan, Restarted};
-use serde::{Described, Serialize, Serializer};
+use rq_state::{Definition, KeptElement as Element, State};
+use serde::Serialize;
 use std::alloc::{AllocError, Global};
 use std::io::{self, Write};
 use std::thread::Threads;
 
-#[derive(Clone, Copy)]
+#[derive(Drop, Serialize)]
+struct ElementShown<'a> {
+    id: u64,
+    from: u32,
+    priority: u8,
+    attempts: u64,
+    payload: BytesShown<'a>,
+}
+
+// A queue with what it holds.
+#[derive(Drop, Serialize)]
+struct QueueShown<'a> {
+    number: u32,
+    name: &'a str,
+    limit: u16,
+    error: Option<u32>,
+    elements: Vec<ElementShown<'a>>,
+    registrants: Vec<RegistrantShown<'a>>,
+}
+
+fn element_shown(alloc: Global, element: &Element) -> Result<ElementShown<'_>, AllocError> {
+    Ok(ElementShown {
+        id: element.id.0,
+        from: element.origin.0,
+        priority: element.priority,
+        attempts: element.attempts,
+        payload: BytesShown::of(alloc, element.payload.bytes())?,
+    })
+}
+
+// The queue's free elements, in the order in which they would be taken.
+fn elements_shown(
+    alloc: Global,
+    state: &State,
+    queue: QueueNo,
+) -> Result<Vec<ElementShown<'_>>, AllocError> {
+    let mut shown = Vec::new(alloc);
+    for e in free_elements(alloc, state, queue)? {
+        shown.push(element_shown(alloc, e)?)?;
+    }
+    Ok(shown)
+}
+
+fn queue_shown<'a>(
+    alloc: Global,
+    state: &'a State,
+    number: u32,
+    definition: &'a Definition,
+) -> Result<QueueShown<'a>, AllocError> {
+    let queue = QueueNo(number);
+    Ok(QueueShown {
+        number,
+        name: definition.name.text(),
+        limit: definition.limit,
+        error: queue_number(definition.error),
+        elements: elements_shown(alloc, state, queue)?,
+        registrants: registrants_shown(alloc, state, queue)?,
+    })
+}
+
+// The queue of the number, or all of them.
+fn queues_shown(
+    alloc: Global,
+    state: &State,
+    wanted: Option<u32>,
+) -> Result<Vec<QueueShown<'_>>, AllocError> {
+    let mut found = Vec::new(alloc);
+    let mut number: u32 = 0;
+    for definition in state.definitions() {
+        if wanted.is_none() || wanted == Some(number) {
+            found.push(queue_shown(alloc, state, number, definition)?)?;
+        }
+        number = number.saturating_add(1);
+    }
+    Ok(found)
+}
+
+#[derive(Clone, Copy, Serialize)]
 struct UnitsShown {
     committed: u64,
     aborted: u64,
     cut_off: u64,
 }
 
-impl UnitsShown {
-    // The field.
-    fn pieces(&self) -> [JsonPiece<'_>; 6] {
-        [
-            JsonPiece::Name("units"),
-            JsonPiece::Begin,
-            JsonPiece::Number("committed", Some(self.committed)),
-            JsonPiece::Number("aborted", Some(self.aborted)),
-            JsonPiece::Number("cut_off", Some(self.cut_off)),
-            JsonPiece::End,
-        ]
-    }
-}
-
-#[derive(Drop)]
+#[derive(Drop, Serialize)]
 struct ReportShown<'a> {
     front: FrontShown<'a>,
     units: UnitsShown,
     queues: Vec<QueueShown<'a>>,
-}
-
-impl Described for ReportShown<'_> {}
-
-impl Serialize for ReportShown<'_> {
-    fn serialize<S: Serializer>(&self, out: &mut S) -> Result<(), S::Error> {
-        self.front.begin(out)?;
-        JsonTables(&[&self.units.pieces(), &[JsonPiece::Name("queues")]]).serialize(out)?;
-        self.queues.serialize(out)?;
-        out.end_map()
-    }
-}
-
-fn report_shown<'a>(
-    alloc: Global,
-    r: &'a Restarted,
-    end: &'a End,
-    wanted: Option<u32>,
-) -> Result<ReportShown<'a>, AllocError> {
-    Ok(ReportShown {
-        front: front_shown(end),
-        units: UnitsShown {
-            committed: r.committed(),
-            aborted: r.aborted(),
-            cut_off: r.cut_off(),
-        },
-        queues: queues_shown(alloc, r.state(), wanted)?,
-    })
 }
 
 // The restart of a log that has the queue, if one is wanted.
@@ -108,7 +144,15 @@ fn json_of(
 ) -> Result<String, AllocError>
     ensures { IfOk result (λ text. (json : List ℕ) × (string_bytes text ≡ json ++ codes "\n")) }
 {
-    let report = report_shown(alloc, restarted, end, wanted)?;
+    let report = ReportShown {
+        front: front_shown(end),
+        units: UnitsShown {
+            committed: restarted.committed(),
+            aborted: restarted.aborted(),
+            cut_off: restarted.cut_off(),
+        },
+        queues: queues_shown(alloc, restarted.state(), wanted)?,
+    };
     let json = written(serde_json::to_string_pretty(alloc, &report))?;
     let mut text = spelled_out(alloc, json)?;
     text.push('\n')?;
@@ -203,7 +247,7 @@ fn put_text<R: Threads + Sync, W: Write>(
     requires log { IsLog log.now.bytes.now }
     requires restart { IsRestartFrom log.now.at log.now.bytes.now restarted.now
         × HasQueue restarted.now wanted }
-    ensures report { OnOk result (PutsReport log.now.at log.now.bytes.now wanted
+    ensures report { OnOk result (PutsReportAs false log.now.at log.now.bytes.now wanted
         (W.contents output.old) (W.contents output.new)) }
     ensures refused { IfErr result (BreaksReport (W.contents output.old) (W.contents output.new)) }
 {

@@ -7,20 +7,21 @@ ghost use Rattle.rq_record.specs.declared.fault.Fault.TheVariants.{Resources};
 ghost use Rattle.rq_judged.specs.Views.{why_of};
 ghost use Rattle.rq_found.specs.Ends as ends;
 ghost use Rattle.rq_found.specs.Refusals.{IsBroken};
+ghost use Rattle.rq_look.specs.Findings.{EndsFrontOf};
 ghost use Rattle.rq_look.specs.Looks.{AppendsSome, LacksScript};
-ghost use Rattle.rq_look.specs.Rests.{EndsFrontOf, IsChoice, PutsSalvage};
+ghost use Rattle.rq_look.specs.Scripts.{IsChoice, PutsSalvage};
 
 use crate::behind_fronts::{put_count, put_given_up, standing_behind};
-use crate::beyond::Loose;
 use crate::log_script::{is_untold, put_front_script, put_line};
 use crate::sheet::{relieve, write_out};
+use crate::shown_records::ShownFrame;
 use rq_behind::Found;
-use rq_found::TextPiece::{Number, Word};
-use rq_found::{End, Put, Trouble, form_reason, is_whole, put_end, put_text_pieces};
-use rq_record::{Fault, KeptRecord};
+use rq_found::{End, Put, Trouble, form_reason, is_whole, put_end};
+use rq_record::Fault;
 use rq_restart::Plan;
 use std::alloc::{AllocError, Global};
-use std::io::Write;
+use std::fmt::Write;
+use std::io;
 use std::thread::Threads;
 
 // What a salvaged script says of itself behind the line of where the front ends.
@@ -34,44 +35,29 @@ const WORDS: &str = "\
 
 // Puts the line of what is no line of a script: a body that spells no record, or an operation of the
 // registrant whom a script takes for nobody.
-fn put_untold(text: &mut String, it: &Loose<'_>, reason: &str) -> Put {
-    let count = it.body.len() as u64;
-    put_text_pieces(
+fn put_untold(text: &mut String, it: &ShownFrame<'_>, reason: &str) -> Put {
+    let (count, offset) = (it.body.len(), it.offset);
+    write!(
         text,
-        &[
-            Word("# "),
-            Number(count),
-            Word(" bytes of a body at "),
-            Number(it.offset),
-            Word(" have no line: "),
-            Word(reason),
-            Word("\n"),
-        ],
+        "# {count} bytes of a body at {offset} have no line: {reason}\n"
     )
 }
 
-// Puts the line of a frame whose body spells no record.
-fn put_formless(alloc: Global, text: &mut String, it: &Loose<'_>) -> Put {
-    let reason = form_reason(alloc, it.version, it.body)?;
-    put_untold(text, it, reason.as_str())
-}
-
-// Puts the line of a frame's record, to choose it or not.
-fn put_record(alloc: Global, text: &mut String, it: &Loose<'_>, record: &KeptRecord) -> Put {
-    if is_untold(record) {
-        return put_untold(text, it, "it names the registrant -");
-    }
-    put_text_pieces(text, &[Word("#"), Number(it.offset), Word(" ")])?;
-    put_line(alloc, text, record)
-}
-
 // Puts the line of a frame, to choose it or not.
-fn put_choice(alloc: Global, text: &mut String, it: &Loose<'_>) -> Result<(), Fault>
+fn put_choice(alloc: Global, text: &mut String, it: &ShownFrame<'_>) -> Result<(), Fault>
     ensures { IfErr result (λ e. e ≡ Resources) }
 {
     let put = match &it.record(alloc)? {
-        Some(record) => put_record(alloc, text, it, record),
-        None => put_formless(alloc, text, it),
+        Some(record) if is_untold(record) => put_untold(text, it, "it names the registrant -"),
+        Some(record) => {
+            let offset = it.offset;
+            write!(text, "#{offset} ")?;
+            put_line(alloc, text, record)
+        }
+        None => {
+            let reason = form_reason(alloc, it.version, it.body)?;
+            put_untold(text, it, reason.as_str())
+        }
     };
     Ok(put?)
 }
@@ -81,30 +67,12 @@ fn put_gap(text: &mut String, from: usize, to: usize) -> Put {
     if from >= to {
         return Ok(());
     }
-    let count = (to - from) as u64;
-    let from = from as u64;
-    put_text_pieces(
-        text,
-        &[
-            Word("# "),
-            Number(count),
-            Word(" bytes at "),
-            Number(from),
-            Word(" fit nothing\n"),
-        ],
-    )
-}
-
-// Puts the frame at a span, to choose it or not, and what stands before it from an offset on.
-fn put_span(alloc: Global, text: &mut String, it: &Loose<'_>, from: usize) -> Result<(), Fault>
-    ensures { IfErr result (λ e. e ≡ Resources) }
-{
-    put_gap(text, from, it.offset as usize)?;
-    put_choice(alloc, text, it)
+    let count = to - from;
+    write!(text, "# {count} bytes at {from} fit nothing\n")
 }
 
 // Puts each frame that was found behind an offset, to choose it or not.
-fn put_spans<W: Write>(
+fn put_spans<W: io::Write>(
     alloc: Global,
     bytes: &[u8],
     found: &Found,
@@ -117,7 +85,8 @@ fn put_spans<W: Write>(
 {
     let mut at = from;
     for span in found.spans.iter() {
-        put_span(alloc, text, &Loose::of(bytes, *span), at)?;
+        put_gap(text, at, span.offset())?;
+        put_choice(alloc, text, &ShownFrame::behind(bytes, *span))?;
         relieve(text, output)?;
         at = span.start.saturating_add(span.len).saturating_add(32);
     }
@@ -151,7 +120,12 @@ fn words_of(alloc: Global, end: &End, found: &Found) -> Result<String, AllocErro
 }
 
 // Writes what stands behind the front: nothing if the front is the whole log.
-fn put_rest<W: Write>(alloc: Global, bytes: &[u8], end: &End, output: &mut W) -> Result<(), Trouble>
+fn put_rest<W: io::Write>(
+    alloc: Global,
+    bytes: &[u8],
+    end: &End,
+    output: &mut W,
+) -> Result<(), Trouble>
     requires log { IsLog bytes.now }
     requires end { EndsFrontOf bytes.now end.now }
     ensures choice { OnOk result ((put : List ℕ) × IsChoice (ends.is_whole (why_of end.now.why)) put
@@ -175,7 +149,7 @@ fn put_rest<W: Write>(alloc: Global, bytes: &[u8], end: &End, output: &mut W) ->
 ///
 /// Refuses what `script` refuses, and in the same way.
 #[tactic(auto, using(crate::proofs::Puts::nothing_untold, crate::proofs::Puts::broken_off))]
-pub fn salvage<R: Threads + Sync, W: Write>(
+pub fn salvage<R: Threads + Sync, W: io::Write>(
     rt: &R,
     alloc: Global,
     bytes: &[u8],

@@ -1,19 +1,17 @@
 //! What became of one element, and what one unit did.
 
 ghost use Rattle.std.specs.Prelude.{◌≡◌, [], IfOk, IfErr, OnOk, string_bytes};
-ghost use Rattle.rq_record.specs.declared.fault.Fault.TheVariants.{Resources};
 ghost use Rattle.rq_front.specs.Chains.{IsLog};
 ghost use Rattle.rq_found.specs.Refusals.{IsBroken};
 ghost use Rattle.rq_look.specs.Looks.{AppendsSome, LacksStory, StaysWithoutStory};
 
 use crate::lines::put_record;
 use crate::sheet::{relieve, write_out};
-use rq_found::TextPiece::{Number, Word};
+use crate::shown_records::{ShownRecord, unit_number};
 use rq_found::{
     End, Event, FollowedQueues, Numbered, Placed, PlacedFrames, Put, ShownLog, Subject, Trouble,
-    end_of, first_state, front_frames, put_beginning, put_end, put_text_pieces, unit_of,
+    end_of, first_state, front_frames, put_beginning, put_end,
 };
-use rq_record::{Fault, UnitNo};
 use std::alloc::{AllocError, Global};
 use std::fmt::Write;
 use std::io;
@@ -27,35 +25,47 @@ fn concerns(subject: Subject, event: &Event) -> bool {
     }
 }
 
-// Puts what happened, and the end of its line.
-fn put_happened(text: &mut String, event: &Event) -> Put {
-    write!(text, "{event}\n")
+// Why something happens: by a record of the front, or as the restart aborts a unit.
+#[derive(Clone, Copy)]
+enum Cause<'a> {
+    Record(&'a Numbered),
+    Restart(u64),
 }
 
-// Puts the record, and what happened, as a line.
-fn put_event(alloc: Global, text: &mut String, it: &Numbered, event: &Event) -> Put {
-    put_record(alloc, text, it, false)?;
-    text.push_str(": ")?;
-    put_happened(text, event)
+impl Cause<'_> {
+    // The unit that does it.
+    fn unit(&self) -> Option<u64> {
+        match self {
+            Cause::Record(it) => unit_number(&it.record),
+            Cause::Restart(unit) => Some(*unit),
+        }
+    }
+
+    fn put(&self, alloc: Global, text: &mut String) -> Put {
+        match self {
+            Cause::Record(it) => put_record(alloc, text, &ShownRecord::of(it), false),
+            Cause::Restart(unit) => write!(text, "the restart aborts unit {unit}"),
+        }
+    }
 }
 
-// Puts a line for each event of the record that is of the subject, and one for a record of the unit
-// that has none. Answers how many.
+// Puts a line for each event that is of the subject, and one if the subject is a unit that did
+// nothing else. Answers how many.
 fn put_events(
     alloc: Global,
     text: &mut String,
-    it: &Numbered,
+    cause: &Cause<'_>,
     events: &[Event],
     subject: Subject,
 ) -> Result<u64, AllocError>
     ensures { IfOk result (λ count. count ≡ 0 → string_bytes text.new ≡ string_bytes text.old) }
 {
     if let Subject::Unit(unit) = subject {
-        if unit_of(&it.record) != Some(UnitNo(unit)) {
+        if cause.unit() != Some(unit) {
             return Ok(0);
         }
         if events.is_empty() {
-            put_record(alloc, text, it, false)?;
+            cause.put(alloc, text)?;
             text.push('\n')?;
             return Ok(1);
         }
@@ -63,27 +73,11 @@ fn put_events(
     let mut count: u64 = 0;
     for event in events {
         if concerns(subject, event) {
-            put_event(alloc, text, it, event)?;
+            cause.put(alloc, text)?;
+            write!(text, ": {event}\n")?;
             count = count.saturating_add(1);
         }
     }
-    Ok(count)
-}
-
-// Puts what is to be told of a record of the front. Answers in how many lines.
-fn put_told(
-    alloc: Global,
-    placed: Placed<'_>,
-    subject: Subject,
-    machine: &mut FollowedQueues,
-    text: &mut String,
-) -> Result<u64, Fault>
-    ensures nothing { IfOk result
-        (λ count. count ≡ 0 → string_bytes text.new ≡ string_bytes text.old) }
-    ensures refused { IfErr result (λ e. e ≡ Resources) }
-{
-    let it = machine.follow(placed)?;
-    let count = put_events(alloc, text, &it, machine.events(), subject)?;
     Ok(count)
 }
 
@@ -101,7 +95,8 @@ fn tell_record<W: io::Write>(
         → (W.contents output.new ≡ W.contents output.old) × (string_bytes text.new ≡ [])) }
     ensures refused { IfErr result IsBroken }
 {
-    let count = put_told(alloc, placed, subject, machine, text)?;
+    let it = machine.follow(placed)?;
+    let count = put_events(alloc, text, &Cause::Record(&it), machine.events(), subject)?;
     relieve(text, output)?;
     Ok(count)
 }
@@ -129,59 +124,25 @@ fn tell_front<W: io::Write>(
     Ok(told)
 }
 
-// Puts that the restart aborts a unit, and what is said behind it.
-fn put_aborted(text: &mut String, unit: u64, behind: &str) -> Put {
-    let unit = Number(unit);
-    put_text_pieces(
-        text,
-        &[Word("the restart aborts unit "), unit, Word(behind)],
-    )
-}
-
-// Puts what the abort of a unit by the restart does to an element, if that is to be told.
-fn put_abort(text: &mut String, unit: u64, event: &Event, subject: Subject) -> Put {
-    let is_told = match subject {
-        Subject::Unit(told) => told == unit,
-        Subject::Element(_) => concerns(subject, event),
-    };
-    if !is_told {
-        return Ok(());
-    }
-    put_aborted(text, unit, ": ")?;
-    put_happened(text, event)
-}
-
-// Puts what the restart does to a unit that is open.
-fn put_restart(text: &mut String, unit: u64, events: &[Event], subject: Subject) -> Put {
-    if subject == Subject::Unit(unit) && events.is_empty() {
-        return put_aborted(text, unit, "\n");
-    }
-    for event in events {
-        put_abort(text, unit, event, subject)?;
-    }
-    Ok(())
-}
-
-// Tells what the restart's abort of an open unit does.
-fn tell_abort(text: &mut String, machine: &mut FollowedQueues, unit: u64, subject: Subject) -> Put {
-    machine.abort(unit)?;
-    put_restart(text, unit, machine.events(), subject)
-}
-
 // Tells what the restart does behind the front: it aborts the open units, rising.
-fn tell_restart(text: &mut String, machine: &mut FollowedQueues, subject: Subject) -> Put {
+fn tell_restart(
+    alloc: Global,
+    text: &mut String,
+    machine: &mut FollowedQueues,
+    subject: Subject,
+) -> Put {
     let units = machine.open_units()?;
     for unit in units.iter() {
-        tell_abort(text, machine, *unit, subject)?;
+        machine.abort(*unit)?;
+        put_events(
+            alloc,
+            text,
+            &Cause::Restart(*unit),
+            machine.events(),
+            subject,
+        )?;
     }
     Ok(())
-}
-
-// Tells where the front begins, if that is told, where it ends, and what the restart does behind it.
-fn tell_end(text: &mut String, end: &End, machine: &mut FollowedQueues, subject: Subject) -> Put {
-    put_beginning(text, end.at)?;
-    put_end(text, end)?;
-    tell_restart(text, machine, subject)
 }
 
 // Tells of the front, which begins behind these queues, and of its end.
@@ -203,7 +164,9 @@ fn tell_all<W: io::Write>(
     if told == 0 {
         return Err(Trouble::Nothing(subject));
     }
-    tell_end(text, end, machine, subject)?;
+    put_beginning(text, end.at)?;
+    put_end(text, end)?;
+    tell_restart(alloc, text, machine, subject)?;
     write_out(text, output)?;
     Ok(())
 }

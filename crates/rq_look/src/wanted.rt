@@ -1,8 +1,8 @@
 //! Which records are wanted, and how.
 
-use crate::fields::registrant_of;
-use rq_found::{Numbered, kind_of, unit_of};
-use rq_record::{KeptRecord, QueueNo, UnitNo};
+use crate::shown_records::{ShownRecord, registrant_of};
+use rq_found::{kind_of, unit_of};
+use rq_record::{QueueNo, UnitNo};
 
 /// Which records of a front are to be shown, and how. What is none asks for nothing.
 #[derive(Clone, Copy)]
@@ -34,16 +34,11 @@ fn is_asked<T: PartialEq + Drop>(asked: Option<T>, found: Option<T>) -> bool {
 
 impl Wanted<'_> {
     /// Whether the record is wanted.
-    pub(crate) fn wants(&self, it: &Numbered) -> bool {
-        self.wants_record(&it.record, it.queue())
-    }
-
-    /// Whether the record is wanted, which defines or names a queue.
-    pub(crate) fn wants_record(&self, record: &KeptRecord, queue: Option<QueueNo>) -> bool {
-        is_asked(self.unit.map(UnitNo), unit_of(record))
-            && is_asked(self.queue.map(QueueNo), queue)
-            && is_asked(self.registrant, registrant_of(record))
-            && is_asked(self.kind, Some(kind_of(record)))
+    pub(crate) fn wants(&self, it: &ShownRecord<'_>) -> bool {
+        is_asked(self.unit.map(UnitNo), unit_of(it.record))
+            && is_asked(self.queue.map(QueueNo), it.queue)
+            && is_asked(self.registrant, registrant_of(it.record))
+            && is_asked(self.kind, Some(kind_of(it.record)))
     }
 
     /// Whether what is no record is wanted: if no record is asked for.

@@ -1,21 +1,9 @@
 -- A state that a test makes.
 use Rattle.std.specs.Prelude.{ℕ, List, [], ◌∷◌, Some}
 use Rattle.rq_model.specs.Records.{no_queue}
-use Rattle.rq_model.specs.States.{Element, State, Free, Enqueued}
+use Rattle.rq_model.specs.States.{State, Free, Enqueued}
 
--- an element that nobody holds
-abbrev pub element_by_hand : List ℕ → Element
-element_by_hand payload = record {
-  id = 0;
-  home = 0;
-  origin = 0;
-  priority = 5;
-  attempts = 0;
-  payload = payload;
-  mark = Free;
-}
-
--- one queue, and a registrant that enqueued the element
+-- one queue, and a registrant that enqueued the element, which nobody holds
 abbrev pub by_hand : List ℕ → List ℕ → List ℕ → State
 by_hand queue ann payload = record {
   next = 2;
@@ -30,6 +18,15 @@ by_hand queue ann payload = record {
         name = ann;
         last = Some (record { place = 0; kind = Enqueued; tag = 70; element = Some 0 });
       }) ∷ [];
-  elements = element_by_hand payload ∷ [];
+  elements =
+      (record {
+        id = 0;
+        home = 0;
+        origin = 0;
+        priority = 5;
+        attempts = 0;
+        payload = payload;
+        mark = Free;
+      }) ∷ [];
   notes = [];
 }

@@ -1,10 +1,10 @@
 //! What is written behind the front of a log: records, a checkpoint, and a log that goes on from it.
 
-use super::log_of;
-use super::scripts::ONE_ELEMENT;
-use rq_journal::{NotTaken, Opened, carried, frames_behind, is_carried, marked, open};
+use super::{ONE_ELEMENT, log_of, records_of};
+use rq_journal::{Appender, NotTaken, Opened, carried, frames_behind, is_carried, marked, open};
 use rq_record::{KeptRecord, QueueNo, Record, UnitNo, Version};
 use rq_restart::{Fault, Open, Plan, Restarted, Why, audit, restart, restart_at};
+use sha2::{Digest, Sha256};
 use std::alloc::Global;
 use std::test::Fail;
 use std::thread::Threads;
@@ -56,33 +56,30 @@ fn is_opened<R: Threads + Sync + AllocGlobal>(
     }
 }
 
-// Whether these are the frames of all records behind the log.
-fn has_frames<R: Threads + Sync + AllocGlobal>(
-    rt: &R,
-    log: &[u8],
-    plan: &Plan,
-    frames: &[u8],
-) -> bool {
-    match frames_behind(rt, rt.alloc(), log, &TAKING, plan) {
-        Ok(made) => made.as_slice() == frames,
-        Err(_) => false,
-    }
-}
-
-// Whether the lines' frames are made all at once, and one by one.
-fn appends_behind<R: Threads + Sync + AllocGlobal>(rt: &R) -> Result<bool, Fail> {
-    let plan = Plan::new(2, 1).ok_or("plan")?;
-    let whole = log_of(rt, TAKEN)?;
-    let (log, frames) = (
-        whole.get(..237).unwrap_or(&[]),
-        whole.get(237..).unwrap_or(&[]),
-    );
-    Ok(has_frames(rt, log, &plan, frames) && is_opened(rt, log, &plan, frames))
-}
-
+// The lines' frames are made all at once, and one by one.
 #[test]
 fn records_are_appended_behind_a_front(rt: HostRuntime) -> Result<(), Fail> {
-    assert!(rt; appends_behind(&rt)?);
+    let plan = Plan::new(2, 1).ok_or("plan")?;
+    let whole = log_of(&rt, TAKEN)?;
+    let log = whole.get(..237).unwrap_or(&[]);
+    let frames = whole.get(237..).unwrap_or(&[]);
+    let made = frames_behind(&rt, rt.alloc(), log, &TAKING, &plan)?;
+    assert!(rt; made.as_slice() == frames);
+    assert!(rt; is_opened(&rt, log, &plan, frames));
+    Ok(())
+}
+
+// All frames of a log are those of its records, one by one, behind a header.
+#[test]
+fn records_are_appended_behind_a_header(rt: HostRuntime) -> Result<(), Fail> {
+    let log = log_of(&rt, ONE_ELEMENT)?;
+    let records = records_of(rt.alloc(), Version::One, &log)?;
+    let last = Sha256::digest(b"RQLOG\0\0\x01");
+    let mut appender = Appender::new(rt.alloc(), Version::One, last);
+    let mut frames = Vec::new(rt.alloc());
+    let each = appender.append_each(rt.alloc(), &records, &mut frames);
+    assert!(rt; each == (4, None));
+    assert!(rt; frames.as_slice() == log.get(40..).unwrap_or(&[]));
     Ok(())
 }
 
@@ -94,56 +91,28 @@ fn has_five(restarted: Result<Restarted, Fault>) -> bool {
     }
 }
 
-// Whether a restart of the marked log is one from its checkpoint.
-fn says_the_same<R: Threads + Sync + AllocGlobal>(
-    rt: &R,
-    log: &[u8],
-    at: u64,
-    plan: &Plan,
-) -> bool {
-    has_five(restart(rt, rt.alloc(), log, plan, &Open))
+// Whether the log has a true checkpoint there and no other one, and a restart from it finds what one
+// from the beginning finds.
+fn goes_on_from<R: Threads + Sync + AllocGlobal>(rt: &R, log: &[u8], at: u64, plan: &Plan) -> bool {
+    let Ok(found) = audit(rt, rt.alloc(), log, plan) else {
+        return false;
+    };
+    found.as_slice() == [(at, true)].as_slice()
+        && has_five(restart(rt, rt.alloc(), log, plan, &Open))
         && has_five(restart_at(rt, rt.alloc(), log, at, plan, &Open))
 }
 
-// Whether the log has a true checkpoint there, and no other one.
-fn audits<R: Threads + Sync + AllocGlobal>(rt: &R, log: &[u8], at: u64, plan: &Plan) -> bool {
-    match audit(rt, rt.alloc(), log, plan) {
-        Ok(found) => found.as_slice() == [(at, true)].as_slice(),
-        Err(_) => false,
-    }
-}
-
-// Whether the log is carried on by a new one, which is restarted from its checkpoint.
-fn is_carried_on<R: Threads + Sync + AllocGlobal>(rt: &R, log: &[u8], plan: &Plan) -> bool {
-    match carried(rt, rt.alloc(), log, plan) {
-        Ok(new) => {
-            is_carried(&new)
-                && !is_carried(log)
-                && has_five(restart_at(rt, rt.alloc(), &new, 96, plan, &Open))
-        }
-        Err(_) => false,
-    }
-}
-
-// Whether the log is marked where its front ends.
-fn is_marked<R: Threads + Sync + AllocGlobal>(rt: &R, log: Vec<u8>, plan: &Plan) -> bool {
-    let at = log.len() as u64;
-    match marked(rt, rt.alloc(), log, plan) {
-        Ok(log) => audits(rt, &log, at, plan) && says_the_same(rt, &log, at, plan),
-        Err(_) => false,
-    }
-}
-
-// Whether the log of `ONE_ELEMENT` is carried on, and is marked.
-fn goes_on<R: Threads + Sync + AllocGlobal>(rt: &R) -> Result<bool, Fail> {
-    let plan = Plan::new(1, 1).ok_or("plan")?;
-    let log = log_of(rt, ONE_ELEMENT)?;
-    let is_carried_on = is_carried_on(rt, &log, &plan);
-    Ok(is_marked(rt, log, &plan) && is_carried_on)
-}
-
+// The log is carried on by a new one, which is restarted from its checkpoint; and it is marked where
+// its front ends.
 #[test]
 fn a_log_is_marked_and_carried_on(rt: HostRuntime) -> Result<(), Fail> {
-    assert!(rt; goes_on(&rt)?);
+    let plan = Plan::new(1, 1).ok_or("plan")?;
+    let log = log_of(&rt, ONE_ELEMENT)?;
+    let new = carried(&rt, rt.alloc(), &log, &plan)?;
+    assert!(rt; is_carried(&new) && !is_carried(&log));
+    assert!(rt; has_five(restart_at(&rt, rt.alloc(), &new, 96, &plan, &Open)));
+    let at = log.len() as u64;
+    let marked = marked(&rt, rt.alloc(), log, &plan)?;
+    assert!(rt; goes_on_from(&rt, &marked, at, &plan));
     Ok(())
 }

@@ -1,12 +1,75 @@
-//! The state after a front.
+//! What is made of the front of a log: its state, its tail, and the log in version 2.
 
-use super::{PLANS, log_of};
-use rq_restart::front_state;
-use rq_state::{State, spell, spelled_len};
+use super::{CHECKPOINT, ONE_ELEMENT, PLANS, log_in, log_of, spelled};
+use rq_record::Version;
+use rq_restart::{front_state, tail, upgrade};
+use rq_state::{State, spelled_len};
 use rq_tool::{Fault, Plan};
 use std::alloc::Global;
 use std::test::Fail;
 use std::thread::Threads;
+
+// What is made of a log.
+#[derive(Clone, Copy)]
+enum Made {
+    // The spelling of its state, which has so many queues, open units, registrants, elements and
+    // notes.
+    Spelling([usize; 5]),
+    // Its tail.
+    Tail,
+    // The log in version 2.
+    Upgraded,
+}
+
+// The spelling of a state that has so many members; nothing if it has others.
+fn spelling(alloc: Global, state: &State, counts: [usize; 5]) -> Option<Vec<u8>> {
+    let members = [
+        state.definition_count(),
+        state.unit_count(),
+        state.registrant_count(),
+        state.element_count(),
+        state.note_count(),
+    ];
+    let spelled = spelled(alloc, state).ok()?;
+    if members == counts && spelled_len(state) == spelled.len() as u128 {
+        Some(spelled)
+    } else {
+        None
+    }
+}
+
+// What a plan makes of the log; nothing if it is refused.
+fn made_by<R: Threads + Sync + AllocGlobal>(
+    rt: &R,
+    log: &[u8],
+    made: Made,
+    plan: &Plan,
+) -> Option<Vec<u8>> {
+    match made {
+        Made::Spelling(counts) => {
+            let state = front_state(rt, rt.alloc(), log, plan).ok()?;
+            spelling(rt.alloc(), &state, counts)
+        }
+        Made::Tail => tail(rt, rt.alloc(), log, plan).ok(),
+        Made::Upgraded => upgrade(rt, rt.alloc(), log, plan).ok(),
+    }
+}
+
+// Whether this is made of the log, whatever the plan is.
+fn makes<R: Threads + Sync + AllocGlobal>(rt: &R, log: &[u8], made: Made, want: &[u8]) -> bool {
+    for (workers, grain) in PLANS {
+        let Some(plan) = Plan::new(workers, grain) else {
+            return false;
+        };
+        let Some(got) = made_by(rt, log, made, &plan) else {
+            return false;
+        };
+        if got.as_slice() != want {
+            return false;
+        }
+    }
+    true
+}
 
 // Unit 2 is open after the first eight records: it holds element 3, has put in element 7 and has a
 // note of ann. The checkpoint after them has the bytes that this state spells.
@@ -20,92 +83,100 @@ const INSIDE_A_UNIT: &[u8] = b"define jobs 0 -\nregister 0 ann\n\
     07000000000000000008000000000000000001000000000000000200016200000001000000000000\
     000600000000000000020000000003616e6e02000000000000000a0000000000000003\n";
 
-// How many queues, open units, registrants, elements and notes the state has.
-fn members(state: &State) -> [usize; 5] {
-    [
-        state.definition_count(),
-        state.unit_count(),
-        state.registrant_count(),
-        state.element_count(),
-        state.note_count(),
-    ]
+// Two units are open after the first eight records. The last two are the tail that aborts them.
+const TWO_OPEN: &[u8] = b"define jobs 0 -\n\
+    begin 1\nenqueue 1 0 5 - 0 61\ncommit 1\n\
+    begin 2\ndequeue 2 0 - 0\n\
+    begin 3\ndequeue 3 0 - 0\nabort 2\nabort 3\n";
+
+// The log of a script, of which only the first bytes are looked at, and what is made of these:
+// other bytes of the same log.
+#[derive(Drop)]
+struct Case {
+    script: &'static [u8],
+    len: usize,
+    looked_at: usize,
+    made: Made,
+    want: (usize, usize),
 }
 
-// Whether the state has so many members, and spells these bytes.
-fn spells(alloc: Global, state: &State, counts: [usize; 5], want: &[u8]) -> bool {
-    if members(state) != counts || state.next() > 4_294_967_295 {
-        return false;
-    }
-    match spell(alloc, state) {
-        Ok(spelled) => { spelled.as_slice() == want && spelled_len(state) == want.len() as u128 }
-        Err(_) => false,
-    }
-}
+const CASES: [Case; 5] = [
+    Case {
+        script: INSIDE_A_UNIT,
+        len: 679,
+        looked_at: 447,
+        made: Made::Spelling([1, 1, 1, 2, 1]),
+        want: (452, 647),
+    },
+    Case {
+        script: TWO_OPEN,
+        len: 533,
+        looked_at: 443,
+        made: Made::Tail,
+        want: (443, 533),
+    },
+    // No unit is open.
+    Case {
+        script: CHECKPOINT,
+        len: 724,
+        looked_at: 724,
+        made: Made::Tail,
+        want: (724, 724),
+    },
+    Case {
+        script: ONE_ELEMENT,
+        len: 237,
+        looked_at: 237,
+        made: Made::Tail,
+        want: (237, 237),
+    },
+    Case {
+        script: b"",
+        len: 40,
+        looked_at: 40,
+        made: Made::Tail,
+        want: (40, 40),
+    },
+];
 
-// Whether the state after the front of the log does, as this plan finds it.
-fn front_spells<R: Threads + Sync + AllocGlobal>(
-    rt: &R,
-    log: &[u8],
-    plan: &Plan,
-    counts: [usize; 5],
-    want: &[u8],
-) -> bool {
-    match front_state(rt, rt.alloc(), log, plan) {
-        Ok(state) => spells(rt.alloc(), &state, counts, want),
-        Err(_) => false,
-    }
-}
-
-// Whether it does, whatever the plan is.
-fn all_spell<R: Threads + Sync + AllocGlobal>(
-    rt: &R,
-    log: &[u8],
-    counts: [usize; 5],
-    want: &[u8],
-) -> bool {
-    for (workers, grain) in PLANS {
-        let Some(plan) = Plan::new(workers, grain) else {
-            return false;
-        };
-        if !front_spells(rt, log, &plan, counts, want) {
-            return false;
+// Whether it is made of them.
+fn is_made<R: Threads + Sync + AllocGlobal>(rt: &R, case: &Case) -> Result<bool, Fail> {
+    let log = log_of(rt, case.script)?;
+    match (log.get(..case.looked_at), log.get(case.want.0..case.want.1)) {
+        (Some(begins), Some(want)) => {
+            Ok(log.len() == case.len && makes(rt, begins, case.made, want))
         }
-    }
-    true
-}
-
-// Whether the front before the checkpoint spells what the checkpoint has.
-fn front_has_open_units<R: Threads + Sync + AllocGlobal>(rt: &R) -> Result<bool, Fail> {
-    let log = log_of(rt, INSIDE_A_UNIT)?;
-    match (log.get(..447), log.get(452..647)) {
-        (Some(begins), Some(spelled)) => Ok(all_spell(rt, begins, [1, 1, 1, 2, 1], spelled)),
         _ => Ok(false),
     }
 }
 
 #[test]
-fn the_state_after_a_front_has_its_open_units(rt: HostRuntime) -> Result<(), Fail> {
-    assert!(rt; front_has_open_units(&rt)?);
+fn a_front_has_its_state_and_its_tail(rt: HostRuntime) -> Result<(), Fail> {
+    for case in &CASES {
+        assert!(rt; is_made(&rt, case)?, "of {} bytes", case.len);
+    }
     Ok(())
 }
 
-// Whether the bytes are told to be no log.
-fn is_no_log<R: Threads + Sync + AllocGlobal>(rt: &R, bytes: &[u8]) -> bool {
-    match Plan::new(2, 1) {
-        Some(plan) => { front_state(rt, rt.alloc(), bytes, &plan).err() == Some(Fault::NotALog) }
-        None => false,
-    }
-}
-
-// Whether a header alone spells the empty state, and a part of it is no log.
-fn nothing_is_empty<R: Threads + Sync + AllocGlobal>(rt: &R) -> Result<bool, Fail> {
-    let log = log_of(rt, &[])?;
-    let is_empty = all_spell(rt, &log, [0; 5], &[0; 52]);
-    Ok(is_empty && is_no_log(rt, log.get(..39).unwrap_or(&[])))
+// A header alone spells the empty state, and a part of it is no log.
+#[test]
+fn a_front_of_nothing_has_the_empty_state(rt: HostRuntime) -> Result<(), Fail> {
+    let log = log_of(&rt, &[])?;
+    assert!(rt; makes(&rt, &log, Made::Spelling([0; 5]), &[0; 52]));
+    let plan = Plan::new(2, 1).ok_or("plan")?;
+    let part = log.get(..39).unwrap_or(&[]);
+    let state = front_state(&rt, rt.alloc(), part, &plan);
+    assert!(rt; state.err() == Some(Fault::NotALog));
+    Ok(())
 }
 
 #[test]
-fn a_front_of_nothing_has_the_empty_state(rt: HostRuntime) -> Result<(), Fail> {
-    assert!(rt; nothing_is_empty(&rt)?);
+fn a_damaged_log_is_upgraded_to_its_front(rt: HostRuntime) -> Result<(), Fail> {
+    let mut log = log_of(&rt, ONE_ELEMENT)?;
+    if let Some(payload) = log.get_mut(159) {
+        *payload = 0x62;
+    }
+    let want = log_in(&rt, Version::Two, b"define jobs 0 -\nbegin 1\n")?;
+    assert!(rt; want.len() == 132 && makes(&rt, &log, Made::Upgraded, &want));
     Ok(())
 }

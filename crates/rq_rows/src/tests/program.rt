@@ -1,7 +1,13 @@
-//! Words of the program, texts and exit statuses of faults.
+//! Calls that the program never makes, or makes only through others, each once, with ample memory.
 
-use rq_tool::{Command, Fault, command};
-use std::alloc::Global;
+use super::{CHECKPOINT, answer, log_of};
+use rq_file::put_file;
+use rq_tool::{Command, Fault, Open, OverRead, OverWrite, Version, make_log_in};
+use rq_writer::decimal_number;
+use std::fs;
+use std::io::Cursor;
+use std::test::Fail;
+use std::thread::Threads;
 
 const FAULTS: [(Fault, &str, u8); 10] = [
     (Fault::Form, "no record", 1),
@@ -16,37 +22,54 @@ const FAULTS: [(Fault, &str, u8); 10] = [
     (Fault::WriteFailed, "write fault", 3),
 ];
 
-// Whether the fault has this text.
-fn says(alloc: Global, fault: &Fault, text: &str) -> bool {
-    match fault.to_string(alloc) {
-        Ok(told) => told.as_str() == text,
-        Err(_) => false,
-    }
-}
-
 #[test]
-fn faults_have_texts_and_statuses(rt: HostRuntime) {
+fn faults_have_texts_and_statuses(rt: HostRuntime) -> Result<(), Fail> {
     for (fault, text, status) in &FAULTS {
-        let is_so = says(rt.alloc(), fault, *text) && fault.exit() == *status;
-        assert!(rt; is_so, "{text}");
+        let told = fault.to_string(rt.alloc())?;
+        assert!(rt; told.as_str() == *text && fault.exit() == *status, "{text}");
     }
+    Ok(())
 }
 
-// Whether the words say to restart the log of this name.
-fn says_to_restart(words: &[&str], name: &str) -> bool {
-    match command(words) {
-        Some(Command::Restart { log, .. }) => log == name,
-        _ => false,
-    }
-}
-
-// Whether good words are a command, and others are none.
-fn tells_commands() -> bool {
-    says_to_restart(&["restart", "log", "64", "1000000"], "log")
-        && command(&["restart", "log", "0", "1"]).is_none()
+// Whether a script that is read gives this log, in version 1.
+fn makes<R: Threads + Sync + AllocGlobal>(rt: &R, script: &[u8], log: &[u8]) -> bool {
+    let mut input = OverRead::new(Cursor::new(script));
+    let mut output = OverWrite::new(Vec::new(rt.alloc()));
+    let done = make_log_in(rt, rt.alloc(), Version::One, &mut input, &mut output);
+    done.is_ok() && output.into_inner().as_slice() == log
 }
 
 #[test]
-fn words_are_a_command_or_usage(rt: HostRuntime) {
-    assert!(rt; tells_commands());
+fn a_script_is_made_from_bytes_and_from_a_reader(rt: HostRuntime) -> Result<(), Fail> {
+    let log = log_of(&rt, CHECKPOINT)?;
+    let command = Command::Make {
+        script: "script",
+        log: "log",
+    };
+    let (done, made) = answer(&rt, &command, CHECKPOINT, Vec::new(rt.alloc()), &Open);
+    assert!(rt; done.is_ok() && made == log && log.len() == 724);
+    assert!(rt; makes(&rt, CHECKPOINT, &log));
+    Ok(())
+}
+
+// The digits of the greatest number are read, and those of the next one are not.
+#[test]
+fn numbers_are_read(rt: HostRuntime) {
+    assert!(rt; decimal_number(255, b"255") == Some(255));
+    assert!(rt; decimal_number(255, b"256").is_none());
+}
+
+// A file of a few bytes, or of none, which no line of a program makes.
+#[test]
+fn a_file_is_made_and_made_again(rt: HostRuntime) -> Result<(), Fail> {
+    for bytes in ["the first file", "another", ""] {
+        put_file(&rt, "made", bytes.as_bytes())?;
+        assert!(rt; fs::read_to_string(&rt, "made")?.as_str() == bytes);
+        assert!(rt;
+            fs::symlink_metadata(&rt, "made.rq0").is_err(),
+            "the name stays free"
+        );
+    }
+    fs::remove_file(&rt, "made")?;
+    Ok(())
 }

@@ -1,85 +1,171 @@
 //! What calls answer if the host has little memory left, or none.
-ghost use Rattle.std.specs.Prelude.{◌<◌};
 
 mod appending;
 mod commands;
 mod host;
-mod opening;
-mod redoing;
-mod sweeping;
+mod replays;
+mod rooms;
 mod workers;
 
-use rq_tool::{Command, Fault, Input, Open, Output, OverRead, OverWrite, act};
-use std::io::Cursor;
+use appending::Appending;
+use commands::Acting;
+use host::Scarce;
+use replays::Replaying;
+use rooms::{arrive, open};
+use rq_tool::Fault;
+use std::alloc::Global;
 use std::test::Fail;
 use std::thread::Threads;
 
-// An element of `jobs` goes to `dead` at its second abort; `ann` finds it there at its second look.
-const ARRIVAL: &[u8] = b"define dead 0 -\ndefine jobs 2 0\nregister 0 ann\n\
-    begin 1\nenqueue 1 1 5 - 0 61\ncommit 1\n\
-    begin 2\ndequeue 2 1 - 0\nabort 2\n\
-    begin 3\ndequeue 3 1 - 0\n\
-    begin 4\ndequeue 4 0 ann 70\ncommit 4\nabort 3\n\
-    begin 5\ndequeue 5 0 ann 71\ncommit 5\n";
+// By how many bytes what a round leaves grows: less than any block takes.
+const STEP: usize = 16;
 
-// A checkpoint with a unit open, which commits after it. The log has 724 bytes, and 679 before the
-// last record.
-const CHECKPOINT: &[u8] = b"define jobs 0 -\nregister 0 ann\n\
-    begin 1\nenqueue 1 0 5 - 0 61\ncommit 1\n\
-    begin 2\ndequeue 2 0 ann 10\nenqueue 2 0 8 - 0 62\ncheckpoint\ncommit 2\n";
+// This many rounds without a refusal are enough.
+const ENOUGH: u32 = 500;
 
-// The same, closed while the unit is open.
-const CLOSED: &[u8] = b"define jobs 0 -\nregister 0 ann\n\
-    begin 1\nenqueue 1 0 5 - 0 61\ncommit 1\n\
-    begin 2\ndequeue 2 0 ann 10\nenqueue 2 0 8 - 0 62\ncheckpoint\nabort 2\n";
+// The most rounds.
+const ROUNDS: usize = 20_000;
 
-const MAKE: Command<'static> = Command::Make {
-    script: "script",
-    log: "log",
-};
-
-const MAKE_TWO: Command<'static> = Command::Make2 {
-    script: "script",
-    log: "log",
-};
-
-// How a command ends, without what else is known about it.
-fn acted<R, I, O>(rt: &R, command: &Command<'_>, input: &mut I, output: &mut O) -> Result<(), Fault>
-where
-    R: Threads + Sync + AllocGlobal,
-    I: Input,
-    O: Output,
-    requires reads { I.faults input.old < 18446744073709551615 }
-    requires writes { O.faults output.old < 18446744073709551615 }
-{
-    act(rt, rt.alloc(), command, input, output, &Open)
+/// A call that is refused memory at each place in turn.
+#[derive(Drop)]
+enum Call<'a> {
+    Act(Acting<'a>),
+    Append(Appending),
+    Arrive,
+    Open,
+    Replay(Replaying<'a>),
 }
 
-// Appends what a command answers to these bytes, and how it ends.
-fn answer<R: Threads + Sync + AllocGlobal>(
+impl Call<'_> {
+    // Calls, and puts what it answers behind what is lent.
+    fn call<R: Threads + Sync + AllocGlobal>(
+        &mut self,
+        rt: &R,
+        lent: &mut Vec<u8>,
+    ) -> Result<(), Fault> {
+        match self {
+            Call::Act(acting) => acting.call(rt, lent),
+            Call::Append(appending) => appending.call(lent),
+            Call::Arrive => arrive(rt.alloc(), lent),
+            Call::Open => open(rt.alloc(), lent),
+            Call::Replay(replaying) => replaying.call(rt),
+        }
+    }
+
+    // Puts there what it could not while there was little memory.
+    fn tell(&mut self, alloc: Global, lent: &mut Vec<u8>) -> Result<(), Fail> {
+        match self {
+            Call::Replay(replaying) => replaying.tell(alloc, lent),
+            _ => Ok(()),
+        }
+    }
+}
+
+// What a call is lent: this, and, if it is nothing, room for the answer. What must be there after
+// it, and what the rounds came to.
+#[derive(Drop)]
+struct Trial<'a> {
+    before: &'a [u8],
+    want: &'a [u8],
+    lent: Vec<u8>,
+    // How many were refused, and left what was lent.
+    refused: u32,
+    // How many were neither refused so nor answered.
+    wrong: u32,
+    // How many of the last were answered one after the other.
+    last: u32,
+}
+
+impl Trial<'_> {
+    // Makes what a round lends.
+    fn prepare(&mut self, alloc: Global) -> Result<(), Fail> {
+        if self.before.is_empty() {
+            self.lent.clear();
+        } else {
+            self.lent = Vec::from_slice(alloc, self.before)?;
+        }
+        Ok(())
+    }
+
+    fn is_whole(&self) -> bool {
+        self.lent.as_slice() == self.want
+    }
+
+    fn is_untouched(&self) -> bool {
+        self.lent.as_slice() == self.before
+    }
+
+    // Counts a round that ended so.
+    fn count(&mut self, answer: Result<(), Fault>) {
+        match answer {
+            Ok(()) if self.is_whole() => {
+                self.last = self.last.wrapping_add(1);
+                return;
+            }
+            Err(Fault::Resources) if self.is_untouched() => {
+                self.refused = self.refused.wrapping_add(1);
+            }
+            _ => self.wrong = self.wrong.wrapping_add(1),
+        }
+        self.last = 0;
+    }
+
+    // Whether some rounds were refused, the last ones answered, and none went wrong.
+    fn is_right(&self) -> bool {
+        self.wrong == 0 && self.refused > 0 && self.last >= ENOUGH
+    }
+}
+
+// Calls with this many bytes left.
+fn round<R: Threads + Sync + AllocGlobal>(
     rt: &R,
-    command: &Command<'_>,
-    bytes: &[u8],
-    written: Vec<u8>,
-) -> (Result<(), Fault>, Vec<u8>) {
-    let mut input = OverRead::new(Cursor::new(bytes));
-    let mut output = OverWrite::new(written);
-    let done = acted(rt, command, &mut input, &mut output);
-    (done, output.into_inner())
+    scarce: &mut Scarce,
+    bytes: usize,
+    call: &mut Call<'_>,
+    trial: &mut Trial<'_>,
+) -> Result<(), Fail> {
+    trial.prepare(rt.alloc())?;
+    scarce.leave(bytes)?;
+    let answer = call.call(rt, &mut trial.lent);
+    scarce.relieve();
+    call.tell(rt.alloc(), &mut trial.lent)?;
+    trial.count(answer);
+    Ok(())
 }
 
-// The log that a command makes of a script.
-fn log_in<R: Threads + Sync + AllocGlobal>(
+// Calls with ever more, until that is enough.
+fn rounds<R: Threads + Sync + AllocGlobal>(
     rt: &R,
-    make: &Command<'_>,
-    script: &[u8],
-) -> Result<Vec<u8>, Fail> {
-    let (done, log) = answer(rt, make, script, Vec::new(rt.alloc()));
-    done?;
-    Ok(log)
+    scarce: &mut Scarce,
+    call: &mut Call<'_>,
+    trial: &mut Trial<'_>,
+) -> Result<(), Fail> {
+    for place in 0..ROUNDS {
+        round(rt, scarce, STEP * place, call, trial)?;
+        if trial.last >= ENOUGH {
+            break;
+        }
+    }
+    Ok(())
 }
 
-// The log of a script, in version 1.
-fn log_of<R: Threads + Sync + AllocGlobal>(rt: &R, script: &[u8]) -> Result<Vec<u8>, Fail> {
-    log_in(rt, &MAKE, script)
+// Whether the call answers this, however little memory there is, or is refused memory and leaves
+// what was there before.
+fn is_right<R: Threads + Sync + AllocGlobal>(
+    rt: &R,
+    call: &mut Call<'_>,
+    before: &[u8],
+    want: &[u8],
+) -> Result<bool, Fail> {
+    let mut trial = Trial {
+        before,
+        want,
+        lent: Vec::with_capacity(rt.alloc(), want.len())?,
+        refused: 0,
+        wrong: 0,
+        last: 0,
+    };
+    let mut scarce = Scarce::begin(rt.alloc())?;
+    rounds(rt, &mut scarce, call, &mut trial)?;
+    Ok(trial.is_right())
 }

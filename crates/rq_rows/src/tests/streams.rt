@@ -1,7 +1,6 @@
 //! Readers and writers that are interrupted, give and take a few bytes a call, and fail.
 
-use super::log_of;
-use super::scripts::RETURN_AND_ARRIVAL;
+use super::{RETURN_AND_ARRIVAL, log_of};
 use rq_tool::{Fault, Open, OverRead, OverWrite, Plan, run};
 use std::io;
 use std::io::{Cursor, ErrorKind, Read, Write};
@@ -69,9 +68,10 @@ impl<'a> Read for Rough<'a> {
     }
 }
 
-// Takes at most 3 bytes a call.
+// Takes at most so many bytes a call.
 #[derive(Drop)]
 struct Narrow {
+    width: usize,
     taken: Vec<u8>,
     faults: Faults,
 }
@@ -79,7 +79,7 @@ struct Narrow {
 impl Write for Narrow {
     fn write(&mut self, bytes: &[u8]) -> io::Result<usize> {
         self.faults.count()?;
-        let count = bytes.len().min(3);
+        let count = bytes.len().min(self.width);
         match self.taken.extend_from_slice(&bytes[..count]) {
             Ok(()) => Ok(count),
             Err(_) => Err(io::Error::from(ErrorKind::OutOfMemory)),
@@ -120,9 +120,13 @@ where
     R: Threads + Sync + AllocGlobal,
 {
     let fails_at = faults.fails_at;
-    let taken = Vec::new(rt.alloc());
+    let narrow = Narrow {
+        width: 3,
+        taken: Vec::new(rt.alloc()),
+        faults,
+    };
     let mut input = OverRead::new(Cursor::new(log));
-    let mut output = OverWrite::new(Narrow { taken, faults });
+    let mut output = OverWrite::new(narrow);
     let done = run(rt, rt.alloc(), &mut input, &mut output, plan, &Open);
     let narrow = output.into_inner();
     let calls = narrow.faults.calls;
@@ -142,24 +146,19 @@ enum Failing {
     Writes,
 }
 
-// Whether the failed call is told as it must be.
-fn is_told<R>(rt: &R, log: &[u8], plan: &Plan, failing: Failing, faults: Faults) -> bool
-where
-    R: Threads + Sync + AllocGlobal,
-{
-    match failing {
-        Failing::Reads => reads(rt, log, plan, faults),
-        Failing::Writes => writes(rt, log, plan, faults),
-    }
-}
-
-// The first call of which this is not so, where one fails after the other, and last none.
+// The first call that fails and is not told as it must be, where one fails after the other, and last
+// none.
 fn wrong_by<R>(rt: &R, log: &[u8], plan: &Plan, failing: Failing, interrupts: bool) -> Option<u64>
 where
     R: Threads + Sync + AllocGlobal,
 {
     for fails_at in 0..110 {
-        if !is_told(rt, log, plan, failing, Faults::new(interrupts, fails_at)) {
+        let faults = Faults::new(interrupts, fails_at);
+        let is_told = match failing {
+            Failing::Reads => reads(rt, log, plan, faults),
+            Failing::Writes => writes(rt, log, plan, faults),
+        };
+        if !is_told {
             return Some(fails_at);
         }
     }
@@ -180,50 +179,30 @@ fn wrong<R: Threads + Sync + AllocGlobal>(rt: &R, failing: Failing) -> Result<Op
     Ok(None)
 }
 
+// A read that fails is told, and nothing is written. A write that fails is told, and leaves a
+// beginning.
 #[test]
-fn a_read_that_fails_is_told_and_nothing_is_written(rt: HostRuntime) -> Result<(), Fail> {
-    let wrong = wrong(&rt, Failing::Reads)?;
-    assert!(rt; wrong.is_none(), "call {}", wrong.unwrap_or(0));
-    Ok(())
-}
-
-#[test]
-fn a_write_that_fails_is_told_and_leaves_a_beginning(rt: HostRuntime) -> Result<(), Fail> {
-    let wrong = wrong(&rt, Failing::Writes)?;
-    assert!(rt; wrong.is_none(), "call {}", wrong.unwrap_or(0));
-    Ok(())
-}
-
-// Takes nothing, and counts how many times it is asked.
-#[derive(Drop)]
-struct Full {
-    calls: u64,
-}
-
-impl Write for Full {
-    fn write(&mut self, _bytes: &[u8]) -> io::Result<usize> {
-        self.calls = self.calls.wrapping_add(1);
-        Ok(0)
+fn a_read_or_a_write_that_fails_is_told(rt: HostRuntime) -> Result<(), Fail> {
+    for failing in [Failing::Reads, Failing::Writes] {
+        let wrong = wrong(&rt, failing)?;
+        assert!(rt; wrong.is_none(), "call {}", wrong.unwrap_or(0));
     }
-
-    fn flush(&mut self) -> io::Result<()> {
-        Ok(())
-    }
-}
-
-// Whether a run that writes to it asks once, and tells that the write failed.
-fn asks_once<R: Threads + Sync + AllocGlobal>(rt: &R) -> Result<bool, Fail> {
-    let plan = Plan::new(2, 1000).ok_or("plan")?;
-    let log = log_of(rt, RETURN_AND_ARRIVAL)?;
-    let mut input = OverRead::new(Cursor::new(log.as_slice()));
-    let mut output = OverWrite::new(Full { calls: 0 });
-    let done = run(rt, rt.alloc(), &mut input, &mut output, &plan, &Open);
-    let calls = output.into_inner().calls;
-    Ok(done == Err(Fault::WriteFailed) && calls == 1)
+    Ok(())
 }
 
 #[test]
 fn a_writer_that_takes_nothing_is_asked_once(rt: HostRuntime) -> Result<(), Fail> {
-    assert!(rt; asks_once(&rt)?);
+    let plan = Plan::new(2, 1000).ok_or("plan")?;
+    let log = log_of(&rt, RETURN_AND_ARRIVAL)?;
+    let full = Narrow {
+        width: 0,
+        taken: Vec::new(rt.alloc()),
+        faults: Faults::new(false, 0),
+    };
+    let mut input = OverRead::new(Cursor::new(log.as_slice()));
+    let mut output = OverWrite::new(full);
+    let done = run(&rt, rt.alloc(), &mut input, &mut output, &plan, &Open);
+    assert!(rt; done == Err(Fault::WriteFailed));
+    assert!(rt; output.into_inner().faults.calls == 1);
     Ok(())
 }

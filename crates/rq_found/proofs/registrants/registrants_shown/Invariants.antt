@@ -1,5 +1,5 @@
 use Rattle.std.proofs.Common.{◌≡◌, ◌++◌, map, drop}
-use Rattle.rq_found.specs.Registrants.{registrant_entry, registrant_told}
+use Rattle.rq_found.specs.Records.{registrant_entry, registrant_told}
 use Rattle.rq_found.proofs.registrants.registrants_shown.Given as goal
 
 -- those found, and those that are left, are all

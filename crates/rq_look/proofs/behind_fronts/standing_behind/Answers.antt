@@ -1,5 +1,5 @@
 use Rattle.std.proofs.Common.{arith}
-use Rattle.rq_look.proofs.Within.{used_within}
+use Rattle.rq_look.proofs.Scripts.{used_within}
 use Rattle.rq_look.proofs.behind_fronts.standing_behind.Goals as goal
 
 pub behind-requires-clause-after : goal.behind-requires-clause-after

@@ -1,7 +1,7 @@
 use Rattle.std.proofs.Common.{◌∙◌, ◌++◌, List, ℕ, ap, string_bytes}
 use Rattle.rq_judged.specs.Views.{why_of}
 use Rattle.rq_found.specs.Ends.{end_text}
-use Rattle.rq_look.specs.Rests.{behind_finding}
+use Rattle.rq_look.specs.Findings.{behind_finding}
 use Rattle.rq_look.proofs.checks.carried_text.Goals as goal
 
 pub returns : goal.returns

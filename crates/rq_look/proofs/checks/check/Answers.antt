@@ -2,9 +2,7 @@ use Rattle.std.proofs.Common.{◌∙◌, ◌++◌, List, ℕ, Option, false, ap,
 use Rattle.rq_found.specs.Ends.{end_line, IsRestartFrom}
 use Rattle.rq_found.proofs.Lines.{same_line}
 use Rattle.rq_judged.specs.Views.{why_of}
-use Rattle.rq_look.specs.Findings.{IsFindings, findings_text}
-use Rattle.rq_look.specs.Looks.{all_fine}
-use Rattle.rq_look.specs.Rests.{IsBehind, behind_finding}
+use Rattle.rq_look.specs.Findings.{IsFindings, findings_text, all_fine, IsBehind, behind_finding}
 use Rattle.rq_look.proofs.Puts.{same_rest}
 use Rattle.rq_look.proofs.checks.check.Goals as goal
 

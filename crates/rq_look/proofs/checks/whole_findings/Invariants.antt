@@ -1,8 +1,7 @@
 use Rattle.std.proofs.Common.{◌≡◌, ◌++◌, take, string_bytes}
 use Rattle.std.specs.List.{flat_map}
 use Rattle.rq_judged.specs.Views.{why_of}
-use Rattle.rq_look.specs.Looks.{checkpoint_finding, end_finding}
-use Rattle.rq_look.specs.Rests.{behind_finding}
+use Rattle.rq_look.specs.Findings.{checkpoint_finding, end_finding, behind_finding}
 use Rattle.rq_look.proofs.checks.whole_findings.Given as goal
 
 abbrev pub invariant-loop-offset : goal.invariant-loop-offset

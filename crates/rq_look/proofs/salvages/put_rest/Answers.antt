@@ -1,6 +1,6 @@
 use Rattle.std.proofs.Common.{◌++◌, ◌∙◌, Bool, [], refl, sym, subst, string_bytes}
 use Rattle.std.proofs.KnownBytes.{Appends-nil, Appends-trans}
-use Rattle.rq_look.specs.Rests.{IsChoice}
+use Rattle.rq_look.specs.Scripts.{IsChoice}
 use Rattle.rq_look.proofs.Puts.{choice_goes_on}
 use Rattle.rq_look.proofs.salvages.put_rest.Goals as goal
 

@@ -2,7 +2,7 @@ use Rattle.std.proofs.Common.{None, subst}
 use Rattle.std.proofs.KnownBytes.{Appends-trans}
 use Rattle.rq_model.specs.Fronts.{Why}
 use Rattle.rq_found.specs.Ends.{is_whole}
-use Rattle.rq_look.specs.Rests.{IsChoice}
+use Rattle.rq_look.specs.Scripts.{IsChoice}
 use Rattle.rq_look.proofs.salvages.salvage.Goals as goal
 
 pub put_rest-requires-clause-end : goal.put_rest-requires-clause-end

@@ -3,7 +3,7 @@
 use super::plain::{NO_QUEUE, Plain, Who, records_of};
 use Plain::{Abort, Begin, Commit, Define, Dequeue, Enqueue, Kill, Register};
 use rq_catalog::{Analysis, Outcome, analyse};
-use rq_record::{Fault, QueueNo, Record, UnitNo};
+use rq_record::{QueueNo, UnitNo};
 use rq_state::State;
 use std::alloc::Global;
 use std::test::Fail;
@@ -35,22 +35,21 @@ const ARRIVAL: &[Plain] = &[
     Commit(5),
 ];
 
-// What becomes of its units.
-const OUTCOMES: [(u64, Outcome); 5] = [
-    (1, Outcome::Committed(5)),
-    (4, Outcome::Committed(13)),
-    (5, Outcome::Committed(17)),
-    (2, Outcome::Aborted(8)),
-    (3, Outcome::Aborted(14)),
+// What becomes of its units, and of one that it does not have.
+const OUTCOMES: [(u64, Option<Outcome>); 6] = [
+    (1, Some(Outcome::Committed(5))),
+    (4, Some(Outcome::Committed(13))),
+    (5, Some(Outcome::Committed(17))),
+    (2, Some(Outcome::Aborted(8))),
+    (3, Some(Outcome::Aborted(14))),
+    (6, None),
 ];
 
-// Whether the units have these outcomes.
-fn have(analysis: &Analysis, outcomes: &[(u64, Outcome)]) -> bool {
-    let mut all = true;
-    for (unit, want) in outcomes {
-        all = all && analysis.outcome(UnitNo(*unit)) == Some(*want);
-    }
-    all
+/// What is told of a table's records.
+pub(super) fn analysis_of(alloc: Global, table: &[Plain]) -> Result<Analysis, Fail> {
+    let records = records_of(alloc, table)?;
+    let start = State::empty(alloc);
+    Ok(analyse(alloc, &start, &records)?)
 }
 
 // Whether the records at these places touch the queue, and no others.
@@ -67,62 +66,29 @@ fn touch(analysis: &Analysis, queue: u32, places: &[u64]) -> bool {
     true
 }
 
-// Whether the outcomes of its units are told.
-fn outcomes_are_told(analysis: &Analysis) -> bool {
-    have(analysis, &OUTCOMES) && analysis.outcome(UnitNo(6)).is_none()
-}
-
-// Whether is told which records touch each queue.
-fn touching_is_told(analysis: &Analysis) -> bool {
-    let dead = touch(analysis, 0, &[2, 12, 13, 16, 17]);
-    let jobs = touch(analysis, 1, &[4, 5, 7, 8, 10, 14]);
-    dead && jobs && touch(analysis, 2, &[])
-}
-
-// What is told of the records.
-fn analysed(alloc: Global, records: &[Record]) -> Result<Analysis, Fault> {
-    let start = State::empty(alloc);
-    analyse(alloc, &start, records)
-}
-
-/// What is told of a table's records.
-pub(super) fn analysis_of(alloc: Global, table: &[Plain]) -> Result<Analysis, Fail> {
-    let records = records_of(alloc, table)?;
-    Ok(analysed(alloc, &records)?)
-}
-
-// Whether all of that is told of the eighteen records.
-fn tells_arrival(alloc: Global) -> Result<bool, Fail> {
-    let analysis = analysis_of(alloc, ARRIVAL)?;
-    Ok(analysis.lawful() == 18 && outcomes_are_told(&analysis) && touching_is_told(&analysis))
-}
-
 #[test]
 fn outcomes_and_touched_queues(rt: HostRuntime) -> Result<(), Fail> {
-    assert!(rt; tells_arrival(rt.alloc())?);
+    let analysis = analysis_of(rt.alloc(), ARRIVAL)?;
+    assert!(rt; analysis.lawful() == 18);
+    assert!(rt; touch(&analysis, 0, &[2, 12, 13, 16, 17]));
+    assert!(rt; touch(&analysis, 1, &[4, 5, 7, 8, 10, 14]));
+    assert!(rt; touch(&analysis, 2, &[]));
+    for (unit, want) in OUTCOMES {
+        assert!(rt; analysis.outcome(UnitNo(unit)) == want, "unit {unit}");
+    }
     Ok(())
 }
 
 // Six lawful records: of the units that they begin, one commits, one aborts, and two stay open.
 const TWO_OPEN: &[Plain] = &[Begin(1), Begin(2), Begin(4), Commit(2), Begin(5), Abort(1)];
 
-// Whether these two are told to be open.
-fn are_open(alloc: Global, analysis: &Analysis) -> Result<bool, Fault> {
-    let open = analysis.open_units(alloc)?;
-    Ok(open.as_slice() == [UnitNo(4), UnitNo(5)].as_slice())
-}
-
-// Whether the analysis has these counts and open units.
-fn tells_open(alloc: Global) -> Result<bool, Fail> {
-    let analysis = analysis_of(alloc, TWO_OPEN)?;
-    let lawful = analysis.lawful() == 6;
-    let ended = analysis.committed() == 1 && analysis.aborted() == 1;
-    Ok(are_open(alloc, &analysis)? && lawful && ended)
-}
-
 #[test]
 fn an_analysis_has_counts_and_open_units(rt: HostRuntime) -> Result<(), Fail> {
-    assert!(rt; tells_open(rt.alloc())?);
+    let analysis = analysis_of(rt.alloc(), TWO_OPEN)?;
+    assert!(rt; analysis.lawful() == 6);
+    assert!(rt; analysis.committed() == 1 && analysis.aborted() == 1);
+    let open = analysis.open_units(rt.alloc())?;
+    assert!(rt; open.as_slice() == [UnitNo(4), UnitNo(5)].as_slice());
     Ok(())
 }
 
@@ -137,14 +103,10 @@ const KILLED: [&[Plain]; 5] = [
     &[JOBS, Kill(0, 2)],
 ];
 
-fn lawful_of(alloc: Global, table: &[Plain]) -> Result<usize, Fail> {
-    Ok(analysis_of(alloc, table)?.lawful())
-}
-
 #[test]
 fn a_kill_is_not_lawful_in_version_1(rt: HostRuntime) -> Result<(), Fail> {
     for table in KILLED {
-        assert!(rt; lawful_of(rt.alloc(), table)? == 1);
+        assert!(rt; analysis_of(rt.alloc(), table)?.lawful() == 1);
     }
     Ok(())
 }

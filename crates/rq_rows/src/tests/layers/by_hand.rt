@@ -3,11 +3,12 @@
 
 ghost use Rattle.std.specs.Prelude.{◌≡◌, ℕ, List, IfOk};
 ghost use Rattle.rq_state.specs.Inside.{state_of};
-ghost use Rattle.rq_rows.specs.ByHand.{by_hand, element_by_hand};
+ghost use Rattle.rq_rows.specs.ByHand.{by_hand};
 
 use super::analysis::analysis_of;
 use super::courses::state_after;
-use super::plain::{NO_QUEUE, Plain, record_of, records_of};
+use super::plain::{NO_QUEUE, Plain, named, record_of, records_of};
+use crate::tests::spelled;
 use Plain::{
     Abort, Begin, Checkpoint, Commit, Define, Dequeue, Deregister, Enqueue, Kill, Register,
 };
@@ -17,14 +18,10 @@ use rq_queue::{Move, Op, Part, redo};
 use rq_record::{
     ElemId, Fault, Name, Payload, QueueNo, Record, UnitNo, Version, decode, decode_in, encode,
 };
-use rq_state::{Definition, Element, Fields, Last, Mark, OpKind, Registrant, State, read, spell};
+use rq_state::{Definition, Element, Fields, Last, Mark, OpKind, Registrant, State, read};
 use std::alloc::{AllocError, Global};
 use std::test::Fail;
 use std::thread::Threads;
-
-fn name(bytes: &[u8]) -> Result<Name, Fail> {
-    Ok(Name::new(bytes).ok_or("name")?)
-}
 
 // A record of each kind, in the order of their numbers.
 const KINDS: [Plain; 10] = [
@@ -48,22 +45,11 @@ fn body(alloc: Global, record: &Record) -> Result<Vec<u8>, Fault> {
     Ok(bytes)
 }
 
-// The body of the record that a body spells.
-fn again(alloc: Global, bytes: &[u8]) -> Result<Vec<u8>, Fault> {
-    let record = decode_in(alloc, Version::Two, bytes)?;
-    body(alloc, &record)
-}
-
-// The body of a record by its numbers and names.
-fn body_of(alloc: Global, plain: &Plain) -> Result<Vec<u8>, Fail> {
-    let record = record_of(alloc, plain)?;
-    Ok(body(alloc, &record)?)
-}
-
 // Whether a record of this kind is spelled, read and spelled again.
 fn comes_back(alloc: Global, kind: u8, plain: &Plain) -> Result<bool, Fail> {
-    let first = body_of(alloc, plain)?;
-    Ok(first.first() == Some(&kind) && again(alloc, &first)? == first)
+    let first = body(alloc, &record_of(alloc, plain)?)?;
+    let again = body(alloc, &decode_in(alloc, Version::Two, &first)?)?;
+    Ok(first.first() == Some(&kind) && again == first)
 }
 
 #[test]
@@ -95,7 +81,7 @@ fn is_enqueue(record: &Record) -> bool {
 
 // Whether that is what its body spells.
 fn is_taken_apart(alloc: Global) -> Result<bool, Fail> {
-    let bytes = body_of(alloc, &ENQUEUE)?;
+    let bytes = body(alloc, &record_of(alloc, &ENQUEUE)?)?;
     Ok(is_enqueue(&decode(alloc, &bytes)?))
 }
 
@@ -108,61 +94,30 @@ const RECORDS: &[Plain] = &[
     Commit(1),
 ];
 
-// Whether the analysis tells that all are lawful, and the unit's commit.
-fn is_analysed(alloc: Global) -> Result<bool, Fail> {
-    let analysis = analysis_of(alloc, RECORDS)?;
-    let is_committed = analysis.outcome(UnitNo(1)) == Some(Outcome::Committed(4));
-    Ok(analysis.lawful() == 5 && is_committed)
-}
-
-// Whether the state has one element, that of the ENQUEUE above.
-fn has_element(state: &State) -> bool {
-    if state.element_count() != 1 {
+// Whether the state has one element, that of the ENQUEUE above, and one registrant, whose last
+// operation was that.
+fn has_both(state: &State) -> bool {
+    if state.element_count() != 1 || state.registrant_count() != 1 {
         return false;
     }
-    let e = state.element(0);
-    e.id == ElemId(3) && e.mark == Mark::Free && e.payload.bytes().len() == 41
-}
-
-// Whether the state has one registrant, whose last operation was that.
-fn has_registrant(state: &State) -> bool {
-    if state.registrant_count() != 1 {
-        return false;
-    }
-    let registrant = state.registrant(0);
+    let (e, registrant) = (state.element(0), state.registrant(0));
+    let element = e.id == ElemId(3) && e.mark == Mark::Free && e.payload.bytes().len() == 41;
     let last = match registrant.last() {
         Some(last) => last.kind == OpKind::Enqueue && last.tag == 70 && last.place == 3,
         None => false,
     };
-    last && registrant.name().bytes() == b"ann".as_slice()
-}
-
-// Whether that is the state after the records.
-fn is_replayed<R: Threads + Sync + AllocGlobal>(rt: &R) -> Result<bool, Fail> {
-    let plan = Plan::new(2, 1).ok_or("plan")?;
-    let state = state_after(rt, records_of(rt.alloc(), RECORDS)?, &plan)?;
-    Ok(has_element(&state) && has_registrant(&state))
+    element && last && registrant.name().bytes() == b"ann".as_slice()
 }
 
 #[test]
-fn records_are_replayed(rt: HostRuntime) -> Result<(), Fail> {
-    assert!(rt; is_replayed(&rt)?);
+fn records_are_analysed_and_replayed(rt: HostRuntime) -> Result<(), Fail> {
+    let analysis = analysis_of(rt.alloc(), RECORDS)?;
+    assert!(rt; analysis.lawful() == 5);
+    assert!(rt; analysis.outcome(UnitNo(1)) == Some(Outcome::Committed(4)));
+    let plan = Plan::new(2, 1).ok_or("plan")?;
+    let state = state_after(&rt, records_of(rt.alloc(), RECORDS)?, &plan)?;
+    assert!(rt; has_both(&state));
     Ok(())
-}
-
-// An element that nobody holds.
-fn element(payload: Payload) -> Element
-    ensures { result ≡ element_by_hand payload }
-{
-    Element {
-        id: ElemId(0),
-        home: QueueNo(0),
-        origin: QueueNo(0),
-        priority: 5,
-        attempts: 0,
-        payload,
-        mark: Mark::Free,
-    }
 }
 
 // Fields with one queue, a registrant, and an element that it enqueued.
@@ -187,7 +142,15 @@ fn fields(alloc: Global, queue: Name, ann: Name, payload: Payload) -> Result<Fie
             element: Some(ElemId(0)),
         }),
     });
-    elements.push_reserved(element(payload));
+    elements.push_reserved(Element {
+        id: ElemId(0),
+        home: QueueNo(0),
+        origin: QueueNo(0),
+        priority: 5,
+        attempts: 0,
+        payload,
+        mark: Mark::Free,
+    });
     Ok(Fields {
         next: 2,
         greatest: 1,
@@ -206,8 +169,8 @@ fn fields_by_hand(alloc: Global) -> Result<Fields, Fail>
     ensures { IfOk result
         (λ f. (queue ann payload : List ℕ) × (state_of f ≡ by_hand queue ann payload)) }
 {
-    let queue = name(b"jobs")?;
-    let ann = name(b"ann")?;
+    let queue = named("jobs")?;
+    let ann = named("ann")?;
     let payload = Payload::new(Vec::from_slice(alloc, b"a")?).ok_or("payload")?;
     Ok(fields(alloc, queue, ann, payload)?)
 }
@@ -245,52 +208,31 @@ fn poured(alloc: Global, part: Part) -> Result<[usize; 2], Fail> {
 }
 
 // Whether the KILL leaves a registrant, no element, and no move.
-fn leaves_registrant(alloc: Global, state: &State) -> Result<bool, Fail>
-    requires { (queue ann payload : List ℕ) × (state.now ≡ by_hand queue ann payload) }
-{
-    let (part, moves) = killed(alloc, state)?;
-    let none = moves.is_empty();
-    drop(moves);
-    let counts = poured(alloc, part)?;
-    Ok(none && counts == [1, 2])
-}
-
-// Whether it does in that state.
 fn is_killed(alloc: Global) -> Result<bool, Fail> {
     let state = state_by_hand(alloc)?;
-    leaves_registrant(alloc, &state)
+    let (part, moves) = killed(alloc, &state)?;
+    let none = moves.is_empty();
+    drop(moves);
+    Ok(poured(alloc, part)? == [1, 2] && none)
 }
 
-// Whether these bytes spell a state with one element and one registrant.
-fn is_read(alloc: Global, spelled: &[u8]) -> Result<bool, Fault> {
-    let state = read(alloc, spelled)?;
-    Ok(state.element_count() == 1 && state.registrant_count() == 1)
+// Whether the state spells one with one element and one registrant.
+fn spells_both(alloc: Global, state: &State) -> Result<bool, Fault> {
+    let spelled = spelled(alloc, state)?;
+    let again = read(alloc, &spelled)?;
+    Ok(again.element_count() == 1 && again.registrant_count() == 1)
 }
 
-// What a state spells behind two records, with one element.
-fn spelled(alloc: Global, state: &State) -> Result<Vec<u8>, Fail> {
-    if state.next() != 2 || state.element_count() != 1 {
-        return Err("counts".into());
-    }
-    Ok(spell(alloc, state)?)
-}
-
-// What the built state spells.
-fn spelled_by_hand(alloc: Global) -> Result<Vec<u8>, Fail> {
-    let state = state_by_hand(alloc)?;
-    spelled(alloc, &state)
-}
-
-// Whether the built state spells such a one.
+// Whether the built state does, which stands behind two records.
 fn is_spelled(alloc: Global) -> Result<bool, Fail> {
-    let spelled = spelled_by_hand(alloc)?;
-    Ok(is_read(alloc, &spelled)?)
+    let state = state_by_hand(alloc)?;
+    let counts = state.next() == 2 && state.element_count() == 1;
+    Ok(counts && spells_both(alloc, &state)?)
 }
 
 #[test]
 fn what_is_made_by_hand_is_right(rt: HostRuntime) -> Result<(), Fail> {
     assert!(rt; is_taken_apart(rt.alloc())?, "a record is taken apart");
-    assert!(rt; is_analysed(rt.alloc())?, "records are analysed");
     assert!(rt; is_killed(rt.alloc())?, "a part is redone");
     assert!(rt; is_spelled(rt.alloc())?, "a state is built and spelled");
     Ok(())

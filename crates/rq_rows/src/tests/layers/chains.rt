@@ -1,8 +1,10 @@
-//! Where the frames of a log are.
+//! Where the frames of a log are, and which digests are right.
 
 use rq_front::{Chain, Rest, Span, chain, frame, header, walk};
+use rq_lanes::{Lanes, Message};
 use rq_record::Fault;
-use std::alloc::Global;
+use sha2::{Digest, Sha256};
+use std::alloc::{AllocError, Global};
 use std::test::Fail;
 use std::thread::Threads;
 
@@ -28,34 +30,14 @@ fn append(log: &mut Vec<u8>, body: &[u8]) -> Result<(), Fault> {
     frame(&last, body, log)
 }
 
-// Appends a frame for each of these lengths.
-fn append_each(log: &mut Vec<u8>, lens: &[usize]) -> Result<(), Fault> {
-    for len in lens {
-        append(log, [b'a'; 24].get(..*len).unwrap_or(&[]))?;
-    }
-    Ok(())
-}
-
 // A log with a frame for each of these lengths.
 fn log_of_lengths(alloc: Global, lens: &[usize]) -> Result<Vec<u8>, Fault> {
     let mut log = Vec::new(alloc);
     header(&mut log)?;
-    append_each(&mut log, lens)?;
-    Ok(log)
-}
-
-// The chain from a place of the log, if there may be one.
-fn chain_from<R: Threads + Sync + AllocGlobal>(
-    rt: &R,
-    log: &[u8],
-    from: usize,
-    grain: u32,
-) -> Result<Option<Chain>, Fault> {
-    if from < 40 || log.len() < from || grain < 1 {
-        return Ok(None);
+    for len in lens {
+        append(&mut log, [b'a'; 24].get(..*len).unwrap_or(&[]))?;
     }
-    let found = chain(rt, rt.alloc(), log, from, grain)?;
-    Ok(Some(found))
+    Ok(log)
 }
 
 // Whether the bodies are at these places, with these lengths.
@@ -71,7 +53,8 @@ fn are_spans(spans: &[Span], bodies: &[(usize, usize)]) -> bool {
     true
 }
 
-// Whether the chain from a place of the log has these bodies, an end and this after it.
+// Whether there may be a chain from a place of the log, and it has these bodies, an end and this
+// after it.
 fn is_chain<R: Threads + Sync + AllocGlobal>(
     rt: &R,
     log: &[u8],
@@ -79,13 +62,12 @@ fn is_chain<R: Threads + Sync + AllocGlobal>(
     grain: u32,
     want: (&[(usize, usize)], usize, Rest),
 ) -> Result<bool, Fault> {
-    match chain_from(rt, log, from, grain)? {
-        Some(found) => {
-            let (bodies, end, rest) = want;
-            Ok(found.end == end && found.rest == rest && are_spans(&found.spans, bodies))
-        }
-        None => Ok(false),
+    if from < 40 || log.len() < from || grain < 1 {
+        return Ok(false);
     }
+    let found = chain(rt, rt.alloc(), log, from, grain)?;
+    let (bodies, end, rest) = want;
+    Ok(found.end == end && found.rest == rest && are_spans(&found.spans, bodies))
 }
 
 // Chains of the log by a place: that from the first body's frame on has all bodies, that from the
@@ -108,42 +90,62 @@ fn is_told<R: Threads + Sync + AllocGlobal>(rt: &R, log: &[u8], grain: u32) -> R
     Ok(true)
 }
 
-// Whether they are so in the log of those lengths.
-fn tells_spans<R: Threads + Sync + AllocGlobal>(rt: &R, grain: u32) -> Result<bool, Fault> {
-    let log = log_of_lengths(rt.alloc(), &LENGTHS)?;
-    is_told(rt, &log, grain)
-}
-
 #[test]
 fn the_chain_tells_its_spans(rt: HostRuntime) -> Result<(), Fail> {
+    let log = log_of_lengths(rt.alloc(), &LENGTHS)?;
     for grain in [1, 1000] {
-        assert!(rt; tells_spans(&rt, grain)?, "{grain}");
+        assert!(rt; is_told(&rt, &log, grain)?, "{grain}");
     }
     Ok(())
 }
 
-// Whether a walk finds two frames of a log, and of these one is right and then a digest is wrong.
-fn is_walked<R: Threads + Sync + AllocGlobal>(rt: &R, log: &[u8]) -> Result<bool, Fault> {
-    if log.len() < 40 {
-        return Ok(false);
-    }
-    let found = walk(rt.alloc(), log, 40)?;
-    let two = found.spans().len() == 2;
-    let found = found.checked(rt, log, 1);
-    Ok(two && found.spans.len() == 1 && found.rest == Rest::Digest)
-}
-
-// Whether a log of two frames, the second of which has a wrong digest, is walked so.
-fn damaged_is_walked<R: Threads + Sync + AllocGlobal>(rt: &R) -> Result<bool, Fault> {
+// Two frames, the second of which has a wrong digest. A walk finds both, and of these one is right
+// and then a digest is wrong.
+#[test]
+fn a_walk_does_not_look_at_digests(rt: HostRuntime) -> Result<(), Fail> {
     let mut log = log_of_lengths(rt.alloc(), &LENGTHS[..2])?;
     for byte in log.iter_mut().skip(131) {
         *byte ^= 1;
     }
-    is_walked(rt, &log)
+    let found = walk(rt.alloc(), &log, 40)?;
+    assert!(rt; found.spans().len() == 2);
+    let found = found.checked(&rt, &log, 1);
+    assert!(rt; found.spans.len() == 1 && found.rest == Rest::Digest);
+    Ok(())
 }
 
+// Appends a text and its digest, and answers where the text lies.
+fn put_message(out: &mut Vec<u8>, text: &[u8]) -> Result<Message, AllocError> {
+    let message = Message {
+        start: out.len(),
+        len: text.len(),
+    };
+    out.extend_from_slice(text)?;
+    out.extend_from_slice(&Sha256::digest(text))?;
+    Ok(message)
+}
+
+// Whether two lanes find the digest of each message right.
+fn are_right(bytes: &[u8], messages: &[Message]) -> bool {
+    let mut lanes: Lanes<2> = Lanes::new();
+    for message in messages {
+        lanes.take(bytes, *message);
+    }
+    lanes.finish(bytes)
+}
+
+// They say yes of three messages, no of them once one is damaged, and yes of the others.
 #[test]
-fn a_walk_does_not_look_at_digests(rt: HostRuntime) -> Result<(), Fail> {
-    assert!(rt; damaged_is_walked(&rt)?);
+fn two_lanes_say_yes_of_right_digests(rt: HostRuntime) -> Result<(), Fail> {
+    let mut bytes = Vec::new(rt.alloc());
+    let first = put_message(&mut bytes, b"abc")?;
+    let second = put_message(&mut bytes, &[0x61; 200])?;
+    let third = put_message(&mut bytes, b"")?;
+    assert!(rt; are_right(&bytes, &[first, second, third]));
+    if let Some(byte) = bytes.get_mut(100) {
+        *byte = 0x62;
+    }
+    assert!(rt; !are_right(&bytes, &[first, second, third]));
+    assert!(rt; are_right(&bytes, &[first, third]));
     Ok(())
 }

@@ -4,17 +4,15 @@ ghost use Rattle.rq_pool.specs.Countdowns.History.{Fit};
 ghost use Rattle.rq_pool.specs.Countdowns.Words.{IsPassOf, sources_of};
 
 use rq_pool::{Arrival, Closing, Countdown, Fits, Pass};
-use rq_record::Fault;
-use std::alloc::Global;
 use std::sync::atomic::{AtomicBool, AtomicU32, Ordering};
 use std::test::Fail;
 use std::thread;
 use std::thread::Threads;
 
-// What the source of its number hands in.
+/// What the source of its number hands in.
 #[derive(Drop)]
-struct Parcel {
-    number: u32,
+pub(crate) struct Parcel {
+    pub(crate) number: u32,
 }
 
 impl Fits for Parcel {
@@ -32,15 +30,6 @@ fn in_order(parcels: &[Parcel]) -> bool {
     all
 }
 
-fn is_not_last(answer: Arrival<Parcel>) -> bool {
-    matches!(&answer, Arrival::NotLast)
-}
-
-// Whether the parcel of this number comes back.
-fn is_twice(answer: Arrival<Parcel>, number: u32) -> bool {
-    matches!(&answer, Arrival::Twice(parcel) if parcel.number == number)
-}
-
 // Whether these are the parcels of the sources 0 and 2.
 fn are_first_and_third(parcels: &[Parcel]) -> bool {
     parcels.len() == 2 && parcels[0].number == 0 && parcels[1].number == 2
@@ -53,19 +42,18 @@ fn first_and_third_arrived(closing: Closing<Parcel>) -> bool {
     two && seen && are_first_and_third(&closing.into_home())
 }
 
-// Whether a source that arrives by one pass and then by another is told so.
-fn tells_twice(alloc: Global) -> Result<bool, Fault> {
-    let (countdown, mut passes) = Countdown::<Parcel>::open(alloc, (), 3, 2)?;
-    let first = is_not_last(countdown.arrive(&mut passes[0], 0, Parcel { number: 0 }));
-    let second = is_not_last(countdown.arrive(&mut passes[1], 2, Parcel { number: 2 }));
-    let again = is_twice(countdown.arrive(&mut passes[0], 2, Parcel { number: 2 }), 2);
-    let arrived = first_and_third_arrived(countdown.close(passes));
-    Ok(first && second && again && arrived)
-}
-
+// It arrives by one pass, and then by another.
 #[test]
 fn a_source_that_arrives_twice_is_told(rt: HostRuntime) -> Result<(), Fail> {
-    assert!(rt; tells_twice(rt.alloc())?);
+    let (countdown, mut passes) = Countdown::<Parcel>::open(rt.alloc(), (), 3, 2)?;
+    let first = countdown.arrive(&mut passes[0], 0, Parcel { number: 0 });
+    let second = countdown.arrive(&mut passes[1], 2, Parcel { number: 2 });
+    let again = countdown.arrive(&mut passes[0], 2, Parcel { number: 2 });
+    let closing = countdown.close(passes);
+    assert!(rt; matches!(&first, Arrival::NotLast));
+    assert!(rt; matches!(&second, Arrival::NotLast));
+    assert!(rt; matches!(&again, Arrival::Twice(parcel) if parcel.number == 2));
+    assert!(rt; first_and_third_arrived(closing));
     Ok(())
 }
 
@@ -90,32 +78,21 @@ fn hand_in(
     }
 }
 
-fn is_none(parcels: Option<Vec<Parcel>>) -> bool {
-    parcels.is_none()
-}
-
-// Whether these are both parcels.
-fn are_both(parcels: Option<Vec<Parcel>>) -> bool {
-    matches!(&parcels, Some(parcels) if parcels.len() == 2 && in_order(parcels))
-}
-
 // Whether this many arrived, and nothing is kept.
 fn all_arrived(closing: &Closing<Parcel>, arrived: u32) -> bool {
     closing.arrived() == arrived && closing.home().is_empty()
 }
 
-// Whether the last of two sources is given both parcels.
-fn gives_both(alloc: Global) -> Result<bool, Fault> {
-    let (countdown, mut passes) = Countdown::<Parcel>::open(alloc, (), 2, 2)?;
-    let first = is_none(hand_in(&countdown, &mut passes[0], Parcel { number: 1 }));
-    let second = are_both(hand_in(&countdown, &mut passes[1], Parcel { number: 0 }));
-    let closing = countdown.close(passes);
-    Ok(first && second && closing.last() == Some(1) && all_arrived(&closing, 2))
-}
-
 #[test]
 fn the_last_of_two_is_given_both(rt: HostRuntime) -> Result<(), Fail> {
-    assert!(rt; gives_both(rt.alloc())?);
+    let (countdown, mut passes) = Countdown::<Parcel>::open(rt.alloc(), (), 2, 2)?;
+    let first = hand_in(&countdown, &mut passes[0], Parcel { number: 1 });
+    let second = hand_in(&countdown, &mut passes[1], Parcel { number: 0 });
+    let closing = countdown.close(passes);
+    assert!(rt; first.is_none());
+    let both = second.ok_or("both")?;
+    assert!(rt; both.len() == 2 && in_order(&both));
+    assert!(rt; closing.last() == Some(1) && all_arrived(&closing, 2));
     Ok(())
 }
 
@@ -161,21 +138,17 @@ fn arrive_all<R: Threads + Sync>(
     );
 }
 
-// Whether one of sixty-four threads is told that it is last, and given all parcels.
-fn one_is_last<R: Threads + Sync + AllocGlobal>(rt: &R) -> Result<bool, Fault> {
+// One of them is told so, and given all parcels.
+#[test]
+fn one_of_sixty_four_threads_is_last(rt: HostRuntime) -> Result<(), Fail> {
     let (countdown, mut passes) = Countdown::<Parcel>::open(rt.alloc(), (), 64, 64)?;
     let seen = Seen {
         lasts: AtomicU32::new(0),
         whole: AtomicBool::new(false),
     };
-    arrive_all(rt, &countdown, passes.as_mut_slice(), &seen);
+    arrive_all(&rt, &countdown, passes.as_mut_slice(), &seen);
     let closing = countdown.close(passes);
-    let one = seen.lasts.load(Ordering::SeqCst) == 1 && seen.whole.load(Ordering::SeqCst);
-    Ok(one && closing.last().is_some() && all_arrived(&closing, 64))
-}
-
-#[test]
-fn one_of_sixty_four_threads_is_last(rt: HostRuntime) -> Result<(), Fail> {
-    assert!(rt; one_is_last(&rt)?);
+    assert!(rt; seen.lasts.load(Ordering::SeqCst) == 1 && seen.whole.load(Ordering::SeqCst));
+    assert!(rt; closing.last().is_some() && all_arrived(&closing, 64));
     Ok(())
 }

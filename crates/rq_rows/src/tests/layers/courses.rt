@@ -16,7 +16,7 @@ use Plain::{Abort, Begin, Commit, Define, Dequeue, Enqueue};
 use rq_catalog::{analyse_in, analyse_kept};
 use rq_exchange::{Course, redo_analysed, replay};
 use rq_plan::{Gate, Open, Plan};
-use rq_record::{Fault, KeptRecord, Record, Version, kept_records};
+use rq_record::{Fault, Record, Version, kept_records};
 use rq_state::State;
 use std::alloc::Global;
 use std::sync::atomic::{AtomicU32, Ordering};
@@ -44,10 +44,10 @@ const CHAINED: &[Plain] = &[
     Abort(3),
 ];
 
-// Records that are lawful from the start.
+/// Records that are lawful from the start.
 #[derive(Drop)]
-struct Lawful {
-    records: Vec<KeptRecord>,
+pub(crate) struct Lawful {
+    pub(crate) records: Vec<Record>,
     ghost lawful: { all_lawful Two empty (map record_of records.items) ≡ true },
 }
 
@@ -68,12 +68,20 @@ fn lawful_front(
 }
 
 /// The records as far as they are lawful from the start.
-pub(crate) fn lawful_records(alloc: Global, records: Vec<Record>) -> Result<Vec<Record>, Fault>
-    ensures lawful { IfOk result (λ v. all_lawful Two empty (map record_of v.items) ≡ true) }
-    ensures refused { IfErr result (λ e. e ≡ Resources) }
-{
+pub(crate) fn lawful_of(alloc: Global, records: Vec<Record>) -> Result<Lawful, Fault> {
     let start = State::empty(alloc);
-    lawful_front(alloc, &start, records)
+    let records = lawful_front(alloc, &start, records)?;
+    Ok(Lawful { records })
+}
+
+/// The state after the records.
+pub(crate) fn replayed<R: Threads + Sync + AllocGlobal>(
+    rt: &R,
+    lawful: &Lawful,
+    plan: &Plan,
+) -> Result<State, Fault> {
+    let start = State::empty(rt.alloc());
+    replay(rt, rt.alloc(), &start, &lawful.records, plan, &Open)
 }
 
 /// The state after the records, as far as they are lawful.
@@ -82,16 +90,8 @@ pub(super) fn state_after<R: Threads + Sync + AllocGlobal>(
     records: Vec<Record>,
     plan: &Plan,
 ) -> Result<State, Fault> {
-    let records = lawful_records(rt.alloc(), records)?;
-    let start = State::empty(rt.alloc());
-    replay(rt, rt.alloc(), &start, &records, plan, &Open)
-}
-
-// The records as far as they are lawful from the start.
-fn lawful_of(alloc: Global, records: Vec<Record>) -> Result<Lawful, Fault> {
-    let records = lawful_records(alloc, records)?;
-    let records = kept_records(alloc, &records)?;
-    Ok(Lawful { records })
+    let lawful = lawful_of(rt.alloc(), records)?;
+    replayed(rt, &lawful, plan)
 }
 
 // The state after the records, and how the replay went: one thread redid a queue, once, and no
@@ -115,8 +115,9 @@ fn traced<R: Threads + Sync + AllocGlobal, G: Gate + Sync>(
 {
     let alloc = rt.alloc();
     let start = State::empty(alloc);
-    let analysis = analyse_kept(alloc, Version::Two, &start, &lawful.records)?;
-    let (all, course) = redo_analysed(rt, alloc, &start, &lawful.records, analysis, plan, gate)?;
+    let records = kept_records(alloc, &lawful.records)?;
+    let analysis = analyse_kept(alloc, Version::Two, &start, &records)?;
+    let (all, course) = redo_analysed(rt, alloc, &start, &records, analysis, plan, gate)?;
     let state = all.gather(alloc)?;
     Ok((state, course))
 }
@@ -205,16 +206,12 @@ fn all_go_right<R: Threads + Sync + AllocGlobal>(
     Ok(true)
 }
 
-// Whether each of 50 replays by this many workers of the fourteen records does.
-fn chained_goes_right<R: Threads + Sync + AllocGlobal>(rt: &R, workers: u32) -> Result<bool, Fail> {
-    let lawful = lawful_of(rt.alloc(), records_of(rt.alloc(), CHAINED)?)?;
-    Ok(lawful.records.len() == 14 && all_go_right(rt, &lawful, workers)?)
-}
-
 #[test]
 fn the_last_arrival_begins_an_error_queue(rt: HostRuntime) -> Result<(), Fail> {
+    let lawful = lawful_of(rt.alloc(), records_of(rt.alloc(), CHAINED)?)?;
+    assert!(rt; lawful.records.len() == 14);
     for workers in [1, 2, 4] {
-        assert!(rt; chained_goes_right(&rt, workers)?, "{workers} workers");
+        assert!(rt; all_go_right(&rt, &lawful, workers)?, "{workers} workers");
     }
     Ok(())
 }

@@ -28,7 +28,8 @@ const PAYLOAD: &[u8] = b"a payload that is longer than a short one";
 /// The number that means no queue.
 pub const NO_QUEUE: u32 = u32::MAX;
 
-fn named(name: &str) -> Result<Name, Fail> {
+/// A name by its text.
+pub fn named(name: &str) -> Result<Name, Fail> {
     Ok(Name::new(name.as_bytes()).ok_or("name")?)
 }
 
@@ -40,21 +41,6 @@ fn by(who: Who) -> Result<Option<By>, Fail> {
         }
         None => Ok(None),
     }
-}
-
-fn define(limit: u16, error: u32, name: &str) -> Result<Record, Fail> {
-    let (error, name) = (QueueNo(error), named(name)?);
-    Ok(Record::Define { limit, error, name })
-}
-
-fn register(queue: u32, name: &str) -> Result<Record, Fail> {
-    let (queue, name) = (QueueNo(queue), named(name)?);
-    Ok(Record::Register { queue, name })
-}
-
-fn deregister(queue: u32, name: &str) -> Result<Record, Fail> {
-    let (queue, name) = (QueueNo(queue), named(name)?);
-    Ok(Record::Deregister { queue, name })
 }
 
 fn enqueue(alloc: Global, unit: u64, queue: u32, who: Who) -> Result<Record, Fail> {
@@ -70,51 +56,45 @@ fn enqueue(alloc: Global, unit: u64, queue: u32, who: Who) -> Result<Record, Fai
     })
 }
 
-fn dequeue(unit: u64, queue: u32, who: Who) -> Result<Record, Fail> {
-    let by = by(who)?;
-    let (unit, queue) = (UnitNo(unit), QueueNo(queue));
-    Ok(Record::Dequeue { unit, queue, by })
-}
-
-fn checkpoint(alloc: Global) -> Result<Record, Fail> {
-    let bytes = CheckBytes::new(Vec::new(alloc)).ok_or("bytes")?;
-    Ok(Record::Checkpoint { bytes })
-}
-
-fn kill(queue: u32, element: u64) -> Record {
-    Record::Kill {
-        queue: QueueNo(queue),
-        element: ElemId(element),
-    }
-}
-
 /// The record of these numbers and names.
 pub fn record_of(alloc: Global, plain: &Plain) -> Result<Record, Fail> {
     match *plain {
-        Plain::Define(limit, error, name) => define(limit, error, name),
-        Plain::Register(queue, name) => register(queue, name),
-        Plain::Deregister(queue, name) => deregister(queue, name),
+        Plain::Define(limit, error, name) => {
+            let (error, name) = (QueueNo(error), named(name)?);
+            Ok(Record::Define { limit, error, name })
+        }
+        Plain::Register(queue, name) => {
+            let (queue, name) = (QueueNo(queue), named(name)?);
+            Ok(Record::Register { queue, name })
+        }
+        Plain::Deregister(queue, name) => {
+            let (queue, name) = (QueueNo(queue), named(name)?);
+            Ok(Record::Deregister { queue, name })
+        }
         Plain::Begin(unit) => Ok(Record::Begin { unit: UnitNo(unit) }),
         Plain::Enqueue(unit, queue, who) => enqueue(alloc, unit, queue, who),
-        Plain::Dequeue(unit, queue, who) => dequeue(unit, queue, who),
+        Plain::Dequeue(unit, queue, who) => {
+            let (unit, queue, by) = (UnitNo(unit), QueueNo(queue), by(who)?);
+            Ok(Record::Dequeue { unit, queue, by })
+        }
         Plain::Commit(unit) => Ok(Record::Commit { unit: UnitNo(unit) }),
         Plain::Abort(unit) => Ok(Record::Abort { unit: UnitNo(unit) }),
-        Plain::Checkpoint => checkpoint(alloc),
-        Plain::Kill(queue, element) => Ok(kill(queue, element)),
+        Plain::Checkpoint => {
+            let bytes = CheckBytes::new(Vec::new(alloc)).ok_or("bytes")?;
+            Ok(Record::Checkpoint { bytes })
+        }
+        Plain::Kill(queue, element) => {
+            let (queue, element) = (QueueNo(queue), ElemId(element));
+            Ok(Record::Kill { queue, element })
+        }
     }
-}
-
-// Lists the records of a table.
-fn list(alloc: Global, table: &[Plain], records: &mut Vec<Record>) -> Result<(), Fail> {
-    for plain in table {
-        records.push(record_of(alloc, plain)?)?;
-    }
-    Ok(())
 }
 
 /// The records of a table.
 pub fn records_of(alloc: Global, table: &[Plain]) -> Result<Vec<Record>, Fail> {
     let mut records = Vec::new(alloc);
-    list(alloc, table, &mut records)?;
+    for plain in table {
+        records.push(record_of(alloc, plain)?)?;
+    }
     Ok(records)
 }

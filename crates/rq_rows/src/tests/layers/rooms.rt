@@ -19,8 +19,8 @@ fn one(alloc: Global, list: &[u32]) -> Result<Vec<Vec<u32>>, AllocError>
     Ok(Vec::from_array(alloc, [list])?)
 }
 
-// Two lists.
-fn two(alloc: Global, first: &[u32], second: &[u32]) -> Result<Vec<Vec<u32>>, AllocError>
+/// Two lists.
+pub(crate) fn two(alloc: Global, first: &[u32], second: &[u32]) -> Result<Vec<Vec<u32>>, AllocError>
     ensures { IfOk result (λ v. map vec_items v.items ≡ first.now ∷ second.now ∷ []) }
 {
     let first = Vec::from_slice(alloc, first)?;
@@ -33,8 +33,8 @@ fn one_took(left: &Left, taken: &[u32], rest: &[u32]) -> bool {
     left.seats() == 1 && left.taken(0) == taken && left.left() == rest
 }
 
-// Whether two seats took these numbers, and this many are left.
-fn two_took(left: &Left, first: &[u32], second: &[u32], rest: usize) -> bool {
+/// Whether two seats took these numbers, and this many are left.
+pub(crate) fn two_took(left: &Left, first: &[u32], second: &[u32], rest: usize) -> bool {
     let both = left.seats() == 2 && left.taken(0) == first && left.taken(1) == second;
     both && left.left().len() == rest
 }
@@ -68,24 +68,10 @@ fn takes_none(alloc: Global) -> Result<bool, Fault> {
     Ok(x.is_none() && y.is_none() && two_took(&left, &[], &[], 0))
 }
 
-// Takes up to 1,000 times, until a take gives a number.
-fn first_found(room: &Room, seat: &mut Seat) -> Option<u32>
-    requires { IsSeatOf room.now seat.old }
-    ensures { IsSeatOf room.now seat.new }
-{
-    for _ in 0..1_000 {
-        let x = seat.take(room);
-        if x.is_some() {
-            return x;
-        }
-    }
-    None
-}
-
 // Whether a seat without a list takes one of the other's numbers.
 fn steals(alloc: Global) -> Result<bool, Fault> {
     let (room, mut seats) = Room::open(alloc, two(alloc, &[0, 1], &[])?)?;
-    let x = first_found(&room, &mut seats[1]);
+    let x = take_until(&room, &mut seats[1], true);
     let left = room.close(seats);
     match x {
         Some(x) => Ok(x < 2 && two_took(&left, &[], &[x], 1)),
@@ -110,67 +96,49 @@ fn told_in_order_of_close(alloc: Global) -> Result<bool, Fault> {
     Ok(x == Some(2) && two_took(&left, &[2], &[], 2))
 }
 
-// What a room is asked for on one thread.
-#[derive(Drop)]
-enum Asked {
-    One,
-    All,
-    None,
-    Theft,
-    Own,
-    Order,
-}
-
-const ALL_ASKED: [(Asked, &str); 6] = [
-    (Asked::One, "a room of one goes on in its list"),
-    (Asked::All, "a seat alone takes all before none"),
-    (Asked::None, "an empty deal gives none"),
-    (Asked::Theft, "a seat without a list steals"),
-    (Asked::Own, "a seat takes of its own list first"),
-    (
-        Asked::Order,
-        "seats are told apart by the order of the close",
-    ),
-];
-
-fn is_answered(alloc: Global, asked: &Asked) -> Result<bool, Fault> {
-    match asked {
-        Asked::One => takes_one(alloc),
-        Asked::All => takes_all(alloc),
-        Asked::None => takes_none(alloc),
-        Asked::Theft => steals(alloc),
-        Asked::Own => takes_own(alloc),
-        Asked::Order => told_in_order_of_close(alloc),
-    }
-}
-
 #[test]
 fn rooms_answer_one_thread(rt: HostRuntime) -> Result<(), Fail> {
-    for (asked, what) in &ALL_ASKED {
-        assert!(rt; is_answered(rt.alloc(), asked)?, "{what}");
-    }
+    let alloc = rt.alloc();
+    assert!(rt; takes_one(alloc)?, "a room of one goes on in its list");
+    assert!(rt; takes_all(alloc)?, "a seat alone takes all before none");
+    assert!(rt; takes_none(alloc)?, "an empty deal gives none");
+    assert!(rt; steals(alloc)?, "a seat without a list steals");
+    assert!(rt; takes_own(alloc)?, "a seat takes of its own list first");
+    assert!(rt;
+        told_in_order_of_close(alloc)?,
+        "seats are told apart by the order of the close"
+    );
     Ok(())
 }
 
 // This many numbers, from `first` on.
-fn counted(alloc: Global, first: u32, count: usize) -> Result<Vec<u32>, AllocError>
-    requires { (first ≤ 10000) × (count ≤ 4000) }
+fn counted(alloc: Global, first: u32, count: usize) -> Result<Vec<u32>, Fault>
+    requires { count ≤ 4000 }
     ensures { IfOk result (λ v. length v.items ≡ count) }
 {
-    let mut list = Vec::with_capacity(alloc, count)?;
+    let mut list = Vec::new(alloc);
     for i in 0..count {
-        list.push_reserved(first + i as u32);
+        list.push(first.wrapping_add(i as u32))?;
+    }
+    if list.len() != count {
+        return Err(Fault::TooLong);
     }
     Ok(list)
 }
 
-// Takes until there is none.
-fn drained(room: &Room, mut seat: Seat) -> Seat
-    requires { IsSeatOf room.now seat }
-    ensures { IsSeatOf room.now result }
+// Takes until a take gives a number, or else until one gives none. No room here has more than 5,000
+// numbers.
+fn take_until(room: &Room, seat: &mut Seat, is_found: bool) -> Option<u32>
+    requires { IsSeatOf room.now seat.old }
+    ensures { IsSeatOf room.now seat.new }
 {
-    while let Some(_x) = seat.take(room) {}
-    seat
+    for _ in 0..=5_000 {
+        let x = seat.take(room);
+        if x.is_some() == is_found {
+            return x;
+        }
+    }
+    None
 }
 
 // A thread for each seat takes until there is none.
@@ -188,30 +156,29 @@ fn drained_by_threads<R: Threads + Sync>(
         &|seat: Seat| -> Seat
             requires { IsSeatOf shared.now seat }
             ensures { IsSeatOf shared.entry.now result }
-        { drained(shared, seat) },
+        {
+            let mut seat = seat;
+            let _none = take_until(shared, &mut seat, false);
+            seat
+        },
     )?;
     Ok(room.close(seats))
 }
 
-// All that was taken, sorted.
-fn sorted(alloc: Global, left: &Left) -> Result<Vec<u32>, AllocError> {
+// Whether four seats took the numbers 0 to 3,999, each once, and none is left.
+fn four_took_all(alloc: Global, left: &Left) -> Result<bool, AllocError> {
     let mut all = Vec::new(alloc);
     for i in 0..left.seats() {
         all.extend_from_slice(left.taken(i))?;
     }
     all.sort()?;
-    Ok(all)
-}
-
-// Whether four seats took the numbers 0 to 3,999, each once, and none is left.
-fn four_took_all(alloc: Global, left: &Left) -> Result<bool, AllocError> {
-    let all = left.seats() == 4 && left.left().is_empty();
-    Ok(all && sorted(alloc, left)?.iter().copied().eq(0..4_000))
+    let are_taken = all.iter().copied().eq(0..4_000);
+    Ok(are_taken && left.seats() == 4 && left.left().is_empty())
 }
 
 // Four lists that count on from one to the next: this many numbers, and this many in each of the
 // others.
-fn four(alloc: Global, first: usize, others: usize) -> Result<Vec<Vec<u32>>, AllocError>
+fn four(alloc: Global, first: usize, others: usize) -> Result<Vec<Vec<u32>>, Fault>
     requires { (first ≤ 4000) × (others ≤ 1000) }
     ensures { IfOk result (λ v. (vec_len v ≡ 4) × (size (map vec_items v.items) ≤ 65536)) }
 {
@@ -236,24 +203,12 @@ fn four_take_all<R: Threads + Sync + AllocGlobal>(
     Ok(four_took_all(rt.alloc(), &left)?)
 }
 
-// Whether four threads take all, dealt to four or to one.
-fn all_is_taken_by_four<R: Threads + Sync + AllocGlobal>(rt: &R) -> Result<bool, Fault> {
-    let dealt_to_four = four_take_all(rt, four(rt.alloc(), 1_000, 1_000)?)?;
-    Ok(dealt_to_four && four_take_all(rt, four(rt.alloc(), 4_000, 0)?)?)
-}
-
+// Dealt to four, or to one.
 #[test]
 fn four_takers_leave_nothing(rt: HostRuntime) -> Result<(), Fail> {
-    assert!(rt; all_is_taken_by_four(&rt)?);
+    assert!(rt; four_take_all(&rt, four(rt.alloc(), 1_000, 1_000)?)?);
+    assert!(rt; four_take_all(&rt, four(rt.alloc(), 4_000, 0)?)?);
     Ok(())
-}
-
-// Whether there is a plan of these numbers, which has them, or none if they are not good.
-fn is_told(workers: u32, grain: u32, good: bool) -> bool {
-    match Plan::new(workers, grain) {
-        Some(plan) => good && plan.workers() == workers && plan.grain() == grain,
-        None => !good,
-    }
 }
 
 // Workers, a grain, and whether there is a plan of them.
@@ -269,17 +224,17 @@ const PLANS: [(u32, u32, bool); 6] = [
 #[test]
 fn plans_at_the_ends_of_their_ranges(rt: HostRuntime) {
     for (workers, grain, good) in PLANS {
-        assert!(rt; is_told(workers, grain, good), "at {workers} and {grain}");
-    }
-}
-
-fn enter_all<G: Gate + Sync>(gate: &G) {
-    for task in 0..3 {
-        gate.enter(task);
+        let is_told = match Plan::new(workers, grain) {
+            Some(plan) => good && plan.workers() == workers && plan.grain() == grain,
+            None => !good,
+        };
+        assert!(rt; is_told, "at {workers} and {grain}");
     }
 }
 
 #[test]
 fn the_open_gate_lets_all_enter(_rt: HostRuntime) {
-    enter_all(&Open);
+    for task in 0..3 {
+        Open.enter(task);
+    }
 }

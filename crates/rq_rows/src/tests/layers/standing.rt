@@ -7,14 +7,15 @@ ghost use Rattle.rq_standing.specs.Stands.{Stands};
 
 use super::courses::state_after;
 use super::plain::{NO_QUEUE, Plain, Who, record_of};
+use crate::tests::spelled;
 use Plain::{
     Abort, Begin, Checkpoint, Commit, Define, Dequeue, Deregister, Enqueue, Kill, Register,
 };
 use rq_catalog::Rule;
 use rq_plan::Plan;
-use rq_record::{ElemId, Fault, KeptRecord, Record, Version};
+use rq_record::{ElemId, KeptRecord, Record, Version};
 use rq_standing::{Standing, Taken};
-use rq_state::{State, spell};
+use rq_state::State;
 use std::alloc::Global;
 use std::test::Fail;
 use std::thread::Threads;
@@ -151,101 +152,51 @@ fn goes_on(alloc: Global, standing: &mut Standing, cases: &[Case]) -> Result<boo
     Ok(true)
 }
 
-// The state in which the machine stands behind the records. None, if something else became of one
-// than is noted beside it.
-fn state_behind(
-    alloc: Global,
-    standing: &mut Standing,
-    cases: &[Case],
-) -> Result<Option<State>, Fail>
-    requires { (version : records.Version) × (s : states.State) × Stands version standing.old s }
+// The state in which the machine stands behind the records.
+fn state_behind(alloc: Global, mut standing: Standing, cases: &[Case]) -> Result<State, Fail>
+    requires { (version : records.Version) × (s : states.State) × Stands version standing s }
 {
-    if !goes_on(alloc, standing, cases)? {
-        return Ok(None);
+    if !goes_on(alloc, &mut standing, cases)? {
+        return Err("something else became of a record".into());
     }
-    Ok(Some(standing.state(alloc)?))
+    Ok(standing.state(alloc)?)
 }
 
-// The same from this state on.
-fn stood_from(alloc: Global, start: &State, cases: &[Case]) -> Result<Option<State>, Fail> {
-    let mut standing = Standing::of(alloc, Version::Two, start)?;
-    state_behind(alloc, &mut standing, cases)
-}
-
-// The same from the beginning on.
-fn stood_at_once(alloc: Global, cases: &[Case]) -> Result<Option<State>, Fail> {
-    let mut standing = Standing::new(alloc, Version::Two);
-    state_behind(alloc, &mut standing, cases)
-}
-
-// The same. Half-way the machine is made anew of its state.
-fn stood(alloc: Global, cases: &[Case]) -> Result<Option<State>, Fail> {
+// What that state spells, if half-way the machine is made anew of its state.
+fn stood(alloc: Global, cases: &[Case]) -> Result<Vec<u8>, Fail> {
     let (first, last) = cases.split_at(cases.len() / 2);
-    match stood_at_once(alloc, first)? {
-        Some(state) => stood_from(alloc, &state, last),
-        None => Ok(None),
-    }
-}
-
-// Lists the records of which something becomes.
-fn list_taken(alloc: Global, cases: &[Case], records: &mut Vec<Record>) -> Result<(), Fail> {
-    for case in cases {
-        if !matches!(case.0, Want::Nothing) {
-            records.push(record_of(alloc, &case.1)?)?;
-        }
-    }
-    Ok(())
+    let half = state_behind(alloc, Standing::new(alloc, Version::Two), first)?;
+    let again = Standing::of(alloc, Version::Two, &half)?;
+    let state = state_behind(alloc, again, last)?;
+    Ok(spelled(alloc, &state)?)
 }
 
 // The records of which something becomes.
 fn taken(alloc: Global, cases: &[Case]) -> Result<Vec<Record>, Fail> {
     let mut records = Vec::new(alloc);
-    list_taken(alloc, cases, &mut records)?;
+    for case in cases {
+        if !matches!(case.0, Want::Nothing) {
+            records.push(record_of(alloc, &case.1)?)?;
+        }
+    }
     Ok(records)
 }
 
-// The state after these, by a replay.
-fn replayed<R: Threads + Sync + AllocGlobal>(rt: &R, cases: &[Case]) -> Result<State, Fail> {
+// What the state after these spells, by a replay.
+fn replayed<R: Threads + Sync + AllocGlobal>(rt: &R, cases: &[Case]) -> Result<Vec<u8>, Fail> {
     let plan = Plan::new(2, 1).ok_or("plan")?;
-    Ok(state_after(rt, taken(rt.alloc(), cases)?, &plan)?)
-}
-
-// The spelling of a state after fewer records than a log can have.
-fn spelled(alloc: Global, state: &State) -> Result<Vec<u8>, Fault>
-    ensures { IfOk result (λ v. length v.items ≤ 268435455) }
-{
-    if state.next() > 4_294_967_295 {
-        return Err(Fault::Resources);
-    }
-    spell(alloc, state)
-}
-
-fn is_same(alloc: Global, one: &State, other: &State) -> Result<bool, Fail> {
-    Ok(spelled(alloc, one)? == spelled(alloc, other)?)
-}
-
-// Whether a replay of the records comes to the state.
-fn is_replayed<R: Threads + Sync + AllocGlobal>(
-    rt: &R,
-    stood: &State,
-    cases: &[Case],
-) -> Result<bool, Fail> {
-    let replayed = replayed(rt, cases)?;
-    is_same(rt.alloc(), stood, &replayed)
-}
-
-// Whether the machine stands in the state that a replay of the records comes to.
-fn agree<R: Threads + Sync + AllocGlobal>(rt: &R, cases: &[Case]) -> Result<bool, Fail> {
-    match stood(rt.alloc(), cases)? {
-        Some(stood) => is_replayed(rt, &stood, cases),
-        None => Ok(false),
-    }
+    let state = state_after(rt, taken(rt.alloc(), cases)?, &plan)?;
+    Ok(spelled(rt.alloc(), &state)?)
 }
 
 #[test]
 fn it_stands_where_a_replay_comes_to(rt: HostRuntime) -> Result<(), Fail> {
     for count in 0..=CASES.len() {
-        assert!(rt; agree(&rt, &CASES[..count])?, "after {count} records");
+        let cases = &CASES[..count];
+        assert!(rt;
+            stood(rt.alloc(), cases)? == replayed(&rt, cases)?,
+            "after {count} records"
+        );
     }
     Ok(())
 }
@@ -285,45 +236,24 @@ fn is_spelled_by_these_alone(alloc: Global, standing: &Standing, bytes: &[u8]) -
     Ok(standing.is_spelled_by(alloc, bytes)?)
 }
 
-// What the state spells in which the machine stands.
-fn spelled_of(alloc: Global, standing: &Standing) -> Result<Vec<u8>, Fault>
+// Whether the machine knows its version, the number of the next record, how much room its state
+// needs at least, and what its state spells.
+fn knows(alloc: Global, standing: &Standing) -> Result<bool, Fail>
     requires { (version : records.Version) × (s : states.State) × Stands version standing.now s }
-    ensures { IfOk result (λ v. length v.items ≤ 268435455) }
 {
     let state = standing.state(alloc)?;
-    spelled(alloc, &state)
-}
-
-// Whether the machine knows its version, the number of the next record, and how much room its state
-// needs at least, which is spelled in so many bytes.
-fn has_its_numbers(alloc: Global, standing: &Standing, length: usize) -> Result<bool, Fail>
-    requires { (version : records.Version) × (s : states.State) × Stands version standing.now s }
-{
-    let next = standing.state(alloc)?.next();
-    Ok(
-        matches!(standing.version(), Version::Two)
-            && standing.next() == next
-            && standing.fits(length)
-            && !standing.fits(51),
-    )
-}
-
-// Whether the machine behind the records knows its numbers, and the spelling of its state.
-fn knows_behind(alloc: Global, standing: &mut Standing, cases: &[Case]) -> Result<bool, Fail>
-    requires { (version : records.Version) × (s : states.State) × Stands version standing.old s }
-{
-    if !goes_on(alloc, standing, cases)? {
-        return Ok(false);
-    }
-    let bytes = spelled_of(alloc, standing)?;
-    let numbers = has_its_numbers(alloc, standing, bytes.len())?;
+    let bytes = spelled(alloc, &state)?;
+    let numbers = matches!(standing.version(), Version::Two)
+        && standing.next() == state.next()
+        && standing.fits(bytes.len())
+        && !standing.fits(51);
     Ok(numbers && is_spelled_by_these_alone(alloc, standing, &bytes)?)
 }
 
-// Whether a new machine does.
+// Whether a new machine does, behind the records.
 fn knows_itself(alloc: Global, cases: &[Case]) -> Result<bool, Fail> {
     let mut standing = Standing::new(alloc, Version::Two);
-    knows_behind(alloc, &mut standing, cases)
+    Ok(goes_on(alloc, &mut standing, cases)? && knows(alloc, &standing)?)
 }
 
 #[test]
@@ -337,28 +267,17 @@ fn it_knows_its_numbers_and_its_spelling(rt: HostRuntime) -> Result<(), Fail> {
     Ok(())
 }
 
-// Whether the machine names the rule that there is no KILL.
-fn names_no_kill(alloc: Global, standing: &mut Standing) -> Result<bool, Fail>
-    requires { (version : records.Version) × (s : states.State) × Stands version standing.old s }
-{
+// Whether the machine of the version names the rule that there is no KILL.
+fn has_no_kill(alloc: Global, version: Version) -> Result<bool, Fail> {
     let kill = kept(alloc, &Kill(0, 1))?;
+    let mut standing = Standing::new(alloc, version);
     let taken = standing.take(alloc, &kill)?;
     Ok(matches!(taken, Taken::Unlawful(Rule::NoKill)))
 }
 
-// Whether that of the version does.
-fn has_no_kill(alloc: Global, version: Version) -> Result<bool, Fail> {
-    let mut standing = Standing::new(alloc, version);
-    names_no_kill(alloc, &mut standing)
-}
-
-// Whether that of version 1 does, and that of version 2 does not.
-fn goes_by_versions(alloc: Global) -> Result<bool, Fail> {
-    Ok(has_no_kill(alloc, Version::One)? && !has_no_kill(alloc, Version::Two)?)
-}
-
 #[test]
 fn it_goes_by_the_rules_of_its_version(rt: HostRuntime) -> Result<(), Fail> {
-    assert!(rt; goes_by_versions(rt.alloc())?);
+    assert!(rt; has_no_kill(rt.alloc(), Version::One)?);
+    assert!(rt; !has_no_kill(rt.alloc(), Version::Two)?);
     Ok(())
 }

@@ -1,39 +1,29 @@
 //! The commands: a report, a log or an audit is whole, or nothing is written.
 
-use super::sweeping::{Call, is_right};
-use super::{ARRIVAL, CHECKPOINT, CLOSED, MAKE, answer, log_of};
-use rq_tool::{Command, Fault, Plan};
+use super::{Call, is_right};
+use crate::tests::{CHECKPOINT, answer, log_of};
+use rq_tool::{Command, Fault, Open, Plan};
 use std::mem;
 use std::test::Fail;
 use std::thread::Threads;
 
-/// A command, the bytes that it reads, what it writes with ample memory, and what it wrote.
+/// A command, and the bytes that it reads.
 #[derive(Drop)]
 pub struct Acting<'a> {
     command: Command<'a>,
     bytes: &'a [u8],
-    want: &'a [u8],
-    written: Vec<u8>,
 }
 
 impl Acting<'_> {
-    pub fn prepare(&mut self) {
-        self.written.clear();
-    }
-
-    pub fn call<R: Threads + Sync + AllocGlobal>(&mut self, rt: &R) -> Result<(), Fault> {
-        let room = mem::replace(&mut self.written, Vec::new(rt.alloc()));
-        let (done, written) = answer(rt, &self.command, self.bytes, room);
-        self.written = written;
+    pub fn call<R: Threads + Sync + AllocGlobal>(
+        &mut self,
+        rt: &R,
+        lent: &mut Vec<u8>,
+    ) -> Result<(), Fault> {
+        let room = mem::replace(lent, Vec::new(rt.alloc()));
+        let (done, written) = answer(rt, &self.command, self.bytes, room, &Open);
+        *lent = written;
         done
-    }
-
-    pub fn is_whole(&self) -> bool {
-        self.written.as_slice() == self.want
-    }
-
-    pub fn is_untouched(&self) -> bool {
-        self.written.is_empty()
     }
 }
 
@@ -44,14 +34,16 @@ fn acts<R: Threads + Sync + AllocGlobal>(
     bytes: &[u8],
     want: &[u8],
 ) -> Result<bool, Fail> {
-    let mut call = Call::Act(Acting {
-        command,
-        bytes,
-        want,
-        written: Vec::with_capacity(rt.alloc(), want.len())?,
-    });
-    is_right(rt, &mut call)
+    is_right(rt, &mut Call::Act(Acting { command, bytes }), &[], want)
 }
+
+// An element of `jobs` goes to `dead` at its second abort; `ann` finds it there at its second look.
+const ARRIVAL: &[u8] = b"define dead 0 -\ndefine jobs 2 0\nregister 0 ann\n\
+    begin 1\nenqueue 1 1 5 - 0 61\ncommit 1\n\
+    begin 2\ndequeue 2 1 - 0\nabort 2\n\
+    begin 3\ndequeue 3 1 - 0\n\
+    begin 4\ndequeue 4 0 ann 70\ncommit 4\nabort 3\n\
+    begin 5\ndequeue 5 0 ann 71\ncommit 5\n";
 
 const ARRIVAL_REPORT: &[u8] = b"front 18 records, 926 of 926 bytes, whole\n\
     units 3 committed, 2 aborted, 0 cut off\n\
@@ -59,113 +51,80 @@ const ARRIVAL_REPORT: &[u8] = b"front 18 records, 926 of 926 bytes, whole\n\
     r ann dequeue tag 71 element 4\n\
     queue 1 jobs limit 2 error 0\n";
 
+// If no memory is left, the thread of a second worker is refused.
+#[test]
+fn a_restart_is_whole_or_refused(rt: HostRuntime) -> Result<(), Fail> {
+    let log = log_of(&rt, ARRIVAL)?;
+    for workers in [1, 2] {
+        let plan = Plan::new(workers, 1).ok_or("plan")?;
+        let restart = Command::Restart { log: "log", plan };
+        assert!(rt;
+            acts(&rt, restart, &log, ARRIVAL_REPORT)?,
+            "{workers} workers"
+        );
+    }
+    Ok(())
+}
+
 const CHECKPOINT_REPORT: &[u8] = b"front 10 records, 724 of 724 bytes, whole\n\
     units 2 committed, 0 aborted, 0 cut off\n\
     queue 0 jobs limit 0 error -\n\
     e 7 from 0 priority 8 attempts 0 62\n\
     r ann dequeue tag 10 element 3\n";
 
-// Whether a restart by this many workers is.
-fn restarts<R: Threads + Sync + AllocGlobal>(rt: &R, workers: u32) -> Result<bool, Fail> {
-    let plan = Plan::new(workers, 1).ok_or("plan")?;
-    let log = log_of(rt, ARRIVAL)?;
-    acts(
-        rt,
-        Command::Restart { log: "log", plan },
-        &log,
-        ARRIVAL_REPORT,
-    )
-}
-
-// If no memory is left, the thread of a second worker is refused.
 #[test]
-fn a_restart_is_whole_or_refused(rt: HostRuntime) -> Result<(), Fail> {
-    for workers in [1, 2] {
-        assert!(rt; restarts(&rt, workers)?, "{workers} workers");
-    }
-    Ok(())
-}
-
-// Whether this command on the log with the checkpoint is.
-fn acts_on_checkpoint<R: Threads + Sync + AllocGlobal>(
-    rt: &R,
-    command: Command<'_>,
-    want: &[u8],
-) -> Result<bool, Fail> {
-    let log = log_of(rt, CHECKPOINT)?;
-    acts(rt, command, &log, want)
-}
-
-// Whether a restart from that checkpoint is.
-fn restarts_at<R: Threads + Sync + AllocGlobal>(rt: &R) -> Result<bool, Fail> {
-    let command = Command::RestartAt {
+fn a_restart_from_a_checkpoint_is_whole_or_refused(rt: HostRuntime) -> Result<(), Fail> {
+    let log = log_of(&rt, CHECKPOINT)?;
+    let restart = Command::RestartAt {
         log: "log",
         offset: 447,
         plan: Plan::new(1, 1).ok_or("plan")?,
     };
-    acts_on_checkpoint(rt, command, CHECKPOINT_REPORT)
-}
-
-#[test]
-fn a_restart_from_a_checkpoint_is_whole_or_refused(rt: HostRuntime) -> Result<(), Fail> {
-    assert!(rt; restarts_at(&rt)?);
+    assert!(rt; acts(&rt, restart, &log, CHECKPOINT_REPORT)?);
     Ok(())
-}
-
-// Whether an audit is.
-fn audits<R: Threads + Sync + AllocGlobal>(rt: &R) -> Result<bool, Fail> {
-    let plan = Plan::new(1, 1).ok_or("plan")?;
-    let command = Command::Audit { log: "log", plan };
-    acts_on_checkpoint(rt, command, b"checkpoint 447 true\n")
 }
 
 #[test]
 fn an_audit_is_whole_or_refused(rt: HostRuntime) -> Result<(), Fail> {
-    assert!(rt; audits(&rt)?);
+    let log = log_of(&rt, CHECKPOINT)?;
+    let plan = Plan::new(1, 1).ok_or("plan")?;
+    let audit = Command::Audit { log: "log", plan };
+    assert!(rt; acts(&rt, audit, &log, b"checkpoint 447 true\n")?);
     Ok(())
 }
 
-// Whether this log's close is.
-fn closes<R: Threads + Sync + AllocGlobal>(rt: &R, log: &[u8]) -> Result<bool, Fail> {
-    let command = Command::Close {
+// The script of `CHECKPOINT`, closed while its unit is open.
+const CLOSED: &[u8] = b"define jobs 0 -\nregister 0 ann\n\
+    begin 1\nenqueue 1 0 5 - 0 61\ncommit 1\n\
+    begin 2\ndequeue 2 0 ann 10\nenqueue 2 0 8 - 0 62\ncheckpoint\nabort 2\n";
+
+#[test]
+fn a_close_is_whole_or_refused(rt: HostRuntime) -> Result<(), Fail> {
+    let log = log_of(&rt, CHECKPOINT)?;
+    let begins = log.get(..679).ok_or("beginning")?;
+    let want = log_of(&rt, CLOSED)?;
+    let close = Command::Close {
         log: "log",
         out: "out",
         plan: Plan::new(1, 1).ok_or("plan")?,
     };
-    let want = log_of(rt, CLOSED)?;
-    acts(rt, command, log, &want)
+    assert!(rt; acts(&rt, close, begins, &want)?);
+    Ok(())
 }
 
-// Whether that of the log with the checkpoint is, while its unit is open.
-fn closes_open_unit<R: Threads + Sync + AllocGlobal>(rt: &R) -> Result<bool, Fail> {
-    let log = log_of(rt, CHECKPOINT)?;
-    match log.get(..679) {
-        Some(begins) => closes(rt, begins),
-        None => Ok(false),
+// The script of an arrival, and one with a checkpoint.
+#[test]
+fn a_log_is_made_or_refused(rt: HostRuntime) -> Result<(), Fail> {
+    let make = Command::Make {
+        script: "script",
+        log: "log",
+    };
+    for (script, len) in [(ARRIVAL, 926), (CHECKPOINT, 724)] {
+        let want = log_of(&rt, script)?;
+        assert!(rt;
+            want.len() == len && acts(&rt, make, script, &want)?,
+            "{len} bytes"
+        );
     }
-}
-
-#[test]
-fn a_close_is_whole_or_refused(rt: HostRuntime) -> Result<(), Fail> {
-    assert!(rt; closes_open_unit(&rt)?);
-    Ok(())
-}
-
-// Whether the script's log has this many bytes, and is made so, however little memory there is, or
-// not at all.
-fn makes<R: Threads + Sync + AllocGlobal>(rt: &R, script: &[u8], len: usize) -> Result<bool, Fail> {
-    let want = log_of(rt, script)?;
-    Ok(want.len() == len && acts(rt, MAKE, script, &want)?)
-}
-
-#[test]
-fn a_log_with_an_arrival_is_made_or_refused(rt: HostRuntime) -> Result<(), Fail> {
-    assert!(rt; makes(&rt, ARRIVAL, 926)?);
-    Ok(())
-}
-
-#[test]
-fn a_log_with_a_checkpoint_is_made_or_refused(rt: HostRuntime) -> Result<(), Fail> {
-    assert!(rt; makes(&rt, CHECKPOINT, 724)?);
     Ok(())
 }

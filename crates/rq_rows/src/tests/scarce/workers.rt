@@ -1,10 +1,9 @@
 //! What workers do if one of them is refused memory.
 
 use super::host::{room, take_all};
-use super::log_of;
-use rq_tool::{Fault, Gate, OverRead, OverWrite, Plan, run};
+use crate::tests::{answer, log_of};
+use rq_tool::{Command, Fault, Gate, Plan};
 use std::alloc::Global;
-use std::io::Cursor;
 use std::sync::atomic::{AtomicU32, Ordering};
 use std::sync::{Mutex, Wait};
 use std::test::Fail;
@@ -70,10 +69,9 @@ where
     G: Gate + Sync,
 {
     let plan = Plan::new(workers, 1).ok_or("plan")?;
-    let mut output = OverWrite::new(Vec::with_capacity(rt.alloc(), 1000)?);
-    let mut input = OverRead::new(Cursor::new(log));
-    let done = run(rt, rt.alloc(), &mut input, &mut output, &plan, gate);
-    Ok((done, output.into_inner()))
+    let restart = Command::Restart { log: "log", plan };
+    let room = Vec::with_capacity(rt.alloc(), 1000)?;
+    Ok(answer(rt, &restart, log, room, gate))
 }
 
 // A gate that takes all memory at the entry of a number, counted from 1.
@@ -94,16 +92,6 @@ impl<R: Wait> Gate for Famine<'_, R> {
     }
 }
 
-// Whether the run of one worker at the gate writes nothing, and says that memory was refused.
-fn is_refused<R, G>(rt: &R, log: &[u8], gate: &G) -> Result<bool, Fail>
-where
-    R: Threads + Sync + AllocGlobal,
-    G: Gate + Sync,
-{
-    let (done, written) = restarted(rt, log, 1, gate)?;
-    Ok(done.err() == Some(Fault::Resources) && written.is_empty())
-}
-
 // Whether one worker that is refused memory at this entry enters no more, and its run writes
 // nothing and says so.
 fn stops_at<R: Threads + Wait + Sync + AllocGlobal>(
@@ -118,20 +106,16 @@ fn stops_at<R: Threads + Wait + Sync + AllocGlobal>(
         entries: AtomicU32::new(0),
         held: Mutex::new(room(rt.alloc())?),
     };
-    let refused = is_refused(rt, log, &gate)?;
+    let (done, written) = restarted(rt, log, 1, &gate)?;
+    let refused = done.err() == Some(Fault::Resources) && written.is_empty();
     Ok(refused && gate.entries.load(Ordering::SeqCst) == at)
-}
-
-// Whether one does, in a run of the six queues' log.
-fn six_stop_at<R: Threads + Wait + Sync + AllocGlobal>(rt: &R, at: u32) -> Result<bool, Fail> {
-    let log = log_of(rt, SIX)?;
-    stops_at(rt, &log, at)
 }
 
 #[test]
 fn who_is_refused_draws_no_more(rt: HostRuntime) -> Result<(), Fail> {
+    let log = log_of(&rt, SIX)?;
     for at in 1..=QUEUES {
-        assert!(rt; six_stop_at(&rt, at)?, "at entry {at}");
+        assert!(rt; stops_at(&rt, &log, at)?, "at entry {at}");
     }
     Ok(())
 }
@@ -174,29 +158,10 @@ impl<R: Wait> Gate for Relief<'_, R> {
     }
 }
 
-// Whether a run on two workers at the gate was refused memory and wrote nothing, or wrote the
-// report; nothing if it did neither.
-fn was_refused<R, G>(rt: &R, log: &[u8], gate: &G) -> Result<Option<bool>, Fail>
-where
-    R: Threads + Sync + AllocGlobal,
-    G: Gate + Sync,
-{
-    let (done, written) = restarted(rt, log, 2, gate)?;
-    let whole = done.is_ok() && written.as_slice() == SIX_REPORT;
-    let refused = done.err() == Some(Fault::Resources) && written.is_empty();
-    Ok(if whole || refused {
-        Some(refused)
-    } else {
-        None
-    })
-}
-
-// Whether one restart was, if memory was there again a while later: all queues entered, and two of
-// them in the famine of a run that was refused. Nothing if that is not so.
-fn relieved<R: Threads + Wait + Sync + AllocGlobal>(
-    rt: &R,
-    log: &[u8],
-) -> Result<Option<bool>, Fail> {
+// Whether a restart on two workers was refused memory that was there again a while later, and wrote
+// nothing, or wrote the report. All queues entered, and two of them in the famine of one that was
+// refused.
+fn is_refused<R: Threads + Wait + Sync + AllocGlobal>(rt: &R, log: &[u8]) -> Result<bool, Fail> {
     let gate = Relief {
         rt,
         alloc: rt.alloc(),
@@ -205,40 +170,28 @@ fn relieved<R: Threads + Wait + Sync + AllocGlobal>(
         entries_in_famine: AtomicU32::new(0),
         held: Mutex::new(room(rt.alloc())?),
     };
-    let refused = was_refused(rt, log, &gate)?;
+    let (done, written) = restarted(rt, log, 2, &gate)?;
     let all = gate.entries.load(Ordering::SeqCst) == QUEUES;
     let two = gate.entries_in_famine.load(Ordering::SeqCst) == 2;
-    Ok(if all && (two || refused == Some(false)) {
-        refused
+    let whole = done.is_ok() && written.as_slice() == SIX_REPORT;
+    let refused = done.err() == Some(Fault::Resources) && written.is_empty();
+    if all && (whole || (refused && two)) {
+        Ok(refused)
     } else {
-        None
-    })
-}
-
-// How many of twenty restarts were refused, if each was refused or whole.
-fn refused_of_twenty<R: Threads + Wait + Sync + AllocGlobal>(
-    rt: &R,
-    log: &[u8],
-) -> Result<u32, Fail> {
-    let mut refused = 0u32;
-    for _ in 0..20 {
-        match relieved(rt, log)? {
-            Some(true) => refused = refused.wrapping_add(1),
-            Some(false) => (),
-            None => return Err("neither refused nor whole".into()),
-        }
+        Err("neither refused nor whole".into())
     }
-    Ok(refused)
 }
 
-// Whether some were.
-fn some_are_refused<R: Threads + Wait + Sync + AllocGlobal>(rt: &R) -> Result<bool, Fail> {
-    let log = log_of(rt, SIX)?;
-    Ok(refused_of_twenty(rt, &log)? > 0)
-}
-
+// Some of twenty restarts are refused, and each is refused or whole.
 #[test]
 fn the_others_go_on_to_their_none(rt: HostRuntime) -> Result<(), Fail> {
-    assert!(rt; some_are_refused(&rt)?);
+    let log = log_of(&rt, SIX)?;
+    let mut refused = 0u32;
+    for _ in 0..20 {
+        if is_refused(&rt, &log)? {
+            refused = refused.wrapping_add(1);
+        }
+    }
+    assert!(rt; refused > 0);
     Ok(())
 }

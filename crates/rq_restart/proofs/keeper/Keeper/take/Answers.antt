@@ -5,16 +5,16 @@ use Rattle.rq_record.specs.Views.{record_of, version_of}
 use Rattle.rq_restart.specs.Keepers.{KeptState, StandsFurther}
 use Rattle.rq_restart.proofs.Keepers.{further}
 use Rattle.rq_restart.proofs.keeper.Keeper.take.Goals as goal
-use Rattle.rq_restart.proofs.keeper.Keeper.take.Goals.{After-drop-self-inside-20}
+use Rattle.rq_restart.proofs.keeper.Keeper.take.Goals.{After-drop-self-inside-19}
 
 -- the keeper that is made anew
-abbrev anew : (g : _) → After-drop-self-inside-20 g → KeptState
+abbrev anew : (g : _) → After-drop-self-inside-19 g → KeptState
 anew g c = record {
   version = version_of c.new-2.inside.version;
   state = run c.new-2.inside.base.value (map record_of c.new-2.inside.taken);
 }
 
-stands : (g : _) (c : After-drop-self-inside-20 g)
+stands : (g : _) (c : After-drop-self-inside-19 g)
     → StandsFurther c.args.self.now (map record_of c.args.records.now) (anew g c) c.in_ok-state.count
 stands g c =
     let v = version_of c.self.inside.version in

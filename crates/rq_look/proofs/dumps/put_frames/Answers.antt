@@ -1,5 +1,5 @@
 use Rattle.rq_look.proofs.Puts.{both_put}
-use Rattle.rq_look.proofs.beyond.put_frames.Goals as goal
+use Rattle.rq_look.proofs.dumps.put_frames.Goals as goal
 
 pub loop-span-preserved : goal.loop-span-preserved
 loop-span-preserved g c =
