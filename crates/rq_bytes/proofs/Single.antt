@@ -9,8 +9,7 @@ use Rattle.std.proofs.lemmas.List.{length-take, get_or-drop, get_or-take, get_or
 use Rattle.std.proofs.lemmas.Nat.{be_bytes_2, be_bytes_4, be_bytes_8}
 use Rattle.byteorder.specs.Endian.{big_number, big_bytes}
 use Rattle.byteorder.specs.Numbers.{big_number-reads_back, big_from-lt, big_from-take, length-bytes_high_first}
-use Rattle.rq_bytes.specs.Readers.{◌>>=◌, byte, number, piece, all, nothing, ending}
-use Rattle.rq_bytes.specs.Readers.{IsBytes, Takes, Reads, Any, End}
+use Rattle.rq_bytes.specs.Readers.{◌>>=◌, byte, number, piece, all, nothing, ending, IsBytes, Takes, Reads, Any, End}
 
 pub IsBytes-drop : (n : ℕ) (bytes : List ℕ) → IsBytes bytes → IsBytes (drop n bytes)
 IsBytes-drop n bytes h i = rw get_or-drop (h (n + i))

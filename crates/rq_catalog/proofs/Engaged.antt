@@ -14,8 +14,7 @@ use Rattle.rq_model.specs.Queues.{is_engaged, is_marked, engages}
 use Rattle.rq_model.specs.WellFormed.{IsWellFormed, IsElement, IsNote, unit_is_open}
 use Rattle.rq_model.proofs.Lists.{by_cases}
 use Rattle.rq_model.proofs.Kept.{step_kept}
-use Rattle.rq_record.specs.declared.record.RecordOf.TheVariants.{Begin, Enqueue, Dequeue}
-use Rattle.rq_record.specs.declared.record.RecordOf.TheVariants.{Commit, Abort}
+use Rattle.rq_record.specs.declared.record.RecordOf.TheVariants.{Begin, Enqueue, Dequeue, Commit, Abort}
 use Rattle.rq_record.specs.Views.{Record, record_of}
 use Rattle.rq_catalog.specs.Catalogues.{engaged_after}
 use Rattle.rq_catalog.proofs.Runs.{any_push, any_filter, open_below, greatest_rises}

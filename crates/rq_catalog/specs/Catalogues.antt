@@ -1,7 +1,6 @@
 -- What a catalogue knows, and what a record changes in it.
-use Rattle.std.specs.Prelude.{ℕ, Bool, true, false, ◌&&◌, ◌||◌, ◌==◌, ◌≡◌, ◌+◌, ◌<◌, ◌^◌, cond}
-use Rattle.std.specs.Prelude.{nat_lt, nat_eq, if◌then◌else◌, List, [], ◌∷◌, ◌++◌, length, Option}
-use Rattle.std.specs.Prelude.{Some, option_map, ⊤}
+use Rattle.std.specs.Prelude.{ℕ, Bool, true, false, ◌&&◌, ◌||◌, ◌==◌, ◌≡◌, ◌+◌, ◌<◌, ◌^◌, cond, nat_lt, nat_eq}
+use Rattle.std.specs.Prelude.{if◌then◌else◌, List, [], ◌∷◌, ◌++◌, length, Option, Some, option_map, ⊤}
 use Rattle.rq_model.specs.Records as model
 use Rattle.rq_model.specs.States.{State}
 use Rattle.rq_model.specs.Machine.{is_open, run, step, outcome}
@@ -9,9 +8,8 @@ use Rattle.std.specs.List.{list_any, AllByRecursion}
 use Rattle.rq_model.specs.Laws.{begun}
 use Rattle.rq_model.specs.Queues.{is_engaged, engages, defined_by}
 use Rattle.rq_record.specs.Views.{Record, record_of}
-use Rattle.rq_record.specs.declared.record.RecordOf.TheVariants.{Register, Deregister, Begin}
-use Rattle.rq_record.specs.declared.record.RecordOf.TheVariants.{Enqueue, Dequeue, Commit, Abort}
-use Rattle.rq_record.specs.declared.record.RecordOf.TheVariants.{Kill}
+use Rattle.rq_record.specs.declared.record.RecordOf.TheVariants.{Register, Deregister, Begin, Enqueue, Dequeue}
+use Rattle.rq_record.specs.declared.record.RecordOf.TheVariants.{Commit, Abort, Kill}
 use Rattle.rq_catalog.specs.Units.{outcome_of, numbers, has_unit, outcome_at, engages_at}
 use Rattle.rq_catalog.specs.Lists.{numbered}
 use Rattle.rq_catalog.specs.Grounds.{AreGroundsOf}

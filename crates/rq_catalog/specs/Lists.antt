@@ -1,6 +1,5 @@
 -- Lists by queue.
-use Rattle.std.specs.Prelude.{ℕ, Bool, false, ◌==◌, List, slice_index_or, map}
-use Rattle.std.specs.Prelude.{slice_get, length, ◌-◌}
+use Rattle.std.specs.Prelude.{ℕ, Bool, false, ◌==◌, List, slice_index_or, map, slice_get, length, ◌-◌}
 use Rattle.std.specs.Option.{option_map_or}
 use Rattle.rq_model.specs.Records.{Record}
 use Rattle.rq_model.specs.States.{State}

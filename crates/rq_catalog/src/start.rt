@@ -2,9 +2,9 @@
 
 ghost use Rattle.std.specs.Prelude.{◌≡◌, ℕ, Bool, ◌==◌, ◌&&◌, ◌<◌, List, [], map, IfOk, IfErr};
 ghost use Rattle.std.specs.Prelude.{OnOk, Option, Some, None, false, if◌then◌else◌};
+ghost use Rattle.std.specs.BTreeSet as ordered;
 ghost use Rattle.std.specs.List.{list_any};
 ghost use Rattle.std.specs.Ordering.{nat_cmp};
-ghost use Rattle.std.specs.BTreeSet as ordered;
 ghost use Rattle.rq_model.specs.WellFormed.{Ordered, IsWellFormed};
 ghost use Rattle.rq_record.specs.declared.fault.Fault.TheVariants.{Resources};
 ghost use Rattle.rq_state.specs.Views.{unit_of};

@@ -1,12 +1,11 @@
 -- The words of these proofs, passed on from one place.
-pub use Rattle.rq_exchange.specs.Gathering.{HasPart, IsPart}
+pub use Rattle.rq_exchange.specs.Gathering.{HasPart, IsPart, AreParts, IsRedoneTo}
 pub use Rattle.rq_exchange.specs.Chains.{AreBoxes, ArePasses, HasFollowed, HasPasses, IsChainOf, IsColumn}
 pub use Rattle.rq_exchange.specs.Chains.{IsCountdownOf, IsRedone, IsSettled, boxes_of, diaries_of, due, redone_in}
 pub use Rattle.rq_exchange.specs.Chains.{web_of}
 pub use Rattle.rq_exchange.specs.Courses.{IsAlone, Recounts, StartsByLast, all_told, redone_by, redone_of, told_to}
 pub use Rattle.rq_exchange.specs.Coverage.{DiariesTell, HandsOn, IsWeb, IsWebClosed, Web, arrived_at, asked, lasts_at}
 pub use Rattle.rq_exchange.specs.Coverage.{source_at, told_at}
-pub use Rattle.rq_exchange.specs.Gathering.{AreParts, IsRedoneTo}
 pub use Rattle.rq_exchange.specs.Jobs.{IsJob, errors_in, records_of}
 pub use Rattle.rq_exchange.specs.Links.{AreBare, AreRanks, Fall, at, naming}
 pub use Rattle.rq_exchange.specs.Openings.{AreOpened, IsFreshColumn, Opened}
@@ -19,9 +18,8 @@ pub use Rattle.rq_exchange.specs.declared.jobs.Job.{Job}
 pub use Rattle.rq_exchange.specs.declared.outboxes.Outbox.{Outbox}
 pub use Rattle.rq_exchange.specs.declared.outboxes.Target.{Target}
 pub use Rattle.rq_model.proofs.Lists.{by_cases, each_weaker, filter_none, map_same}
-pub use Rattle.rq_model.specs.Laws.{AreSources, merged, move_before}
+pub use Rattle.rq_model.specs.Laws.{AreSources, merged, move_before, Rise, earlier}
 pub use Rattle.rq_model.specs.Machine.{all_lawful, lawful_front, run}
-pub use Rattle.rq_model.specs.Laws.{Rise, earlier}
 pub use Rattle.rq_model.specs.Queues.{Move, Op, Part, arrivals, defined_by, moves, part_of, touches, touching}
 pub use Rattle.rq_model.specs.Queues.{touching_from, with_definitions}
 pub use Rattle.rq_model.specs.Records.{Begin, Record, Two}

@@ -10,7 +10,7 @@ use Rattle.rq_model.specs.Spelling.{body_of, IsRecord, Spells}
 use Rattle.rq_model.specs.Frames.{log_limit, IsBodyLength, digest, frame, frames_of, last_of}
 use Rattle.rq_model.specs.LogLaws.{RecordHasOneBody}
 use Rattle.rq_model.specs.States.{State}
-use Rattle.rq_model.specs.Machine.{is_lawful, all_lawful, step, run}
+use Rattle.rq_model.specs.Machine.{is_lawful, step, run}
 use Rattle.rq_model.specs.Appending.{MayFollow}
 use Rattle.rq_model.proofs.Lists.{each_append}
 use Rattle.rq_model.proofs.Runs.{frame_long}
@@ -57,30 +57,6 @@ one_longer at rs r =
       frame_long (last_of at.link rs) (body_of r),
     )
 
--- the appender behind one record more
-stands_further : (at : Place) (rs : List Record) (r : Record) (a : Appender) (j : Judge) (last : List ℕ) (len : ℕ)
-    → IsAppenderAt at rs a → ((version : Version) → HasKind version r → Spells version r (body_of r))
-    → is_lawful at.version (run at.state rs) r ≡ true → StandsIn at.version j (step (run at.state rs) r)
-    → last ≡ digest (last_of at.link rs) (body_of r) → len ≡ a.len + (36 + length (body_of r)) → len ≤ log_limit
-    → (b : Appender) → b.judge ≡ j → b.last ≡ last → b.len ≡ len → IsAppenderAt at (rs ++ r ∷ []) b
-stands_further at rs r a j last len h spelled lawful judge last_is len_is short b bj bl bn =
-    let version = at.version in
-    let here = run at.state rs in
-    let kind = has_kind version here r lawful in
-    let one : all_lawful version here (r ∷ []) ≡ true = and_from _ _ lawful refl in
-    let longer = one_longer at rs r in
-    record {
-      may = record {
-        records = each_append (IsRecord version) rs (r ∷ []) h.may.records ((spelled version kind).0, tt);
-        lawful = lawful_join version at.state rs (r ∷ []) h.may.lawful one;
-      };
-      short = omega (arith, short, len_is, h.len, longer);
-      judge = subst (λ (k : Judge). StandsIn version k (run at.state (rs ++ r ∷ []))) (sym bj)
-          (subst (StandsIn version j) (sym (run_join at.state rs (r ∷ []))) judge);
-      last = bl ∙ last_is ∙ sym (last_of_join at.link rs (r ∷ []));
-      len = omega (arith, bn, len_is, h.len, longer);
-    }
-
 -- a record that was not taken leaves the appender where it stood
 pub stands_still : (at : Place) (rs : List Record) (r : Record) (a : Appender) (j : Judge) (taken : Bool)
     → IsAppenderAt at rs a → taken ≡ false
@@ -104,14 +80,22 @@ pub moves_on : (at : Place) (rs : List Record) (r : Record) (a : Appender) (j : 
     → last ≡ digest a.last (body_of r) → len ≡ a.len + (36 + length (body_of r)) → len ≤ log_limit
     → (b : Appender) → b.judge ≡ j → b.last ≡ last → b.len ≡ len → IsAppenderAt at (rs ++ r ∷ []) b
 moves_on at rs r a j last len taken h spelled all lawful judge last_is len_is short b bj bl bn =
-    stands_further at rs r a j last len h spelled (sym lawful ∙ all)
-    (subst (λ (t : Bool). StandsIn at.version j (if t then step (run at.state rs) r else run at.state rs)) all judge)
-    (last_is ∙ ap (λ (q : List ℕ). digest q (body_of r)) h.last) len_is short b bj bl bn
-
--- none taken yet
-pub takes_none : (a : Appender) (old : List ℕ) → AppendsEach a a [] old old
-takes_none a old at rs h =
-    (subst (λ (z : List Record). IsAppenderAt at z a) (sym (append-nil rs)) h, sym (append-nil old))
+    let here = run at.state rs in
+    let allowed = sym lawful ∙ all in
+    let longer = one_longer at rs r in
+    let behind = subst (λ (t : Bool). StandsIn at.version j (if t then step here r else here)) all judge in
+    record {
+      may = record {
+        records = each_append (IsRecord at.version) rs (r ∷ []) h.may.records
+            ((spelled at.version (has_kind at.version here r allowed)).0, tt);
+        lawful = lawful_join at.version at.state rs (r ∷ []) h.may.lawful (and_from _ _ allowed refl);
+      };
+      short = omega (arith, short, len_is, h.len, longer);
+      judge = subst (λ (k : Judge). StandsIn at.version k (run at.state (rs ++ r ∷ []))) (sym bj)
+          (subst (StandsIn at.version j) (sym (run_join at.state rs (r ∷ []))) behind);
+      last = bl ∙ last_is ∙ ap (λ (q : List ℕ). digest q (body_of r)) h.last ∙ sym (last_of_join at.link rs (r ∷ []));
+      len = omega (arith, bn, len_is, h.len, longer);
+    }
 
 -- one more
 pub takes_one_more : (a b c : Appender) (xs ys : List Record) (r : Record) (old new newer : List ℕ)

@@ -10,8 +10,7 @@ use Rattle.rq_model.specs.StateSpelling.{state_bytes, SpellsState}
 use Rattle.rq_model.specs.Fronts.{IsLongest, IsFront, IsRestart, Ends, restarted}
 use Rattle.rq_model.specs.Checkpoints.{IsRestartAt}
 use Rattle.rq_model.specs.Appending.{MayFollow}
-use Rattle.rq_model.specs.Carrying.{IsFrontAt}
-use Rattle.rq_model.specs.Carrying.{begun_anew, carried_gap}
+use Rattle.rq_model.specs.Carrying.{IsFrontAt, begun_anew, carried_gap}
 use Rattle.rq_record.specs.declared.fault.Fault.{Fault}
 use Rattle.rq_record.specs.declared.fault.Fault.TheVariants.{Resources, TooLarge, TooLong}
 use Rattle.rq_front.specs.Chains.{Refused}

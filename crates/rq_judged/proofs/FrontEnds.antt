@@ -1,15 +1,13 @@
 -- The end of a judged front is that of its restart.
-use Rattle.std.proofs.Common.{◌≡◌, ℕ, ◌+◌, ◌≤◌, false, List, ◌∷◌, length, take, drop, refl, ap, ◌∙◌, arith}
+use Rattle.std.proofs.Common.{◌≡◌, ℕ, ◌+◌, ◌≤◌, List, ◌∷◌, length, take, drop, refl, ap, ◌∙◌, arith}
 use Rattle.std.specs.Prelude.{Option, is_some, Ok}
 use Rattle.std.proofs.lemmas.List.{take_at, length-append, length-drop}
 use Rattle.rq_model.specs.Records.{Record, Checkpoint, Version}
 use Rattle.rq_model.specs.Frames.{HasHeader, before, frames_of, header, log_of}
 use Rattle.rq_model.specs.Laws.{NumbersAfter, EmptyIsWellFormed}
-use Rattle.rq_model.specs.Spelling.{Spells}
-use Rattle.rq_model.specs.States.{State, empty}
-use Rattle.rq_model.specs.Machine.{is_lawful, run}
+use Rattle.rq_model.specs.States.{empty}
+use Rattle.rq_model.specs.Machine.{run}
 use Rattle.rq_model.specs.Fronts.{IsFront, restarted}
-use Rattle.rq_model.proofs.RecordReaders.{one_record}
 use Rattle.rq_model.proofs.Longest.{front_whole}
 use Rattle.rq_model.proofs.Restarts.{header_long}
 use Rattle.rq_catalog.specs.declared.rules.Rule.{Rule}
@@ -115,12 +113,3 @@ found_at after b offset f h x records told =
         rule = told.rule;
       },
     )
-
--- The rule that ends a front.
-
--- a body that spells a record which is not lawful spells no other one
-pub not_lawful : (version : Version) (s : State) (body : List ℕ) (r x : Record) → Spells version r body
-    → is_lawful version s r ≡ false → Spells version x body → is_lawful version s x ≡ false
-not_lawful version s body r x spells breaks spelled =
-    let same : x ≡ r = one_record version x r body spelled spells in
-    ap (is_lawful version s) same ∙ breaks

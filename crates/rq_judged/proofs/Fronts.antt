@@ -54,14 +54,7 @@ are_behind right b at p (body ∷ bodies) rest fits low is =
     is ∙ append_assoc (frame p body) (frames (digest p body) bodies) rest in
     let size : length (drop at b) ≡ length (frame p body ++ others) = ap length parts in
     let room : at + 36 + length body ≤ length b =
-    omega (
-      arith,
-      size,
-      low,
-      length-append (frame p body) others,
-      frame_long p body,
-      length-drop at b,
-    ) in
+    omega (arith, size, low, length-append (frame p body) others, frame_long p body, length-drop at b) in
     let more = are_behind right b (at + 36 + length body) (digest p body) bodies rest fits.1 room
     (next right b at p body bodies rest fits.0 is) in
     record { rest_is = more.rest_is; within = more.within; few = omega (arith, more.few) }

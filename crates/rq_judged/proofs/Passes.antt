@@ -65,8 +65,7 @@ frame_more x more h =
     record {
       framed = record {
         in_range = subst IsBodyLength (sym same) h.in_range;
-        room =
-            omega (arith, same, room, length-append x more);
+        room = omega (arith, same, room, length-append x more);
       };
       body = ap (λ (n : ℕ). take n (drop 4 (x ++ more))) same ∙ part_more x more 4 (stated x) (omega (arith, room));
       sum = ap (λ (n : ℕ). take 32 (drop (4 + n) (x ++ more))) same
@@ -133,50 +132,6 @@ module _ (version : Version) (b : List ℕ) (rs : List Record) (place : ℕ) (h 
       ∙ append_assoc kept sum rest in
       let place_is : place ≡ length kept + 32 = omega (arith, long, ap length e.1, length-append kept sum, e.2) in
       ap (before place) whole ∙ before_is kept sum rest place e.2 place_is
-
--- a front from there in a beginning of the log is passed in the log, and ends there for the same reason
-pub record IsFurther (version : Version) (b : List ℕ) (rs xs : List Record) (limit end : ℕ) (why : Why) : Type 0 where
-  pub passed : IsPassed version b (rs ++ xs) end
-  pub ends : IsWhy version (run empty (rs ++ xs)) (last_of (start version) (rs ++ xs)) (drop end (take limit b)) why
-  pub inside : end ≤ limit
-
-pub further : (version : Version) → LogEnds → LogJoins → FramesJoin
-    → (b : List ℕ) (rs xs : List Record) (place limit end : ℕ) (why : Why) → IsPassed version b rs place → place ≤ limit
-    → limit ≤ length b
-    → IsFrontFrom version (run empty rs) (take limit b) place xs end why → IsFurther version b rs xs limit end why
-further version ends joins join b rs xs place limit end why h low high f =
-    let part = take limit b in
-    let sum = last_of (start version) rs in
-    let first = in_part version b rs place h limit low high in
-    let link : before place part ≡ sum = chained version part rs place first ends in
-    let size : length part ≡ limit = omega (arith, length-take limit b, high) in
-    let inside : end ≤ limit = omega (arith, f.within, size) in
-    let next : drop place part ≡ frames_of sum xs ++ drop end part =
-    f.longest.begins.whole ∙ ap (λ (p : List ℕ). frames_of p xs ++ drop end part) link in
-    let split : part ≡ log_of version (rs ++ xs) ++ drop end part =
-    first.whole ∙ ap (λ (x : List ℕ). log_of version rs ++ x) next
-    ∙ sym (append_assoc (log_of version rs) (frames_of sum xs) (drop end part))
-    ∙ ap (λ (x : List ℕ). x ++ drop end part) (sym (joins version rs xs)) in
-    let whole : b ≡ log_of version (rs ++ xs) ++ drop end b =
-    sym (take-append-drop limit b) ∙ ap (λ (x : List ℕ). x ++ drop limit b) split
-    ∙ append_assoc (log_of version (rs ++ xs)) (drop end part) (drop limit b)
-    ∙ ap (λ (x : List ℕ). log_of version (rs ++ xs) ++ x) (sym (behind_part b end limit inside high)) in
-    let last_is : last_of (before place part) xs ≡ last_of (start version) (rs ++ xs) =
-    ap (λ (p : List ℕ). last_of p xs) link ∙ sym ((join (start version) (bodies_of rs) (bodies_of xs)).1)
-    ∙ ap (last (start version)) (sym (map-append body_of rs xs)) in
-    record {
-      passed = record {
-        within = omega (arith, inside, high);
-        few = omega (arith, h.few, f.few, length-append rs xs);
-        records = each_append (IsRecord version) rs xs h.records f.longest.begins.records;
-        lawful = lawful_join version empty rs xs h.lawful f.longest.begins.lawful;
-        whole = whole;
-      };
-      ends = subst (λ (p : List ℕ). IsWhy version (run empty (rs ++ xs)) p (drop end part) why) last_is
-          (subst (λ (t : State). IsWhy version t (last_of (before place part) xs) (drop end part) why)
-          (sym (run_join empty rs xs)) f.ends);
-      inside = inside;
-    }
 
 -- The front in one of the beginnings.
 
@@ -245,37 +200,63 @@ pub record HasGoneOn (version : Version) (b : List ℕ) (limit end : ℕ) (why :
   pub judge : StandsIn version j (run empty kept)
 
 pub gone_on : (version : Version) → LogEnds → LogJoins → FramesJoin → FrameIsRight → RunGivesFront
-    → (b part : List ℕ) (rs : List Record) (p : PassSoFar) (limit : ℕ) (c : Chain) (j : Judge) (reach : Reach)
-    → length b ≤ log_limit → HasPassed version b rs p → p.offset ≤ limit → limit ≤ length b → part ≡ take limit b
-    → IsFrameRun part p.offset (bodies_at part c.spans.items) c.end (rest_of c.rest)
-    → c.spans.items ≡ spans_from p.offset (bodies_at part c.spans.items)
-    → All (λ s. s.start + s.len ≤ length part) c.spans.items
-    → AreJudged version (run empty rs) (bodies_at part c.spans.items) j reach → (e : ℕ × Why)
+    → (b : List ℕ) (rs : List Record) (p : PassSoFar) (limit : ℕ) (c : Chain) (j : Judge) (reach : Reach)
+    → length b ≤ log_limit → HasPassed version b rs p → p.offset ≤ limit → limit ≤ length b
+    → IsFrameRun (take limit b) p.offset (bodies_at (take limit b) c.spans.items) c.end (rest_of c.rest)
+    → c.spans.items ≡ spans_from p.offset (bodies_at (take limit b) c.spans.items)
+    → All (λ s. s.start + s.len ≤ length (take limit b)) c.spans.items
+    → AreJudged version (run empty rs) (bodies_at (take limit b) c.spans.items) j reach → (e : ℕ × Why)
     → e ≡ end_at c.spans.items c.end (rest_of c.rest) reach.read reach.lawful
     → HasGoneOn version b limit e.0 e.1 j (p.records + reach.lawful)
-gone_on version ends joins join right law b part rs p limit c j reach short has low high is walked spans inside are e
-    e_is =
-    let size : length part ≡ limit = omega (arith, ap length is, length-take limit b, high) in
+gone_on version ends joins join right law b rs p limit c j reach short has low high walked spans inside are e e_is =
+    let part = take limit b in
+    let h = has.passed in
+    let size : length part ≡ limit = omega (arith, length-take limit b, high) in
     let chain : IsChain part p.offset c =
     record {
       short = omega (arith, size, high, short);
-      after = omega (arith, has.passed.few);
-      within =
-          omega (arith, size, low);
+      after = omega (arith, h.few);
+      within = omega (arith, size, low);
       run = walked;
       spans = spans;
       inside = inside;
     } in
-    let front = front_in version right join law (run empty rs) part p.offset c j reach chain are e e_is in
-    let it = further version ends joins join b rs are.kept p.offset limit e.0 e.1 has.passed low high
-    (subst (λ (x : List ℕ). IsFrontFrom version (run empty rs) x p.offset are.kept e.0 e.1) is front) in
+    let f = front_in version right join law (run empty rs) part p.offset c j reach chain are e e_is in
+    let xs = are.kept in
+    let end = e.0 in
+    let why = e.1 in
+    let sum = last_of (start version) rs in
+    let first = in_part version b rs p.offset h limit low high in
+    let link : before p.offset part ≡ sum = chained version part rs p.offset first ends in
+    let below : end ≤ limit = omega (arith, f.within, size) in
+    let next : drop p.offset part ≡ frames_of sum xs ++ drop end part =
+    f.longest.begins.whole ∙ ap (λ (q : List ℕ). frames_of q xs ++ drop end part) link in
+    let split : part ≡ log_of version (rs ++ xs) ++ drop end part =
+    first.whole ∙ ap (λ (x : List ℕ). log_of version rs ++ x) next
+    ∙ sym (append_assoc (log_of version rs) (frames_of sum xs) (drop end part))
+    ∙ ap (λ (x : List ℕ). x ++ drop end part) (sym (joins version rs xs)) in
+    let whole : b ≡ log_of version (rs ++ xs) ++ drop end b =
+    sym (take-append-drop limit b) ∙ ap (λ (x : List ℕ). x ++ drop limit b) split
+    ∙ append_assoc (log_of version (rs ++ xs)) (drop end part) (drop limit b)
+    ∙ ap (λ (x : List ℕ). log_of version (rs ++ xs) ++ x) (sym (behind_part b end limit below high)) in
+    let last_is : last_of (before p.offset part) xs ≡ last_of (start version) (rs ++ xs) =
+    ap (λ (q : List ℕ). last_of q xs) link ∙ sym ((join (start version) (bodies_of rs) (bodies_of xs)).1)
+    ∙ ap (last (start version)) (sym (map-append body_of rs xs)) in
     record {
-      kept = rs ++ are.kept;
-      passed = it.passed;
-      ends = it.ends;
-      inside = it.inside;
-      count = omega (arith, has.count, are.count, length-append rs are.kept);
-      judge = subst (StandsIn version j) (sym (run_join empty rs are.kept)) are.judge;
+      kept = rs ++ xs;
+      passed = record {
+        within = omega (arith, below, high);
+        few = omega (arith, h.few, f.few, length-append rs xs);
+        records = each_append (IsRecord version) rs xs h.records f.longest.begins.records;
+        lawful = lawful_join version empty rs xs h.lawful f.longest.begins.lawful;
+        whole = whole;
+      };
+      ends = subst (λ (q : List ℕ). IsWhy version (run empty (rs ++ xs)) q (drop end part) why) last_is
+          (subst (λ (t : State). IsWhy version t (last_of (before p.offset part) xs) (drop end part) why)
+          (sym (run_join empty rs xs)) f.ends);
+      inside = below;
+      count = omega (arith, has.count, are.count, length-append rs xs);
+      judge = subst (StandsIn version j) (sym (run_join empty rs xs)) are.judge;
     }
 
 -- The start of a pass, and its end.

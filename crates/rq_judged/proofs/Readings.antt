@@ -43,24 +43,17 @@ pub two_parts : (b : List ℕ) (spans : List Span) (n : ℕ)
 two_parts b spans n = ap (bodies_at b) (sym (take-append-drop n spans))
     ∙ map-append (body_at b) (take n spans) (drop n spans)
 
-read_to : (version : Version) (b : List ℕ) (spans : List Span) (i : ℕ) (rs : List Record)
-    → AllByRecursion (IsRecord version) rs → bodies_at b (take i spans) ≡ bodies_of rs
-    → SpellsNone version (bodies_at b (drop i spans)) → AreRead version (bodies_at b spans) rs
-read_to version b spans i rs are e none = record {
-  left = bodies_at b (drop i spans);
-  records = are;
-  spelled = two_parts b spans i ∙ ap (λ (xs : List (List ℕ)). xs ++ bodies_at b (drop i spans)) e;
-  stops = none;
-}
-
 -- the next body spells no record
 pub read_stop : (version : Version) (b : List ℕ) (spans : List Span) (i : ℕ) (d : Span) (rs : List Record)
     → i < length spans → AllByRecursion (IsRecord version) rs
     → bodies_at b (take i spans) ≡ bodies_of rs → ((r : Record) → Spells version r (body_at b (get_or spans i d)) → ⊥)
     → AreRead version (bodies_at b spans) rs
-read_stop version b spans i d rs lt are e none =
-    let next : drop i spans ≡ get_or spans i d ∷ drop (suc i) spans = drop-cons spans i d lt in
-    read_to version b spans i rs are e (subst (λ (ss : List Span). SpellsNone version (bodies_at b ss)) (sym next) none)
+read_stop version b spans i d rs lt are e none = record {
+  left = bodies_at b (drop i spans);
+  records = are;
+  spelled = two_parts b spans i ∙ ap (λ (xs : List (List ℕ)). xs ++ bodies_at b (drop i spans)) e;
+  stops = subst (λ (ss : List Span). SpellsNone version (bodies_at b ss)) (sym (drop-cons spans i d lt)) none;
+}
 
 -- what is left of bodies of which so many are read
 left_of : (version : Version) (bodies : List (List ℕ)) (rs : List Record) (are : AreRead version bodies rs)
@@ -120,8 +113,7 @@ front_read version (suc n) (r ∷ rs) left are none =
     record {
       left = more.left;
       records = (are.0, more.records);
-      spelled =
-          ap (λ (xs : List (List ℕ)). body_of r ∷ xs) more.spelled;
+      spelled = ap (λ (xs : List (List ℕ)). body_of r ∷ xs) more.spelled;
       stops = more.stops;
     }
 

@@ -140,6 +140,5 @@ framed old new p body is =
     omega (arith, ap length apart, length-append kept (d ++ []), length-append d [], long) in
     record {
       long = omega (arith, here);
-      last =
-          ap (before (length new)) apart ∙ before_is kept d [] (length new) long here;
+      last = ap (before (length new)) apart ∙ before_is kept d [] (length new) long here;
     }

@@ -129,10 +129,6 @@ pub waiting : (o : Origin) (rs : List Record) (rest : List ℕ) (f : WindowPass)
     → Waits o rs rest f f.ended → drop f.place f.window.items ≡ rest
 waiting o rs rest f none h = subst (Waits o rs rest f) none h
 
-pub still_waits : (o : Origin) (rs : List Record) (f : WindowPass) → f.ended ≡ None
-    → Waits o rs (drop f.place f.window.items) f f.ended
-still_waits o rs f none = subst (Waits o rs (drop f.place f.window.items) f) (sym none) refl
-
 -- It stands where it stood.
 
 module _ (o : Origin) (x : List ℕ) (rs : List Record) (rest : List ℕ) (f : WindowPass) (j : Judge) (u e : ℕ)
@@ -196,8 +192,7 @@ module _ (right : FrameIsRight) (o : Origin) (x : List ℕ) (rs : List Record) (
       let r = v.0 in
       let body : body_at w span ≡ body_of r = v.1.1 in
       let one : List ℕ = frames_of q (r ∷ []) in
-      let alone : frame q (body_at w span) ≡ one =
-      ap (frame q) body ∙ sym (append-nil (frame q (body_of r))) in
+      let alone : frame q (body_at w span) ≡ one = ap (frame q) body ∙ sym (append-nil (frame q (body_of r))) in
       let g : WindowPass = record f { judge = j; records = f.records + 1; place = n } in
       record {
         begins = record {
@@ -218,7 +213,7 @@ module _ (right : FrameIsRight) (o : Origin) (x : List ℕ) (rs : List Record) (
         within = at.within;
         link = at.link ∙ ap (λ (p : List ℕ). digest p (body_at w span)) h.link ∙ ap (digest q) body
             ∙ sym (last_of_join o.link rs (r ∷ []));
-        waits = still_waits o (rs ++ r ∷ []) g going;
+        waits = subst (Waits o (rs ++ r ∷ []) (drop n w) g) (sym going) refl;
       }
 
   right_there : HasRightFrame q rest × (body_in rest ≡ body_at w span)

@@ -1,7 +1,6 @@
 -- Where the front of a log ends, from any offset and state, and why; and which rule ends it.
-use Rattle.std.specs.Prelude.{◌≡◌, ℕ, ◌+◌, ◌-◌, ◌≤◌, nat_lt, Bool, if◌then◌else◌, All, List, length}
-use Rattle.std.specs.Prelude.{drop, Option, Some, None, slice_get, true, false, is_some, Result, Ok}
-use Rattle.std.specs.Prelude.{Err}
+use Rattle.std.specs.Prelude.{◌≡◌, ℕ, ◌+◌, ◌-◌, ◌≤◌, nat_lt, Bool, if◌then◌else◌, All, List, length, drop, Option}
+use Rattle.std.specs.Prelude.{Some, None, slice_get, true, false, is_some, Result, Ok, Err}
 use Rattle.rq_model.specs.Records.{Record, Version}
 use Rattle.rq_model.specs.Frames as frames
 use Rattle.rq_model.specs.Frames.{log_limit, before, last_of, IsFrameRun}

@@ -1,10 +1,8 @@
 -- A pass over the frames of a log that come piece by piece.
-use Rattle.std.specs.Prelude.{◌≡◌, ◌≤◌, ◌<◌, ◌+◌, ℕ, true, List, ◌++◌, length, drop, Option, Some}
-use Rattle.std.specs.Prelude.{None, ⊤}
+use Rattle.std.specs.Prelude.{◌≡◌, ◌≤◌, ◌<◌, ◌+◌, ℕ, true, List, ◌++◌, length, drop, Option, Some, None, ⊤}
 use Rattle.rq_model.specs.Records.{Record, Version}
 use Rattle.rq_model.specs.Frames as frames
-use Rattle.rq_model.specs.Frames.{log_limit, HasHeader, before, last, last_of, start, AreBodies}
-use Rattle.rq_model.specs.Frames.{IsRest}
+use Rattle.rq_model.specs.Frames.{log_limit, HasHeader, before, last, last_of, start, AreBodies, IsRest}
 use Rattle.rq_model.specs.States.{State, empty}
 use Rattle.rq_model.specs.Machine.{run}
 use Rattle.rq_model.specs.Fronts as fronts

@@ -1,11 +1,11 @@
 //! Where the front of a log ends, why, and which rule ends it.
 
 ghost use Rattle.std.specs.Prelude.{◌≡◌, ℕ, false, is_some, List, length, drop, IfOk, IfErr};
-ghost use Rattle.rq_model.specs.Records as records;
 ghost use Rattle.rq_model.specs.Spelling.{Spells};
-ghost use Rattle.rq_model.specs.States as model;
 ghost use Rattle.rq_model.specs.Machine.{is_lawful};
 ghost use Rattle.rq_model.specs.Fronts.{IsWhy};
+ghost use Rattle.rq_model.specs.Records as records;
+ghost use Rattle.rq_model.specs.States as model;
 ghost use Rattle.rq_record.specs.declared.fault.Fault.TheVariants.{Resources};
 ghost use Rattle.rq_catalog.specs.Judges.{StandsIn};
 ghost use Rattle.rq_judged.specs.FrontEnds.{FindsEnd, FindsEndAt, is_law};

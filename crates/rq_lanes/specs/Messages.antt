@@ -1,8 +1,7 @@
 -- Messages in some bytes, each with its digest after it, and the lanes that take them in: rows of
 -- words side by side, of which column j has the words of lane j.
-use Rattle.std.specs.Prelude.{ℕ, List, [], ◌∷◌, map, slice_index, slice_index_or, ◌≡◌, ◌⊎◌, ◌+◌}
-use Rattle.std.specs.Prelude.{◌-◌, ◌*◌, ◌/◌, ◌%◌, ◌≤◌, ◌<◌, ◌++◌, true, false, length, take, drop}
-use Rattle.std.specs.Prelude.{get_or, slice_range, All}
+use Rattle.std.specs.Prelude.{ℕ, List, [], ◌∷◌, map, slice_index, slice_index_or, ◌≡◌, ◌⊎◌, ◌+◌, ◌-◌, ◌*◌, ◌/◌, ◌%◌}
+use Rattle.std.specs.Prelude.{◌≤◌, ◌<◌, ◌++◌, true, false, length, take, drop, get_or, slice_range, All}
 use Rattle.sha2.specs.Sha256.{hash_after, initial_hash_256, padded_message, padding, sha256}
 use Rattle.rq_lanes.specs.declared.lanes.Message.{Message}
 use Rattle.rq_lanes.specs.declared.lanes.Lane.{Lane}

@@ -1,47 +1,37 @@
 -- Restarts account for the front.
-use Rattle.std.proofs.Common.{◌≡◌, ℕ, ◌<◌, ◌≤◌, ◌^◌, true, List, [], ◌∷◌, ◌++◌, length, map, Option}
-use Rattle.std.proofs.Common.{◌+◌, None, sym}
+use Rattle.std.proofs.Common.{◌≡◌, ℕ, ◌<◌, ◌≤◌, ◌^◌, true, List, [], ◌∷◌, ◌++◌, length, map, Option, ◌+◌, None, sym}
 use Rattle.std.proofs.Common.{ap, ◌∙◌, subst, arith, length-append}
 use Rattle.std.proofs.lemmas.List.{append-nil}
 use Rattle.std.specs.List.{AllByRecursion}
 use Rattle.sha2.specs.Sha256.{sha256}
 use Rattle.rq_model.specs.Records.{By, Record, Enqueue, Abort, Version}
 use Rattle.rq_model.specs.Spelling.{IsRecord}
-use Rattle.rq_model.specs.Frames.{log_limit, log_of, magic, header, frames_of}
-use Rattle.rq_model.specs.States.{Free, Element, Registrant, State, empty, is_free}
+use Rattle.rq_model.specs.Frames.{log_limit, log_of, magic, header, frames_of, AreBytes}
+use Rattle.rq_model.specs.States.{Free, Element, Registrant, State, empty, is_free, definition_at}
 use Rattle.rq_model.specs.WellFormed.{IsWellFormed, IsElement}
 use Rattle.rq_model.specs.StateSpelling.{Fits, FitsDefinition, FitsRegistrant}
 use Rattle.rq_model.specs.WorkedLogs.{text_made}
-use Rattle.rq_model.specs.FateLaws.{element_lines, ReportAccounts, CheckpointReportAccounts}
-use Rattle.rq_model.specs.FateLaws.{BeginningReportAccounts}
-use Rattle.rq_model.specs.Fates.{requests, done, kills}
+use Rattle.rq_model.specs.FateLaws.{element_lines, ReportAccounts, CheckpointReportAccounts, BeginningReportAccounts}
+use Rattle.rq_model.specs.FateLaws.{IsAsEnqueued, Accounts, RestartAccounts, BeginningAccounts, ClosedAccounts}
+use Rattle.rq_model.specs.FateLaws.{CheckpointAccounts}
+use Rattle.rq_model.specs.Fates.{requests, done, kills, shown, with_aborts, tries_at, hears, leavings, IsBounded}
+use Rattle.rq_model.specs.Fates.{remains}
 use Rattle.rq_model.specs.Reports.{IsText}
 use Rattle.rq_model.specs.Closing.{IsTail}
-use Rattle.rq_model.specs.Frames.{AreBytes}
-use Rattle.rq_model.specs.Fates.{shown}
 use Rattle.rq_model.proofs.Lists.{each_weaker, each_append, each_both}
 use Rattle.rq_model.proofs.Kept.{runs_are_well_formed, empty_is_well_formed}
 use Rattle.rq_model.proofs.Widths.{runs_fit, empty_fits}
-use Rattle.rq_model.proofs.Texts.{one_text}
-use Rattle.rq_model.proofs.Texts.{is_text}
+use Rattle.rq_model.proofs.Texts.{one_text, is_text}
 use Rattle.rq_model.proofs.Restarts.{frames_many}
 use Rattle.rq_model.proofs.Tails.{aborts_follow, crash_in_the_tail}
 use Rattle.rq_model.proofs.FromCheckpoints.{true_says_the_same, one_restart_at, true_back, true_is_same}
 use Rattle.rq_model.proofs.Appended.{front_follows}
-use Rattle.rq_model.proofs.Longest.{front_whole}
+use Rattle.rq_model.proofs.Longest.{front_whole, one_front, front_ends, one_restart}
 use Rattle.rq_model.proofs.ReportLines.{IsNarrow, StandsIn, text_told}
-use Rattle.rq_model.specs.Machine.{all_lawful, latest, run, final}
+use Rattle.rq_model.specs.Machine.{all_lawful, latest, run, final, is_registered}
 use Rattle.rq_model.specs.Fronts.{IsFront, Restarted, IsRestart}
-use Rattle.rq_model.specs.Fates.{with_aborts, tries_at, hears}
-use Rattle.rq_model.specs.FateLaws.{IsAsEnqueued}
-use Rattle.rq_model.specs.FateLaws.{Accounts, RestartAccounts, BeginningAccounts, ClosedAccounts}
-use Rattle.rq_model.specs.FateLaws.{CheckpointAccounts}
-use Rattle.rq_model.proofs.Longest.{one_front, front_ends, one_restart}
 use Rattle.rq_model.proofs.Found.{front_restart}
 use Rattle.rq_model.proofs.Balance.{one_fate, all_are_free, runs_end}
-use Rattle.rq_model.specs.States.{definition_at}
-use Rattle.rq_model.specs.Machine.{is_registered}
-use Rattle.rq_model.specs.Fates.{leavings, IsBounded, remains}
 use Rattle.std.specs.Prelude.{◌≢◌}
 use Rattle.rq_model.proofs.Tried.{attempts_are_tries, bounded_tries}
 use Rattle.rq_model.proofs.Taken.{takes_are_tries}

@@ -1,6 +1,5 @@
 -- What is kept along with a log.
-use Rattle.std.proofs.Common.{◌≡◌, ℕ, List, [], ◌++◌, length, drop, refl, sym, ap, subst, ◌∙◌, append_assoc}
-use Rattle.std.proofs.Common.{arith}
+use Rattle.std.proofs.Common.{◌≡◌, ℕ, List, [], ◌++◌, length, drop, refl, sym, ap, subst, ◌∙◌, append_assoc, arith}
 use Rattle.std.proofs.lemmas.List.{length-append, length-drop}
 use Rattle.rq_model.specs.Frames.{header, start, log_of, frames_of, last_of, before}
 use Rattle.rq_model.specs.States.{empty}

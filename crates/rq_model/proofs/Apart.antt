@@ -4,8 +4,7 @@ use Rattle.std.specs.List.{filter, AllByRecursion}
 use Rattle.rq_model.specs.States.{Element, put, id_before}
 use Rattle.rq_model.specs.WellFormed.{Ordered}
 use Rattle.rq_model.specs.Queues.{Move}
-use Rattle.rq_model.specs.Redo.{put_all}
-use Rattle.rq_model.specs.Redo.{AreNew}
+use Rattle.rq_model.specs.Redo.{put_all, AreNew}
 use Rattle.rq_model.proofs.Lists.{by_cases, each_weaker}
 
 abbrev pub Apart : List Element → Type 0

@@ -18,9 +18,8 @@ use Rattle.rq_model.proofs.Merged.{ordered_weaker}
 use Rattle.rq_model.proofs.Restarts.{run_join}
 use Rattle.rq_model.proofs.Kept.{step_kept, runs_are_well_formed, empty_is_well_formed}
 use Rattle.rq_model.specs.Fates.{counted, is_committed, commits, is_that, is_request, is_taken_for_good, is_kill}
-use Rattle.rq_model.specs.Fates.{shown, has_id}
+use Rattle.rq_model.specs.Fates.{shown, has_id, with_aborts, done, kills}
 use Rattle.rq_model.specs.FateLaws.{OneFate, OneRequest, AllAreFree, RunsEnd}
-use Rattle.rq_model.specs.Fates.{with_aborts, done, kills}
 use Rattle.rq_model.proofs.Closed.{are_ended}
 
 -- What a mark is worth if c says which units will commit: a Fresh one is yet to come, a Held one is

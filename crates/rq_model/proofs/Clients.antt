@@ -12,9 +12,8 @@ use Rattle.rq_model.specs.Records.{Record, Define, Register, Deregister, Begin, 
 use Rattle.rq_model.specs.Records.{Checkpoint, Kill, Version}
 use Rattle.rq_model.specs.States.{Last, Note, Registrant, State, empty, put, registrant_before, is_registrant}
 use Rattle.rq_model.specs.States.{is_note_of}
-use Rattle.rq_model.specs.Machine.{later, latest, told, registered, deregistered, unnoted, closed_notes}
-use Rattle.rq_model.specs.Machine.{all_lawful, step, run}
-use Rattle.rq_model.specs.Machine.{outcome_from, Committed, Aborted}
+use Rattle.rq_model.specs.Machine.{later, latest, told, registered, deregistered, unnoted, closed_notes, all_lawful}
+use Rattle.rq_model.specs.Machine.{step, run, outcome_from, Committed, Aborted}
 use Rattle.rq_model.specs.WellFormed.{Ordered, IsWellFormed, IsNote}
 use Rattle.rq_model.proofs.Lists.{by_cases, each_weaker, each_of, each_both, each_passes, each_filter}
 use Rattle.rq_model.proofs.Lists.{filter_map, filter_absorb, filter_same, filter_none, filter_comm}

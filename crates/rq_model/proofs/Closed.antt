@@ -11,12 +11,11 @@ use Rattle.rq_model.specs.Machine.{all_lawful, closed_units, step, run, aborts, 
 use Rattle.rq_model.specs.WellFormed.{Ordered}
 use Rattle.rq_model.specs.Fronts.{Ends, IsFront, Restarted, IsRestart}
 use Rattle.rq_model.specs.Closing.{IsClosed, OneClosed, ClosedFront, when_closed, HaveSameQueues, ClosedStands}
-use Rattle.rq_model.proofs.Tails.{crash_is_harmless, first_closed}
+use Rattle.rq_model.proofs.Tails.{crash_is_harmless, first_closed, aborts_follow, crash_in_the_tail}
 use Rattle.rq_model.proofs.Kept.{runs_are_well_formed, empty_is_well_formed}
 use Rattle.rq_model.proofs.Longest.{one_front, log_joins, used_long}
 use Rattle.rq_model.proofs.Restarts.{run_join, lawful_join}
 use Rattle.rq_model.proofs.Appended.{front_follows, appended_is_front}
-use Rattle.rq_model.proofs.Tails.{aborts_follow, crash_in_the_tail}
 use Rattle.rq_model.proofs.Found.{front_restart, restart_lines}
 
 -- the numbers after this many aborts, if no unit is open any more

@@ -1,6 +1,5 @@
 -- A checkpoint that is appended.
-use Rattle.std.proofs.Common.{◌≡◌, ℕ, ◌+◌, ◌≤◌, List, [], ◌∷◌, ◌++◌, length, map, refl, sym, ap, subst}
-use Rattle.std.proofs.Common.{◌∙◌, arith}
+use Rattle.std.proofs.Common.{◌≡◌, ℕ, ◌+◌, ◌≤◌, List, [], ◌∷◌, ◌++◌, length, map, refl, sym, ap, subst, ◌∙◌, arith}
 use Rattle.rq_model.specs.Records.{Record, Abort, Checkpoint, Version}
 use Rattle.rq_model.specs.Frames.{log_limit, Whole}
 use Rattle.rq_model.specs.States.{Definition, State, empty}

@@ -1,13 +1,13 @@
 -- What counts and looks ahead mean.
-use Rattle.std.proofs.Common.{◌≡◌, inl, inr, ⊎_elim, ℕ, suc, ◌+◌, true, false, not, ◌&&◌, ◌||◌, List, []}
-use Rattle.std.proofs.Common.{◌∷◌, ◌++◌, length, None, refl, sym, ap, ◌∙◌, subst, arith}
+use Rattle.std.proofs.Common.{◌≡◌, inl, inr, ⊎_elim, ℕ, suc, ◌+◌, true, false, not, ◌&&◌, ◌||◌, List, [], ◌∷◌, ◌++◌}
+use Rattle.std.proofs.Common.{length, None, refl, sym, ap, ◌∙◌, subst, arith, append_assoc, Option, ◌≤◌, eq-eqb}
 use Rattle.std.specs.Prelude.{◌==◌, if◌then◌else◌}
 use Rattle.std.specs.List.{filter, list_any, AllByRecursion}
 use Rattle.std.specs.Str.{bytes_eq}
 use Rattle.std.proofs.lemmas.Bool.{and_parts, eqb-true, cases_Bool}
 use Rattle.std.proofs.lemmas.Slice.Eq.{bytes_eq-Decides}
 use Rattle.rq_model.specs.Records.{Record, Define, Register, Deregister, Begin, Enqueue, Dequeue, Commit, Abort}
-use Rattle.rq_model.specs.Records.{Checkpoint, Kill}
+use Rattle.rq_model.specs.Records.{Checkpoint, Kill, By}
 use Rattle.rq_model.specs.States.{Registrant, State, empty, is_registrant, registrant_before, put}
 use Rattle.rq_model.specs.Machine.{Committed, Aborted, outcome_from, is_registered, step, run, told}
 use Rattle.rq_model.specs.Laws.{is_still_open, begun}
@@ -20,8 +20,6 @@ use Rattle.rq_model.proofs.Numbers.{numbers_after}
 use Rattle.rq_model.proofs.Restarts.{lawful_cut, next_run}
 use Rattle.rq_model.proofs.Kept.{empty_is_well_formed}
 use Rattle.rq_model.proofs.Balance.{one_fate, one_request}
-use Rattle.std.proofs.Common.{append_assoc, Option, ◌≤◌, eq-eqb}
-use Rattle.rq_model.specs.Records.{By}
 use Rattle.rq_model.specs.Machine.{aborts, all_lawful, is_lawful, is_open}
 use Rattle.rq_model.proofs.Tried.{any_in}
 use Rattle.rq_model.proofs.Clients.{same_clients, apart_clients, filter_gone, any_none}

@@ -6,8 +6,7 @@ use Rattle.std.specs.Prelude.{IsTrue, drop}
 use Rattle.std.specs.Int.{w64, to_be_bytes}
 use Rattle.std.proofs.lemmas.Bool.{eqb-true, ne_eqb, leb-true, le-leb}
 use Rattle.std.proofs.lemmas.List.{length-append}
-use Rattle.rq_bytes.specs.Readers.{Reader, number, piece, ◌then◌, made, tested, tagged}
-use Rattle.rq_bytes.specs.Readers.{Reads, Any, End}
+use Rattle.rq_bytes.specs.Readers.{Reader, number, piece, ◌then◌, made, tested, tagged, Reads, Any, End}
 use Rattle.rq_bytes.proofs.Single.{reads_byte, reads_piece, reads_u16, reads_u32, reads_u64, reads_all}
 use Rattle.rq_bytes.proofs.Together.{reads_then, reads_tested, reads_alone, alike, TakesBehind, at_byte, in_case}
 use Rattle.rq_bytes.proofs.Together.{in_no_case, again_made, reads_tagged, spells_one}

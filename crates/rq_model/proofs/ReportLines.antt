@@ -1,8 +1,7 @@
 -- How many lines of a report begin with `e p `.
-use Rattle.std.proofs.Common.{◌≡◌, ◌≢◌, ℕ, zero, suc, ◌+◌, ◌<◌, ◌≤◌, ◌^◌, ◌/◌, ◌%◌, Bool, true, false, cond}
-use Rattle.std.proofs.Common.{not, ◌&&◌, List}
-use Rattle.std.proofs.Common.{[], ◌∷◌, ◌++◌, length, refl, sym, ap, ◌∙◌, subst, arith, append_assoc, Option}
-use Rattle.std.proofs.Common.{Some, None}
+use Rattle.std.proofs.Common.{◌≡◌, ◌≢◌, ℕ, zero, suc, ◌+◌, ◌<◌, ◌≤◌, ◌^◌, ◌/◌, ◌%◌, Bool, true, false, cond, not}
+use Rattle.std.proofs.Common.{◌&&◌, List, [], ◌∷◌, ◌++◌, length, refl, sym, ap, ◌∙◌, subst, arith, append_assoc}
+use Rattle.std.proofs.Common.{Option, Some, None}
 use Rattle.std.specs.Prelude.{◌==◌, nat_lt, if◌then◌else◌, take, codes, filter, IsTrue}
 use Rattle.std.specs.List.{list_all, flat_map, AllByRecursion}
 use Rattle.std.specs.Str.{bytes_eq}
@@ -11,8 +10,7 @@ use Rattle.std.proofs.lemmas.Bool.{and_parts, eqb-true, eqb-false, eq-eqb, ne_eq
 use Rattle.std.proofs.lemmas.Slice.Eq.{bytes_eq-Decides}
 use Rattle.std.proofs.lemmas.Fmt.{decimal_injective}
 use Rattle.rq_model.specs.Spelling.{is_name, is_name_byte}
-use Rattle.rq_model.specs.States.{Kind, Enqueued, Dequeued, Element, Last, Definition, Registrant, State}
-use Rattle.rq_model.specs.States.{is_free}
+use Rattle.rq_model.specs.States.{Kind, Enqueued, Dequeued, Element, Last, Definition, Registrant, State, is_free}
 use Rattle.rq_model.specs.Machine.{comes_first, is_free_at}
 use Rattle.rq_model.specs.StateSpelling.{FitsDefinition, FitsRegistrant}
 use Rattle.rq_model.specs.Fronts.{Why, Ends, Form, Law, Restarted}

@@ -1,16 +1,13 @@
 -- The law of states: what is read of a spelling was spelled that way, and what is spelled is read
 -- again.
-use Rattle.std.proofs.Common.{◌≡◌, ℕ, ◌^◌, ◌<◌, List, [], ◌∷◌, ◌++◌, length, Option}
-use Rattle.std.proofs.Common.{Some, None, refl, arith}
+use Rattle.std.proofs.Common.{◌≡◌, ℕ, ◌^◌, ◌<◌, List, [], ◌∷◌, ◌++◌, length, Option, Some, None, refl, arith}
 use Rattle.std.specs.Prelude.{IsTrue, IfSome}
 use Rattle.std.specs.Int.{w64, to_be_bytes}
 use Rattle.std.proofs.lemmas.Bool.{ne_eqb}
-use Rattle.rq_bytes.specs.Readers.{nothing, made, tagged, case, no_case}
-use Rattle.rq_bytes.specs.Readers.{Reads, Any}
+use Rattle.rq_bytes.specs.Readers.{nothing, made, tagged, case, no_case, Reads, Any}
 use Rattle.rq_bytes.proofs.Single.{reads_byte, reads_u16, reads_u32, reads_u64, reads_nothing}
 use Rattle.rq_bytes.proofs.Together.{reads_then, reads_sized, reads_made, reads_tested, alike, in_case, in_no_case}
-use Rattle.rq_bytes.proofs.Together.{again_made, reads_tagged}
-use Rattle.rq_bytes.proofs.Together.{AreCounted, reads_counted}
+use Rattle.rq_bytes.proofs.Together.{again_made, reads_tagged, AreCounted, reads_counted}
 use Rattle.rq_model.specs.Spelling.{is_name}
 use Rattle.rq_model.specs.States.{Mark, Free, Fresh, Held, Kind, Enqueued, Dequeued, Element, Last, Note, Definition}
 use Rattle.rq_model.specs.States.{Registrant, State}

@@ -1,14 +1,13 @@
 -- The attempts of an element are its tries at its home.
-use Rattle.std.proofs.Common.{◌≡◌, ◌≢◌, inl, inr, ⊎_elim, ℕ, zero, suc, ◌+◌, ◌<◌, ◌≤◌, Bool, true, false, not}
-use Rattle.std.proofs.Common.{◌&&◌, ◌||◌, List, []}
-use Rattle.std.proofs.Common.{◌∷◌, length, refl, sym, ap, ◌∙◌, subst, arith}
+use Rattle.std.proofs.Common.{◌≡◌, ◌≢◌, inl, inr, ⊎_elim, ℕ, zero, suc, ◌+◌, ◌<◌, ◌≤◌, Bool, true, false, not, ◌&&◌}
+use Rattle.std.proofs.Common.{◌||◌, List, [], ◌∷◌, length, refl, sym, ap, ◌∙◌, subst, arith}
 use Rattle.std.specs.Prelude.{◌==◌, if◌then◌else◌}
 use Rattle.std.specs.List.{list_any, AllByRecursion}
 use Rattle.std.proofs.lemmas.Bool.{and_parts, eqb-true, eq-eqb, ne_eqb, cases_Bool, eqb-false}
 use Rattle.rq_model.specs.Records.{Record, Define, Register, Deregister, Begin, Enqueue, Dequeue, Commit, Abort}
 use Rattle.rq_model.specs.Records.{Checkpoint, Kill, Version}
-use Rattle.rq_model.specs.States.{Mark, Free, Held, Element, Definition, State, empty, definition_at}
-use Rattle.rq_model.specs.States.{is_fresh, is_held}
+use Rattle.rq_model.specs.States.{Mark, Free, Held, Element, Definition, State, empty, definition_at, is_fresh}
+use Rattle.rq_model.specs.States.{is_held, no_definition}
 use Rattle.rq_model.specs.Machine.{is_best, marked, leaves, moved, returned, all_lawful, step, run}
 use Rattle.rq_model.specs.WellFormed.{Ordered, IsIn, IsWellFormed, IsElement, AreDefinitions}
 use Rattle.rq_model.proofs.Lists.{by_cases, each_weaker, each_append, each_map, each_filter, each_both}
@@ -16,7 +15,6 @@ use Rattle.rq_model.proofs.Sound.{limit_not_0}
 use Rattle.rq_model.proofs.Texts.{all_in}
 use Rattle.rq_model.proofs.Kept.{step_kept, empty_is_well_formed}
 use Rattle.std.proofs.lemmas.List.{get_or_append_left}
-use Rattle.rq_model.specs.States.{no_definition}
 use Rattle.rq_model.specs.Queues.{defined_by}
 use Rattle.rq_model.proofs.ByQueue.{run_definitions}
 use Rattle.rq_model.proofs.Balance.{swapped}

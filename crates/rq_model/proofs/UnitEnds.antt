@@ -12,8 +12,7 @@ use Rattle.rq_model.specs.WellFormed.{IsWellFormed}
 use Rattle.rq_model.specs.Machine.{step, marked, leaves, moved, returned, committed_elements, closed_notes}
 use Rattle.rq_model.specs.Queues.{Part, Move, Transfer, part_of, is_marked, is_engaged, transfers_at, arrivals_of}
 use Rattle.rq_model.specs.Queues.{moves_of}
-use Rattle.rq_model.specs.Redo.{act, sent, receive, put_all}
-use Rattle.rq_model.specs.Redo.{AreNew}
+use Rattle.rq_model.specs.Redo.{act, sent, receive, put_all, AreNew}
 use Rattle.rq_model.specs.StepLaws.{leaving, coming, going, aborted_part, UnitEndsByParts}
 use Rattle.rq_model.proofs.Lists.{by_cases, filter_all, filter_none, filter_same, filter_comm, filter_map_as, map_all}
 use Rattle.rq_model.proofs.Lists.{each_weaker, each_map, each_of, each_passes}

@@ -8,8 +8,7 @@ use Rattle.std.specs.Str.{bytes_eq}
 use Rattle.rq_model.specs.Records.{Record, Version}
 use Rattle.rq_model.specs.Frames.{log_limit, log_of, AreBytes}
 use Rattle.rq_model.specs.States.{Free, Element, State, empty, definition_at}
-use Rattle.rq_model.specs.Machine.{all_lawful, run, final, is_open, is_registered, latest}
-use Rattle.rq_model.specs.Machine.{outcome_from}
+use Rattle.rq_model.specs.Machine.{all_lawful, run, final, is_open, is_registered, latest, outcome_from}
 use Rattle.rq_model.specs.Fronts.{IsFront, Restarted, IsRestart}
 use Rattle.rq_model.specs.Reports.{IsReport}
 use Rattle.rq_model.specs.Checkpoints.{TrueAt, IsRestartAt, IsReportAt}

@@ -1,12 +1,10 @@
 -- What becomes of a request, how often it is tried, and how far a client came: counts of records
 -- that pass a test.
-use Rattle.std.specs.Prelude.{◌≡◌, ◌≢◌, ◌⊎◌, ◌<◌, ℕ, ◌+◌, ◌==◌, Bool, true, false, not, ◌&&◌, ◌||◌}
-use Rattle.std.specs.Prelude.{if◌then◌else◌, List, [], ◌∷◌, ◌++◌, length, filter, Option, Some}
-use Rattle.std.specs.Prelude.{None, option_map}
+use Rattle.std.specs.Prelude.{◌≡◌, ◌≢◌, ◌⊎◌, ◌<◌, ℕ, ◌+◌, ◌==◌, Bool, true, false, not, ◌&&◌, ◌||◌, if◌then◌else◌}
+use Rattle.std.specs.Prelude.{List, [], ◌∷◌, ◌++◌, length, filter, Option, Some, None, option_map}
 use Rattle.std.specs.List.{list_any}
 use Rattle.std.specs.Str.{bytes_eq}
-use Rattle.rq_model.specs.Records.{By, Record, Register, Deregister, Enqueue, Dequeue, Abort}
-use Rattle.rq_model.specs.Records.{Kill}
+use Rattle.rq_model.specs.Records.{By, Record, Register, Deregister, Enqueue, Dequeue, Abort, Kill}
 use Rattle.rq_model.specs.States.{Enqueued, Dequeued, Element, Note, Definition, State, empty}
 use Rattle.rq_model.specs.States.{definition_at, is_held, is_note_of}
 use Rattle.rq_model.specs.Machine.{is_free_at, best, leaves, noted, step, run, aborts, Outcome}

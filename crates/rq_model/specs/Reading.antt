@@ -1,6 +1,5 @@
 -- How a record and a state are read: what spells them, from left to right.
-use Rattle.std.specs.Prelude.{ℕ, List, length, Option, Some, None, Bool, nat_le, ◌==◌, ◌<◌, ◌^◌}
-use Rattle.std.specs.Prelude.{if◌then◌else◌, ⊤}
+use Rattle.std.specs.Prelude.{ℕ, List, length, Option, Some, None, Bool, nat_le, ◌==◌, ◌<◌, ◌^◌, if◌then◌else◌, ⊤}
 use Rattle.rq_bytes.specs.Readers.{Reader, byte, number, piece, all, ◌then◌, made, tested, alone}
 use Rattle.rq_bytes.specs.Readers.{tagged, case, no_case, nothing, sized, counted_members}
 use Rattle.rq_model.specs.Records.{By, Record, Define, Register, Deregister, Begin, Enqueue}

@@ -7,21 +7,17 @@ use Rattle.sha2.specs.Sha256.{sha256}
 use Rattle.rq_model.specs.Records.{Define, Register, Deregister, Begin, Enqueue, Dequeue, Commit}
 use Rattle.rq_model.specs.Records.{Abort, Checkpoint, Kill, Version, One, Two, no_queue}
 use Rattle.rq_model.specs.Spelling.{is_name_byte, is_name, body_of, IsRecord, Spells}
-use Rattle.rq_model.specs.Frames.{IsBodyLength, log_limit, digest, frame, frames, last, magic}
-use Rattle.rq_model.specs.Frames.{start, header, HasHeader, AreBytes, last_of, log_of, stated}
-use Rattle.rq_model.specs.Frames.{body_in, digest_in, HasFrame, Whole, Cut, Length, Digest, IsRest}
-use Rattle.rq_model.specs.Frames.{IsFrameRun, AreBodies, before}
+use Rattle.rq_model.specs.Frames.{IsBodyLength, log_limit, digest, frame, frames, last, magic, start, header}
+use Rattle.rq_model.specs.Frames.{HasHeader, AreBytes, last_of, log_of, stated, body_in, digest_in, HasFrame, Whole}
+use Rattle.rq_model.specs.Frames.{Cut, Length, Digest, IsRest, IsFrameRun, AreBodies, before}
 use Rattle.rq_model.specs.States.{Free, Fresh, Held, Enqueued, Dequeued, State, empty}
-use Rattle.rq_model.specs.WellFormed.{IsElement, IsLast, IsRegistrant, IsNote, IsWellFormed}
-use Rattle.rq_model.specs.WellFormed.{IsDefinition, AreDefinitions, IsBelowLimit, IsElementOf}
-use Rattle.rq_model.specs.WellFormed.{IsOneDeep}
-use Rattle.rq_model.specs.StateSpelling.{element_number, definition_bytes, registrant_bytes}
-use Rattle.rq_model.specs.StateSpelling.{element_bytes, note_bytes, FitsElement, IsDeepFor}
-use Rattle.rq_model.specs.StateSpelling.{SpellsState}
+use Rattle.rq_model.specs.WellFormed.{IsElement, IsLast, IsRegistrant, IsNote, IsWellFormed, IsDefinition}
+use Rattle.rq_model.specs.WellFormed.{AreDefinitions, IsBelowLimit, IsElementOf, IsOneDeep}
+use Rattle.rq_model.specs.StateSpelling.{element_number, definition_bytes, registrant_bytes, element_bytes}
+use Rattle.rq_model.specs.StateSpelling.{note_bytes, FitsElement, IsDeepFor, SpellsState}
 use Rattle.rq_model.specs.Fronts.{Ends, Form, Law, Restarted}
-use Rattle.rq_model.specs.Reports.{hex_of, payload_text, error_text, element_text, why_text}
-use Rattle.rq_model.specs.Reports.{front_line, units_line, queue_line, element_line}
-use Rattle.rq_model.specs.Reports.{registrant_line}
+use Rattle.rq_model.specs.Reports.{hex_of, payload_text, error_text, element_text, why_text, front_line, units_line}
+use Rattle.rq_model.specs.Reports.{queue_line, element_line, registrant_line}
 use Rattle.rq_model.specs.WorkedLogs.{jobs, ann, nobody, by_ann}
 use Rattle.rq_model.specs.WorkedMachine.{element, last as last_one, note, registrant, definition}
 use Rattle.rq_model.specs.WorkedMachine.{bob, busy, dead_queue, jobs_queue}

@@ -4,12 +4,10 @@ use Prim.Native.String.{String}
 use Rattle.std.specs.Prelude.{◌≡◌, ◌+◌, ℕ, List, [], ◌∷◌, ◌++◌, Option, Some, None, filter, take}
 use Rattle.std.specs.Prelude.{length, replicate, codes, drop}
 use Rattle.std.specs.List.{flat_map}
-use Rattle.rq_model.specs.Records.{By, Record, Define, Register, Deregister, Begin, Enqueue}
-use Rattle.rq_model.specs.Records.{Dequeue, Commit, Abort, Checkpoint, Kill, Version, One, Two}
-use Rattle.rq_model.specs.Records.{no_queue}
+use Rattle.rq_model.specs.Records.{By, Record, Define, Register, Deregister, Begin, Enqueue, Dequeue, Commit, Abort}
+use Rattle.rq_model.specs.Records.{Checkpoint, Kill, Version, One, Two, no_queue}
 use Rattle.rq_model.specs.Spelling.{body_of}
-use Rattle.rq_model.specs.Frames.{log_of, digest, frame, start, header, last_of, body_in, digest_in}
-use Rattle.rq_model.specs.Frames.{HasFrame}
+use Rattle.rq_model.specs.Frames.{log_of, digest, frame, start, header, last_of, body_in, digest_in, HasFrame}
 use Rattle.rq_model.specs.States.{Element, Definition, State, empty, put}
 use Rattle.rq_model.specs.Machine.{is_free_at, comes_first, run}
 use Rattle.rq_model.specs.StateSpelling.{state_bytes}

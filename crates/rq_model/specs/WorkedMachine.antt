@@ -14,10 +14,8 @@ use Rattle.rq_model.specs.Queues.{Op, Move, part_of, defined_by, with_definition
 use Rattle.rq_model.specs.Queues.{touching, transfers, moves, arrivals}
 use Rattle.rq_model.specs.Redo.{act, sent, before, from, redone, all_sent}
 use Rattle.rq_model.specs.Fronts.{Form, restarted}
-use Rattle.rq_model.specs.Laws.{move_before}
-use Rattle.rq_model.specs.Laws.{earlier}
-use Rattle.rq_model.specs.WorkedLogs.{jobs, ann, nobody, by_ann, arrival_log, one_element_log}
-use Rattle.rq_model.specs.WorkedLogs.{unlawful_log}
+use Rattle.rq_model.specs.Laws.{move_before, earlier}
+use Rattle.rq_model.specs.WorkedLogs.{jobs, ann, nobody, by_ann, arrival_log, one_element_log, unlawful_log}
 
 abbrev pub bob : List ℕ
 bob = codes "bob"

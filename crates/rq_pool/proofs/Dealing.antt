@@ -1,12 +1,10 @@
 -- A seat that has taken nothing, and the lists that a room is made of.
-use Rattle.std.proofs.Common.{All, drop, reverse, ◌≡◌, ℕ, suc, ◌+◌, ◌<◌, List, [], ◌∷◌, ◌++◌, Vec, length}
-use Rattle.std.proofs.Common.{get_or, take, map, replicate, sum_by, Some, slice_get, vec_items, vec_len, sym, ap}
-use Rattle.std.proofs.Common.{◌∙◌, arith}
-use Rattle.rq_pool.proofs.Words.{Global, length-map, length-replicate, with_items_is, take_more}
-use Rattle.rq_pool.proofs.Words.{map-append, reverse-append, nil_from_length, get_or-map}
-use Rattle.rq_pool.proofs.Words.{Share, Worker, DealRule, Deck, parts_of, DeckId, list_in, deck_id}
-use Rattle.rq_pool.proofs.Words.{deck_list, owner_id, IsStocked, IsOpen, filled, owner_count, Holds}
-use Rattle.rq_pool.proofs.Words.{reach_at, IsPlaceBeside}
+use Rattle.std.proofs.Common.{All, drop, reverse, ◌≡◌, ℕ, suc, ◌+◌, ◌<◌, List, [], ◌∷◌, ◌++◌, Vec, length, get_or}
+use Rattle.std.proofs.Common.{take, map, replicate, sum_by, Some, slice_get, vec_items, vec_len, sym, ap, ◌∙◌, arith}
+use Rattle.rq_pool.proofs.Words.{Global, length-map, length-replicate, with_items_is, take_more, map-append}
+use Rattle.rq_pool.proofs.Words.{reverse-append, nil_from_length, get_or-map, Share, Worker, DealRule, Deck, parts_of}
+use Rattle.rq_pool.proofs.Words.{DeckId, list_in, deck_id, deck_list, owner_id, IsStocked, IsOpen, filled}
+use Rattle.rq_pool.proofs.Words.{owner_count, Holds, reach_at, IsPlaceBeside}
 use Rattle.std.specs.Vec.{with_items}
 use Rattle.std.proofs.lemmas.List.Folds.{sum_by-replicate}
 use Rattle.std.proofs.lemmas.List.Sums.{sum_by-le}

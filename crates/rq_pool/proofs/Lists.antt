@@ -2,8 +2,7 @@
 use Rattle.std.proofs.Common.{◌≡◌, ◌≢◌, ◌<◌, ℕ, zero, suc, List, [], ◌∷◌, ◌++◌, length, get_or, drop, map, reverse}
 use Rattle.std.proofs.Common.{replicate, sum, sum_by, set, Some, slice_get, sym, refl, ap, ◌∙◌, get_or-set_other}
 use Rattle.std.proofs.lemmas.Grind.{get_or-set_at}
-use Rattle.rq_pool.proofs.Words.{map-append, reverse-append, sum-map, map-map}
-use Rattle.rq_pool.proofs.Words.{map-set_same, dite, ℕ_discrete}
+use Rattle.rq_pool.proofs.Words.{map-append, reverse-append, sum-map, map-map, map-set_same, dite, ℕ_discrete}
 
 -- for the tactics: what a list shows after a write that shows the same
 pub ruleset same_after = (map-set_same)

@@ -5,13 +5,11 @@ pub use Rattle.crossbeam_deque.specs.Handles.{worker_index, worker_view}
 pub use Rattle.crossbeam_deque.specs.declared.handles.Worker.{Worker}
 pub use Rattle.rq_pool.specs.Decks.{DeckId, IsComplete, IsOpen, IsStocked, IsWhole, dealt_length, dealt_weight, deck_id}
 pub use Rattle.rq_pool.specs.Decks.{deck_list, filled, list_in, owner_count, owner_id, owner_weight, taken_weight}
-pub use Rattle.rq_pool.specs.Holdings.{Holds}
+pub use Rattle.rq_pool.specs.Holdings.{Holds, source_id, stolen}
 pub use Rattle.rq_pool.specs.Ledger.{Ledger, size, times, times_in}
-pub use Rattle.rq_pool.specs.Passes.{parts_of, weight_of}
+pub use Rattle.rq_pool.specs.Passes.{parts_of, weight_of, share}
 pub use Rattle.rq_pool.specs.Rooms.{IsPlaceBeside, IsSeatBeside, ids_of, lists_of, taken_of}
 pub use Rattle.rq_pool.specs.Rules.{Balanced, Emptied, FitsDeal, Pushed, Taken}
-pub use Rattle.rq_pool.specs.Passes.{share}
-pub use Rattle.rq_pool.specs.Holdings.{source_id, stolen}
 pub use Rattle.rq_pool.specs.Vaults.{Keeps, reach, reach_at}
 pub use Rattle.rq_pool.specs.declared.deck.Deck.{Deck}
 pub use Rattle.rq_pool.specs.declared.deque.DealRule.{DealRule}

@@ -3,8 +3,7 @@ use Rattle.std.specs.Prelude.{◌≡◌, ℕ, ◌+◌, ◌<◌, ◌≤◌, List,
 use Rattle.std.specs.Prelude.{vec_capacity, Option, Some, None}
 use Rattle.std.specs.Global.{Global}
 use Rattle.crossbeam_deque.specs.declared.handles.Worker.{Worker}
-use Rattle.crossbeam_deque.specs.Handles.{view, IsPassOf, worker_deque, worker_flavor}
-use Rattle.crossbeam_deque.specs.Handles.{worker_view, stealer_deque}
+use Rattle.crossbeam_deque.specs.Handles.{view, IsPassOf, worker_deque, worker_flavor, worker_view, stealer_deque}
 use Rattle.rq_pool.specs.declared.deque.Share.{Share}
 use Rattle.rq_pool.specs.declared.deque.DealRule.{DealRule}
 use Rattle.rq_pool.specs.declared.deck.Deck.{Deck}

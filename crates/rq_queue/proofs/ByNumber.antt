@@ -12,8 +12,7 @@ use Rattle.std.proofs.lemmas.List.Sorted.{IsPermutation-refl, IsPermutation-sym,
 use Rattle.std.proofs.lemmas.Map.Keys.{IsDistinct-IsPermutation}
 use Rattle.rq_model.specs.States.{put}
 use Rattle.rq_model.specs.WellFormed.{Ordered}
-use Rattle.rq_model.proofs.Lists.{by_cases, each_passes, each_weaker}
-use Rattle.rq_model.proofs.Lists.{filter_all, filter_comm, filter_none}
+use Rattle.rq_model.proofs.Lists.{by_cases, each_passes, each_weaker, filter_all, filter_comm, filter_none}
 use Rattle.rq_model.proofs.Merged.{ordered_append, ordered_filter, ordered_weaker}
 use Rattle.rq_model.proofs.Restarts.{each_cut}
 use Rattle.rq_state.specs.Orders.{put_in_order}

@@ -5,15 +5,12 @@ use Rattle.std.specs.List.{filter, AllByRecursion}
 use Rattle.rq_model.specs.Records.{Record, Abort, Version}
 use Rattle.rq_model.specs.States.{State, definition_at}
 use Rattle.rq_model.specs.WellFormed.{Ordered}
-use Rattle.rq_model.specs.Machine.{leaves, step}
-use Rattle.rq_model.specs.Queues.{Part, Op, Move, Transfer, transfers_at, transfers, arrivals}
+use Rattle.rq_model.specs.Machine.{leaves, step, run}
+use Rattle.rq_model.specs.Queues.{Part, Op, Move, Transfer, transfers_at, transfers, arrivals, part_of, moves}
 use Rattle.rq_model.proofs.Lists.{each_weaker, each_of, each_append, each_map}
 use Rattle.rq_model.proofs.Merged.{ordered_append, ordered_filter, ordered_map}
-use Rattle.rq_model.specs.Machine.{run}
-use Rattle.rq_model.specs.Queues.{part_of, moves}
-use Rattle.rq_model.specs.Redo.{redone, all_sent}
+use Rattle.rq_model.specs.Redo.{redone, all_sent, GoesWell, RedoGoesWell}
 use Rattle.rq_model.specs.Laws.{Projection}
-use Rattle.rq_model.specs.Redo.{GoesWell, RedoGoesWell}
 use Rattle.rq_model.proofs.WellFormedRuns.{sound}
 use Rattle.rq_queue.specs.Case.{IsCase, AreRising}
 

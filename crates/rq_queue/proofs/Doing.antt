@@ -5,7 +5,7 @@ use Rattle.std.specs.List.{AllByRecursion, filter}
 use Rattle.std.specs.Map.{values_of, keys_of}
 use Rattle.std.specs.declared.cmp.Reverse.{Reverse}
 use Rattle.std.specs.declared.cmp.Ordering.{Ordering}
-use Rattle.std.specs.declared.cmp.Ordering.TheVariants.{Less}
+use Rattle.std.specs.declared.cmp.Ordering.TheVariants.{Less, Equal, Greater}
 use Rattle.std.proofs.lemmas.Bool.Decides.{nat_tests}
 use Rattle.std.proofs.lemmas.Bool.{and_left, eq-eqb, lt-ltb}
 use Rattle.std.proofs.lemmas.List.{append-nil, reverse-append}
@@ -14,17 +14,14 @@ use Rattle.rq_model.specs.Queues.{is_marked}
 use Rattle.rq_model.specs.Machine.{is_free_at, best, best_held, marked, leaves, returned}
 use Rattle.rq_model.proofs.Lists.{each_weaker, each_append, filter_all, filter_none}
 use Rattle.rq_queue.specs.Sorted.{sorted}
-use Rattle.rq_queue.specs.Kept.{items_of, Entry, IsKeyed, IsOfUnit, Stowed}
+use Rattle.rq_queue.specs.Kept.{items_of, Entry, IsKeyed, IsOfUnit, Stowed, Among, Frees, unheld, staying}
 use Rattle.rq_queue.proofs.ByNumber.{each_front}
-use Rattle.rq_queue.proofs.Sorting.{each_unsorted, held_sorted}
+use Rattle.rq_queue.proofs.Sorting.{each_unsorted, held_sorted, apart_into, apart_from, sorted_from}
 use Rattle.rq_model.proofs.Apart.{Apart}
 use Rattle.rq_queue.proofs.Firsts.{IsBehind, first_held, best_is, no_best}
 use Rattle.std.specs.BTreeMap.{insert_entry}
 use Rattle.std.specs.Ordering.{match_ordering}
-use Rattle.std.specs.declared.cmp.Ordering.TheVariants.{Equal, Greater}
-use Rattle.rq_queue.specs.Kept.{Among, Frees, unheld, staying}
 use Rattle.rq_model.specs.States.{Definition, is_held, is_fresh}
-use Rattle.rq_queue.proofs.Sorting.{apart_into, apart_from, sorted_from}
 use Rattle.rq_queue.proofs.Moving.{behind, rank_cmp, none_held}
 use Rattle.rq_queue.proofs.Units.{Lists, stowed_sorted, stowed_apart}
 

@@ -24,8 +24,7 @@ use Rattle.rq_queue.specs.Sorted.{sorted}
 use Rattle.rq_queue.specs.declared.elements.Elements.TheInside.{Inside}
 use Rattle.rq_queue.proofs.Doing.{free_cmp, none_free}
 use Rattle.rq_queue.proofs.ByNumber.{each_back, each_front, each_moved}
-use Rattle.rq_queue.proofs.Sorting.{apart_into, each_sorted, each_unsorted}
-use Rattle.rq_queue.proofs.Sorting.{filter_sorted}
+use Rattle.rq_queue.proofs.Sorting.{apart_into, each_sorted, each_unsorted, filter_sorted}
 use Rattle.rq_queue.proofs.Units.{Lists, apart_other, each_other}
 
 -- what is under an id after one is put in

@@ -4,9 +4,8 @@ use Rattle.std.proofs.Common.{subst, append_assoc}
 use Rattle.std.specs.List.{AllByRecursion}
 use Rattle.std.proofs.lemmas.List.{drop_more}
 use Rattle.rq_model.specs.Queues.{Part, Op, Move}
-use Rattle.rq_model.specs.Redo.{act, sent, receive, redone, all_sent}
+use Rattle.rq_model.specs.Redo.{act, sent, receive, redone, all_sent, IsReady, GoesWell, GoesOn}
 use Rattle.rq_model.specs.Laws.{RedoSteps}
-use Rattle.rq_model.specs.Redo.{IsReady, GoesWell, GoesOn}
 
 -- the next operation finds the part ready
 pub op_well : GoesOn → (p : Part) (ops : List Op) (i : ℕ) (op : Op) (ms : List Move) → i < length ops

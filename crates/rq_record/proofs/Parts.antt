@@ -2,10 +2,8 @@
 use Rattle.std.proofs.Common.{◌≡◌, ℕ, ◌+◌, ◌-◌, ◌≤◌, List, [], ◌++◌, length, take, drop, Some, sym, ap, ◌∙◌}
 use Rattle.std.proofs.Common.{append_assoc, arith}
 use Rattle.std.specs.Prelude.{slice_range}
-use Rattle.std.proofs.lemmas.List.{append-nil, take-append-drop, length-append, length-take}
-use Rattle.std.proofs.lemmas.List.{length-drop}
-use Rattle.rq_bytes.specs.Readers.{Reader}
-use Rattle.rq_bytes.specs.Readers.{Reads}
+use Rattle.std.proofs.lemmas.List.{append-nil, take-append-drop, length-append, length-take, length-drop}
+use Rattle.rq_bytes.specs.Readers.{Reader, Reads}
 use Rattle.rq_record.specs.LogParts.{EndsAt, IsLeftTo}
 
 -- a piece of the log ends where it ends

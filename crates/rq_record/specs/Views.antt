@@ -2,9 +2,8 @@
 use Rattle.std.specs.Prelude.{ℕ, List, Option}
 use Rattle.rq_model.specs.Records as model
 use Rattle.rq_record.specs.declared.record.RecordOf.{RecordOf}
-use Rattle.rq_record.specs.declared.record.RecordOf.TheVariants.{Define, Register, Deregister, Begin}
-use Rattle.rq_record.specs.declared.record.RecordOf.TheVariants.{Enqueue, Dequeue, Commit, Abort}
-use Rattle.rq_record.specs.declared.record.RecordOf.TheVariants.{Checkpoint, Kill}
+use Rattle.rq_record.specs.declared.record.RecordOf.TheVariants.{Define, Register, Deregister, Begin, Enqueue}
+use Rattle.rq_record.specs.declared.record.RecordOf.TheVariants.{Dequeue, Commit, Abort, Checkpoint, Kill}
 use Rattle.rq_record.specs.declared.version.Version.{Version}
 use Rattle.rq_record.specs.declared.version.Version.TheVariants.{One, Two}
 

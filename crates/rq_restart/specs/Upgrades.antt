@@ -1,6 +1,5 @@
 -- The log in version 2.
-use Rattle.std.specs.Prelude.{◌≡◌, ℕ, zero, suc, ⊤, ◌+◌, ◌≤◌, List, [], ◌∷◌, length, drop, Result}
-use Rattle.std.specs.Prelude.{Ok, Err}
+use Rattle.std.specs.Prelude.{◌≡◌, ℕ, zero, suc, ⊤, ◌+◌, ◌≤◌, List, [], ◌∷◌, length, drop, Result, Ok, Err}
 use Rattle.std.specs.Global.{Vec}
 use Rattle.rq_model.specs.Records.{Record}
 use Rattle.rq_model.specs.Frames.{log_limit, HasFrame, body_in, stated}

@@ -7,8 +7,7 @@ use Rattle.rq_model.specs.States.{State}
 use Rattle.rq_model.specs.WellFormed.{IsWellFormed}
 use Rattle.rq_model.specs.Machine.{is_lawful, step}
 use Rattle.rq_model.specs.Queues.{Part, part_of, touches, transfers_at, Transfer, arrivals_of}
-use Rattle.rq_model.specs.Redo.{act, receive}
-use Rattle.rq_model.specs.Redo.{IsOf}
+use Rattle.rq_model.specs.Redo.{act, receive, IsOf}
 use Rattle.rq_model.specs.StepLaws.{StepByParts}
 use Rattle.rq_model.proofs.Lists.{by_cases}
 use Rattle.rq_model.proofs.Decided.{registered_queue}

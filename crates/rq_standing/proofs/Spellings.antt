@@ -8,13 +8,12 @@ use Rattle.std.proofs.lemmas.List.Sums.{sum_by-cons}
 use Rattle.rq_model.specs.States.{Mark, Free, Fresh, Held, Element, Last, Definition, Note, Registrant, State}
 use Rattle.rq_model.specs.States.{id_before}
 use Rattle.rq_model.specs.Queues.{Part, part_of}
-use Rattle.rq_state.specs.Laws.{gathered}
+use Rattle.rq_state.specs.Laws.{gathered, PartsMakeTheState}
 use Rattle.rq_model.specs.StateSpelling.{counted, element_number, kind_byte, definition_bytes, last_bytes}
 use Rattle.rq_model.specs.StateSpelling.{registrant_bytes, mark_bytes, element_bytes, note_bytes, state_bytes}
 use Rattle.rq_model.specs.WellFormed.{IsWellFormed}
 use Rattle.rq_model.proofs.WellFormedRuns.{length-put}
 use Rattle.rq_state.specs.Orders.{put_in_order, place_before}
-use Rattle.rq_state.specs.Laws.{PartsMakeTheState}
 use Rattle.rq_queue.specs.Rooms.{member_bytes}
 use Rattle.rq_standing.specs.Parts.{ArePartsOf}
 use Rattle.rq_standing.specs.Spelled.{least_bytes, head_of, members_of}

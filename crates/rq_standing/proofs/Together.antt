@@ -7,14 +7,13 @@ use Rattle.std.proofs.lemmas.Bool.{eqb-true, lt-ltb, ltb-true, ltb-false}
 use Rattle.std.proofs.lemmas.List.{flat_map_more, take_more, get_or_append_left}
 use Rattle.std.proofs.lemmas.List.Sorted.{IsPermutation-refl}
 use Rattle.std.proofs.lemmas.List.Sums.{sum_by-cons}
-use Rattle.rq_state.specs.Laws.{gathered}
+use Rattle.rq_state.specs.Laws.{gathered, PartsMakeTheState, AnyOrderMakesTheState}
 use Rattle.rq_model.specs.Queues.{Part, part_of, registrants_at}
 use Rattle.rq_model.specs.StateSpelling.{registrant_bytes}
 use Rattle.rq_model.specs.States.{State, Element, Registrant, registrant_before, name_before, id_before}
 use Rattle.rq_model.specs.WellFormed.{IsWellFormed, Ordered}
 use Rattle.rq_model.proofs.Lists.{each_weaker, each_append, each_passes, by_cases}
 use Rattle.rq_model.proofs.Merged.{ordered_append, ordered_filter}
-use Rattle.rq_state.specs.Laws.{PartsMakeTheState, AnyOrderMakesTheState}
 use Rattle.rq_state.specs.Orders.{put_in_order, place_before}
 use Rattle.rq_state.proofs.InOrder.{registrant_is_order}
 use Rattle.rq_state.proofs.Whole.{whole_itself}

@@ -11,14 +11,12 @@ use Rattle.rq_model.specs.Records.{Record, Abort, Commit}
 use Rattle.rq_model.specs.States.{Element, State, definition_at}
 use Rattle.rq_model.specs.Machine.{returned, step, leaves, moved}
 use Rattle.rq_model.specs.Queues.{Part, Move, Transfer, moves_of, part_of, is_engaged, transfers_at}
-use Rattle.rq_model.specs.Redo.{act, sent, receive}
-use Rattle.rq_model.specs.StepLaws.{coming, going, UnitEndsByParts, aborted_part}
+use Rattle.rq_model.specs.Redo.{act, sent, receive, AreNew}
+use Rattle.rq_model.specs.StepLaws.{coming, going, UnitEndsByParts, aborted_part, StepByParts}
 use Rattle.rq_model.proofs.Lists.{by_cases, each_map, each_filter, each_of, each_weaker, filter_none}
 use Rattle.rq_standing.specs.Parts.{part_at, Ended, Send, Sends, Room, Received, CanArrive, HaveArrived, ArePartsOf}
 use Rattle.std.proofs.lemmas.Bool.{lt-ltb, eq-eqb, false≢true, false_from_ne_true, ltb-true, ltb-false, eqb-true}
-use Rattle.rq_model.specs.Redo.{AreNew}
 use Rattle.rq_model.specs.WellFormed.{IsWellFormed, IsElement}
-use Rattle.rq_model.specs.StepLaws.{StepByParts}
 
 joined : (f : Part → Part) (p : Part) → f (f p) ≡ f p → (a b l : Bool)
     → cond ((b || false) && l) (f (cond (a && l) (f p) p)) (cond (a && l) (f p) p) ≡ cond ((a || b) && l) (f p) p

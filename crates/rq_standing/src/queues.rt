@@ -2,8 +2,8 @@
 
 ghost use Rattle.std.specs.Prelude.{◌≡◌, ◌<◌, ◌+◌, ◌^◌, IfOk, OnOk, IfErr, Some, None, length};
 ghost use Rattle.rq_model.specs.Machine.{step};
-ghost use Rattle.rq_model.specs.Records as records;
 ghost use Rattle.rq_model.specs.States.{State};
+ghost use Rattle.rq_model.specs.Records as records;
 ghost use Rattle.rq_record.specs.Views.{record_of};
 ghost use Rattle.rq_record.specs.declared.fault.Fault.TheVariants.{Resources};
 ghost use Rattle.rq_state.specs.Views.{id_of};

@@ -1,6 +1,5 @@
 -- Texts that are appended one after another.
-use Rattle.std.proofs.Common.{arith}
-use Rattle.std.proofs.Common.{◌≡◌, ℕ, List, ◌++◌, Result, Ok, Err, ap, ◌∙◌, append_assoc}
+use Rattle.std.proofs.Common.{arith, ◌≡◌, ℕ, List, ◌++◌, Result, Ok, Err, ap, ◌∙◌, append_assoc}
 use Rattle.rq_state.specs.Writing.{PutsSpelling}
 
 pub joined : {A E : Type 0} (old mid new a b : List ℕ) (r : Result A E) → mid ≡ old ++ a → PutsSpelling mid new b r

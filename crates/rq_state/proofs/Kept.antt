@@ -4,15 +4,12 @@ use Rattle.std.proofs.Common.{◌≡◌, ℕ, List, [], Option, Some, None, Err,
 use Rattle.std.proofs.lemmas.Option.{same_Some}
 use Rattle.rq_model.specs.Records.{Version}
 use Rattle.rq_model.specs.States.{Registrant, State}
-use Rattle.rq_model.specs.StateSpelling.{state_bytes, FitsRegistrant, Fits}
-use Rattle.rq_model.specs.StateSpelling.{SpellsState}
-use Rattle.rq_bytes.specs.Readers.{alone, after_of}
-use Rattle.rq_bytes.specs.Readers.{IsBytes}
+use Rattle.rq_model.specs.StateSpelling.{state_bytes, FitsRegistrant, Fits, SpellsState}
+use Rattle.rq_bytes.specs.Readers.{alone, after_of, IsBytes}
 use Rattle.rq_bytes.proofs.Together.{reads_alone, spelled_by, read_again}
 use Rattle.rq_model.specs.Reading.{state_read}
 use Rattle.rq_model.proofs.Lists.{each_weaker}
-use Rattle.rq_model.proofs.StateReaders.{IsRegistrantSpelled}
-use Rattle.rq_model.proofs.StateReaders.{IsSpelled, reads_state}
+use Rattle.rq_model.proofs.StateReaders.{IsRegistrantSpelled, IsSpelled, reads_state}
 use Rattle.rq_model.proofs.StateCodes.{is_spelled}
 use Rattle.rq_record.specs.declared.fault.Fault.{Fault}
 use Rattle.rq_record.specs.declared.fault.Fault.TheVariants as faults

@@ -1,6 +1,5 @@
 -- How long the spellings of units are together.
-use Rattle.std.proofs.Common.{refl}
-use Rattle.std.proofs.Common.{◌≡◌, ℕ, ◌*◌, List, [], ◌∷◌, length, ap, ◌∙◌, arith, map}
+use Rattle.std.proofs.Common.{refl, ◌≡◌, ℕ, ◌*◌, List, [], ◌∷◌, length, ap, ◌∙◌, arith, map}
 use Rattle.std.specs.List.{flat_map}
 use Rattle.std.specs.Int.{w64, to_be_bytes}
 use Rattle.std.proofs.lemmas.List.{length-map}

@@ -1,10 +1,8 @@
 -- Going past members one after the other, and past the lists of a whole state.
 use Rattle.std.proofs.Common.{◌≡◌, ℕ, suc, ◌-◌, ◌+◌, ◌≤◌, ◌<◌, List, ◌∷◌, Option, Some, None, refl, sym, ap, ◌∙◌, arith}
 use Rattle.std.specs.Prelude.{⊤}
-use Rattle.rq_bytes.specs.Readers.{Reader, ◌>>=◌, number, ◌then◌, made, alone, members, counted_members}
-use Rattle.rq_bytes.specs.Readers.{after_of}
-use Rattle.rq_model.specs.Reading.{definition_read, registrant_read, element_read, note_read, state_from}
-use Rattle.rq_model.specs.Reading.{state_read}
+use Rattle.rq_bytes.specs.Readers.{Reader, ◌>>=◌, number, ◌then◌, made, alone, members, counted_members, after_of}
+use Rattle.rq_model.specs.Reading.{definition_read, registrant_read, element_read, note_read, state_from, state_read}
 use Rattle.rq_state.specs.Reading.{passed, form_read}
 
 -- the members that are left, whether the first is there or missing

@@ -2,13 +2,12 @@
 use Rattle.std.proofs.Common.{◌≡◌, ℕ, suc, zero, ◌+◌, ◌<◌, ◌≤◌, ◌⊎◌, ⊎_elim, inl, inr, Bool, true, false, cond, not}
 use Rattle.std.proofs.Common.{◌&&◌, List, [], ◌∷◌, ◌++◌, length, refl, sym, ap, ◌∙◌, subst, arith}
 use Rattle.std.specs.Prelude.{if◌then◌else◌, filter, slice_index_or}
-use Rattle.std.specs.List.{Contains, sum_by}
+use Rattle.std.specs.List.{Contains, sum_by, AllByRecursion}
 use Rattle.std.specs.List.Sorted.{IsPermutation}
 use Rattle.std.proofs.lemmas.List.Sums.{sum_by-cons}
 use Rattle.std.proofs.lemmas.List.Sorted.{Contains-permutation, IsPermutation-sym, sum_by-IsPermutation}
 use Rattle.rq_model.specs.States.{put}
 use Rattle.rq_state.specs.Orders.{put_in_order}
-use Rattle.std.specs.List.{AllByRecursion}
 use Rattle.rq_model.specs.WellFormed.{Ordered, IsIn}
 use Rattle.rq_model.proofs.Lists.{by_cases, each_weaker}
 

@@ -1,6 +1,5 @@
 -- What tells whether one thing holds tells whether an equivalent one does.
-use Rattle.std.proofs.Common.{arith}
-use Rattle.std.proofs.Common.{Result, Ok, Err}
+use Rattle.std.proofs.Common.{arith, Result, Ok, Err}
 use Rattle.rq_record.specs.declared.fault.Fault.{Fault}
 use Rattle.rq_record.specs.declared.fault.Fault.TheVariants as faults
 use Rattle.rq_state.specs.Keeping.{TellsWhether}

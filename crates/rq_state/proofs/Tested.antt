@@ -1,19 +1,15 @@
 -- What the tests of members say.
-use Rattle.std.proofs.Common.{arith}
-use Rattle.std.proofs.Common.{inl, inr, ◌⊎◌, ◌≡◌, ℕ, ◌+◌, ◌≤◌, Bool, true, ◌&&◌, List, [], ◌∷◌}
-use Rattle.std.proofs.Common.{refl}
+use Rattle.std.proofs.Common.{arith, inl, inr, ◌⊎◌, ◌≡◌, ℕ, ◌+◌, ◌≤◌, Bool, true, ◌&&◌, List, [], ◌∷◌, refl}
 use Rattle.std.specs.Prelude.{◌↔◌, IsTrue}
 use Rattle.std.specs.List.{list_all, AllByRecursion}
 use Rattle.std.proofs.lemmas.Bool.{and_parts, lt-ltb}
 use Rattle.rq_model.specs.Records.{Version, One, Two, no_queue}
 use Rattle.rq_model.specs.States.{Mark, Free, Fresh, Held, Element, Note, Definition}
 use Rattle.rq_model.specs.States.{Registrant, State, definition_at}
-use Rattle.rq_model.specs.WellFormed.{unit_is_open, IsElement, IsRegistrant, IsNote}
-use Rattle.rq_model.specs.WellFormed.{AreDefinitions, IsOneDeep}
+use Rattle.rq_model.specs.WellFormed.{unit_is_open, IsElement, IsRegistrant, IsNote, AreDefinitions, IsOneDeep}
 use Rattle.rq_model.specs.StateSpelling.{IsDeepFor}
-use Rattle.rq_state.specs.Tests.{unit_test, definitions_test, depth_test, deep_test, mark_test}
-use Rattle.rq_state.specs.Tests.{element_test, registrant_test}
-use Rattle.rq_state.specs.Tests.{note_test}
+use Rattle.rq_state.specs.Tests.{unit_test, definitions_test, depth_test, deep_test, mark_test, element_test}
+use Rattle.rq_state.specs.Tests.{registrant_test, note_test}
 
 and_true : (a b : Bool) → a ≡ true → b ≡ true → (a && b) ≡ true
 and_true a b h k = grind arith

@@ -1,6 +1,5 @@
 -- Bytes that are compared with a spelling, from the front on.
-use Rattle.std.specs.Prelude.{ℕ, Bool, false, nat_eq, ◌==◌, if◌then◌else◌, List, length, drop, Option}
-use Rattle.std.specs.Prelude.{Some, None}
+use Rattle.std.specs.Prelude.{ℕ, Bool, false, nat_eq, ◌==◌, if◌then◌else◌, List, length, drop, Option, Some, None}
 use Rattle.std.specs.List.{starts_with}
 
 -- what is left of the bytes behind the text, if they begin with it; none, once they differ

@@ -1,7 +1,7 @@
 //! Numbers of a log: as lines, and as JSON.
 
 ghost use Rattle.std.specs.Prelude.{◌≡◌, ◌++◌, ℕ, List, IfOk, IfErr, OnOk, codes, string_bytes};
-ghost use Rattle.rq_model.specs.Fronts.{Restarted};
+ghost use Rattle.rq_model.specs.Fronts as fronts;
 ghost use Rattle.rq_front.specs.Chains.{IsLog};
 ghost use Rattle.rq_judged.specs.FrontEnds.{IsEndOf};
 ghost use Rattle.rq_judged.specs.Views.{why_of};
@@ -50,7 +50,7 @@ fn json_of(alloc: Global, end: &End, measures: &Measures) -> Result<String, Trou
 
 // The numbers of a front of which the end is known.
 fn numbers_of(alloc: Global, log: &ShownLog<'_>, end: &End, json: bool) -> Result<String, Trouble>
-    requires end { (r : Restarted) × IsRestartFrom log.now.at log.now.bytes.now r
+    requires end { (r : fronts.Restarted) × IsRestartFrom log.now.at log.now.bytes.now r
         × IsEndOf r (front_end_of end.now) }
     ensures numbers { IfOk result
         (λ text. AreNumbers log.now.at log.now.bytes.now json (string_bytes text)) }

@@ -6,8 +6,7 @@ use Rattle.std.specs.Fmt.{decimal}
 use Rattle.rq_model.specs.Records.{Version}
 use Rattle.rq_model.specs.Frames.{log_limit}
 use Rattle.rq_model.specs.Closing.{IsClosed, StandsFor}
-use Rattle.rq_model.specs.Upgrading.{IsUpgraded}
-use Rattle.rq_model.specs.Upgrading.{SaysTheSame}
+use Rattle.rq_model.specs.Upgrading.{IsUpgraded, SaysTheSame}
 use Rattle.rq_model.specs.Reports.{IsReport}
 use Rattle.rq_model.specs.Checkpoints.{Audited, IsAudit, IsReportAt, TrueAt}
 use Rattle.rq_record.specs.declared.fault.Fault.{Fault}

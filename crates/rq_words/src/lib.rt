@@ -104,8 +104,7 @@ fn command_of<'a>(alloc: Global, text: &Subcommand) -> Result<Command<'a>, Alloc
         .args(arguments)
 }
 
-/// The commands of a table.
-pub fn commands<'a>(
+fn commands<'a>(
     alloc: Global,
     texts: &'static [Subcommand],
 ) -> Result<Vec<Command<'a>>, AllocError> {
@@ -114,4 +113,21 @@ pub fn commands<'a>(
         commands.push(command_of(alloc, text)?)?;
     }
     Ok(commands)
+}
+
+/// The command of a program by its name, what its help says of it, its version, and the table of its
+/// commands, one of which must be given.
+pub fn program_command<'a>(
+    alloc: Global,
+    name: &'static str,
+    about: &'static str,
+    version: &'static str,
+    texts: &'static [Subcommand],
+) -> Result<Command<'a>, AllocError> {
+    let commands = commands(alloc, texts)?;
+    Command::new(alloc, name)
+        .about(about)
+        .version(version)
+        .subcommand_required(true)
+        .subcommands(commands)
 }

@@ -16,8 +16,7 @@ use Rattle.rq_writer.specs.Script.{Line, Told, Spelled, IsLine, line_text, recor
 use Rattle.rq_writer.specs.Reading.{cut_at}
 use Rattle.rq_writer.specs.Made.{NoLine}
 use Rattle.rq_writer.specs.Making.{TellsNone}
-use Rattle.rq_writer.proofs.Parts.{cut_again, Lacks, lacks}
-use Rattle.rq_writer.proofs.Parts.{decimal_lacks, name_lacks, who_lacks}
+use Rattle.rq_writer.proofs.Parts.{cut_again, Lacks, lacks, decimal_lacks, name_lacks, who_lacks}
 
 -- a field and a space in front: any, a word, a number
 field : (front rest : List ℕ) → Lacks 10 front → Lacks 10 rest → Lacks 10 (front ++ 32 ∷ rest)

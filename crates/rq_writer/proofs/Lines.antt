@@ -8,20 +8,17 @@ use Rattle.std.proofs.lemmas.Option.{same_Some}
 use Rattle.std.proofs.lemmas.Slice.Eq.{bytes_eq-Decides}
 use Rattle.rq_record.specs.declared.fault.Fault.{Fault}
 use Rattle.rq_record.specs.declared.fault.Fault.TheVariants as faults
-use Rattle.rq_model.specs.Records.{By}
-use Rattle.rq_model.specs.Records.{Record}
-use Rattle.rq_model.specs.Records.{Define, Register, Deregister, Begin, Enqueue, Dequeue, Commit, Abort, Checkpoint}
-use Rattle.rq_model.specs.Records.{Kill, Version, One, Two}
+use Rattle.rq_model.specs.Records.{By, Record, Define, Register, Deregister, Begin, Enqueue, Dequeue, Commit, Abort}
+use Rattle.rq_model.specs.Records.{Checkpoint, Kill, Version, One, Two}
 use Rattle.rq_model.specs.Spelling.{IsRecord, IsWho, is_name}
 use Rattle.rq_bytes.proofs.Single.{bind_some, chosen}
 use Rattle.rq_writer.specs.Script.{Line, Told, Spelled}
-use Rattle.rq_writer.specs.Reading.{line_of}
+use Rattle.rq_writer.specs.Reading.{line_of, Gives, field_at, name_of, number_of, error_of, by_of, bytes_of_hex}
+use Rattle.rq_writer.specs.Reading.{unit_number, define_line, registration_at, registration_line, unit_line}
+use Rattle.rq_writer.specs.Reading.{enqueue_line, dequeue_line, checkpoint_line, kill_line, kill_line_in, told_by}
+use Rattle.rq_writer.specs.Reading.{record_at, told_line, line_at, ReadsLine}
 use Rattle.rq_writer.specs.declared.readers.ScriptLine as code
 use Rattle.rq_writer.specs.Script.{who_name, who_tag, record_text, line_text, IsTellable, IsLine, Tells}
-use Rattle.rq_writer.specs.Reading.{Gives, field_at, name_of, number_of, error_of, by_of, bytes_of_hex}
-use Rattle.rq_writer.specs.Reading.{unit_number, define_line, registration_at, registration_line, unit_line}
-use Rattle.rq_writer.specs.Reading.{enqueue_line, dequeue_line, checkpoint_line, kill_line, kill_line_in}
-use Rattle.rq_writer.specs.Reading.{told_by, record_at, told_line, line_at, ReadsLine}
 use Rattle.rq_writer.specs.Making.{TellsNone}
 use Rattle.rq_writer.proofs.Parts.{cut_takes, cut_again}
 use Rattle.rq_writer.proofs.Numbers.{number_takes, number_again}

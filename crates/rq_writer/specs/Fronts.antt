@@ -1,6 +1,5 @@
 -- The front of the log that is being made.
-use Rattle.std.specs.Prelude.{◌≡◌, ◌<◌, ◌≤◌, Bool, true, false, ⊤, List, ◌∷◌, ◌++◌, length, map}
-use Rattle.std.specs.Prelude.{Result, Ok, Err}
+use Rattle.std.specs.Prelude.{◌≡◌, ◌<◌, ◌≤◌, Bool, true, false, ⊤, List, ◌∷◌, ◌++◌, length, map, Result, Ok, Err}
 use Rattle.std.specs.List.{AllByRecursion}
 use Rattle.rq_model.specs.Records.{Record, Version}
 use Rattle.rq_model.specs.Spelling.{IsRecord}

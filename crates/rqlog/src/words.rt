@@ -3,7 +3,7 @@
 use WordForm::{Flag, Value, ValueOr};
 use clap::Command;
 use rq_file::VERSION;
-use rq_words::{SMALL, Subcommand, TEXT, WORKERS, Word, WordForm, commands};
+use rq_words::{SMALL, Subcommand, TEXT, WORKERS, Word, WordForm};
 use std::alloc::{AllocError, Global};
 
 const LOG: Word = Word(
@@ -105,10 +105,6 @@ fn subcommands() -> &'static [Subcommand] {
 
 /// The program's command.
 pub(crate) fn program<'a>(alloc: Global) -> Result<Command<'a>, AllocError> {
-    let commands = commands(alloc, subcommands())?;
-    Command::new(alloc, "rqlog")
-        .about("Appends to the log of a recoverable queue manager, marks it and carries it on")
-        .version(VERSION)
-        .subcommand_required(true)
-        .subcommands(commands)
+    let about = "Appends to the log of a recoverable queue manager, marks it and carries it on";
+    rq_words::program_command(alloc, "rqlog", about, VERSION, subcommands())
 }

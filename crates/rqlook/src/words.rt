@@ -6,18 +6,13 @@ use rq_file::VERSION;
 use rq_found::Subject;
 use rq_look::Wanted;
 use rq_page::Order;
-use rq_words::commands;
 use std::alloc::{AllocError, Global};
 
 /// The program's command.
 pub(crate) fn program<'a>(alloc: Global) -> Result<Command<'a>, AllocError> {
-    let commands = commands(alloc, subcommands())?;
-    Command::new(alloc, "rqlook")
-        .about("Shows what is in the log of a recoverable queue manager")
-        .version(VERSION)
-        .subcommand_required(true)
-        .arg_required_else_help(true)
-        .subcommands(commands)
+    let about = "Shows what is in the log of a recoverable queue manager";
+    let program = rq_words::program_command(alloc, "rqlook", about, VERSION, subcommands())?;
+    Ok(program.arg_required_else_help(true))
 }
 
 /// To how many columns the words want lines cut, 0 for none, if the output has so many where a person

@@ -1,6 +1,4 @@
-use Rattle.rq_model.proofs.Carried.{moves_on, gap_is_loud}
-use Rattle.rq_model.proofs.Carried.{later_says_the_same}
-use Rattle.rq_model.proofs.Carried.{files_join}
+use Rattle.rq_model.proofs.Carried.{moves_on, gap_is_loud, later_says_the_same, files_join}
 use Rattle.rq_model.proofs.continued_logs.Goals as goal
 
 pub returns : goal.returns

@@ -1,5 +1,4 @@
-use Rattle.rq_model.proofs.Carried.{starts_anew, front_goes_on, is_carried_gap}
-use Rattle.rq_model.proofs.Carried.{anew_joins}
+use Rattle.rq_model.proofs.Carried.{starts_anew, front_goes_on, is_carried_gap, anew_joins}
 use Rattle.rq_model.proofs.logs_begun_anew.Goals as goal
 
 pub returns : goal.returns

@@ -1,9 +1,8 @@
 use Rattle.std.proofs.Common.{All, length, arith, Vec, Global}
 use Rattle.rq_exchange.proofs.Words.{All-map, AreBare, HasKept, IsRedone, WorkDone, map-map, records_of, run}
 use Rattle.rq_exchange.specs.declared.outboxes.Redone.{Redone}
-use Rattle.rq_exchange.proofs.Courses.{starts_by_last}
+use Rattle.rq_exchange.proofs.Courses.{starts_by_last, whole}
 use Rattle.rq_exchange.proofs.Pairs.{all_second}
-use Rattle.rq_exchange.proofs.Courses.{whole}
 use Rattle.rq_exchange.proofs.replays.redo_all.Goals.{In_ok-all}
 use Rattle.rq_exchange.proofs.replays.redo_all.Goals as goal
 

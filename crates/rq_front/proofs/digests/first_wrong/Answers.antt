@@ -9,8 +9,7 @@ use Rattle.rayon.specs.declared.slice.Iter.{Iter}
 use Rattle.rayon.proofs.ToStd.{slice-AllZip}
 use Rattle.rq_front.proofs.InPieces.{IsWithin, all_within, Tells, none_wrong, first_piece, IsFirstPiece, not_all_right}
 use Rattle.rq_front.proofs.InPieces.{first_of_all}
-use Rattle.rq_front.specs.Walks.{AreSideBySide}
-use Rattle.rq_front.specs.Walks.{IsRight, IsSpanOf, IsFirstWrong}
+use Rattle.rq_front.specs.Walks.{AreSideBySide, IsRight, IsSpanOf, IsFirstWrong}
 use Rattle.rq_front.specs.declared.digests.Piece.{Piece}
 use Rattle.rq_front.specs.declared.spans.Span.{Span}
 use Rattle.rq_front.proofs.digests.first_wrong.Goals as goal

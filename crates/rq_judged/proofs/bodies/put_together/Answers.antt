@@ -30,9 +30,8 @@ returns-clause-records c = λ version bodies apart.
       | else-len-count w ↦
           (let fewer : length (map record_of front) ≡ length xs → ⊥ =
           λ same. w.if-len-count.false (omega (arith, same, size, many, c.len.ensures)) in
-          let same : map record_of c.if-len-count.front.items ≡ map record_of front =
-          ap (λ v. map record_of v.items) w.front-is in
-          subst (λ (rs : List model.Record). AreRead version bodies rs) (sym same)
+          subst (λ (rs : List model.Record). AreRead version bodies rs)
+          (sym (ap (λ v. map record_of v.items) w.front-is))
           (subst (λ (zs : List (List ℕ)). AreRead version zs (map record_of front)) whole
           (read_first version xs ys (map record_of front) apart.front fewer)))
     ]

@@ -53,6 +53,5 @@ returns g c =
       chain = begun.0;
       kept = kept;
       checkpoint = begun.1;
-      spells =
-          c.in_ok-state.ensures;
+      spells = c.in_ok-state.ensures;
     }

@@ -7,7 +7,8 @@ use Rattle.rq_record.specs.Reading.{Decodes}
 use Rattle.rq_record.specs.Views.{record_of, version_of}
 use Rattle.rq_record.specs.declared.fault.Fault.{Fault}
 use Rattle.rq_record.specs.declared.fault.Fault.TheVariants.{Form}
-use Rattle.rq_judged.proofs.FrontEnds.{not_lawful}
+use Rattle.rq_model.specs.Machine.{is_lawful}
+use Rattle.rq_model.proofs.RecordReaders.{one_record}
 use Rattle.rq_judged.proofs.ends.rule_of.Goals as goal
 
 pub unreachable-requires : goal.unreachable-requires
@@ -17,7 +18,7 @@ unreachable-requires c =
     let spelled = subst (λ (v : records.Version). Spells v x c.args.body.now) (c.version.ensures version s stands)
     c.in-Ok.ensures.decodes in
     false≢true (c.in-None.ensures.exact version s stands
-    ∙ ap not (not_lawful version s c.args.body.now r x spells breaks spelled))
+    ∙ ap not (ap (is_lawful version s) (one_record version x r c.args.body.now spelled spells) ∙ breaks))
 
 pub unreachable-requires-in-Err-Form : goal.unreachable-requires-in-Err-Form
 unreachable-requires-in-Err-Form c =

@@ -1,8 +1,7 @@
 use Rattle.std.proofs.Common.{◌+◌, ◌<◌, ◌≤◌, ◌++◌, length, sym, ap, ◌∙◌, subst, arith, List, drop}
 use Rattle.std.specs.List.{AllByRecursion}
 use Rattle.rq_model.specs.Queues.{Part, Move}
-use Rattle.rq_model.specs.Redo.{GoesWell}
-use Rattle.rq_model.specs.Redo.{sent}
+use Rattle.rq_model.specs.Redo.{GoesWell, sent}
 use Rattle.rq_model.proofs.Lists.{each_weaker}
 use Rattle.rq_queue.proofs.Ops.{first_of_rest}
 use Rattle.rq_queue.proofs.Steps.{op_done, op_sent, op_well}

@@ -1,8 +1,7 @@
 use Rattle.std.proofs.Common.{◌≡◌, ◌<◌, ◌≤◌, drop, sym, ap, ◌∙◌, subst, arith, List, ◌∷◌, ◌++◌, reverse}
 use Rattle.std.specs.List.{AllByRecursion}
 use Rattle.rq_model.specs.Queues.{Part, Op, Move}
-use Rattle.rq_model.specs.Redo.{GoesWell}
-use Rattle.rq_model.specs.Redo.{redone, all_sent}
+use Rattle.rq_model.specs.Redo.{GoesWell, redone, all_sent}
 use Rattle.rq_model.proofs.Lists.{each_weaker}
 use Rattle.rq_queue.specs.Case.{AreRising}
 use Rattle.rq_queue.proofs.Doing.{popped}

@@ -3,8 +3,7 @@ use Rattle.std.proofs.lemmas.Bool.{and_right}
 use Rattle.rq_model.specs.Machine.{leaves}
 use Rattle.rq_model.specs.States.{Element, is_fresh}
 use Rattle.rq_queue.specs.Kept.{Frees, staying}
-use Rattle.rq_queue.proofs.Doing.{freed_step, staying_more, staying_less, fresh_dropped}
-use Rattle.rq_queue.proofs.Doing.{one_passes, none_passes}
+use Rattle.rq_queue.proofs.Doing.{freed_step, staying_more, staying_less, fresh_dropped, one_passes, none_passes}
 use Rattle.rq_queue.proofs.shelves.give_back.Goals as goal
 
 pub returns-then-leaves-clause-freed : goal.returns-then-leaves-clause-freed

@@ -1,5 +1,4 @@
-use Rattle.std.proofs.Common.{arith}
-use Rattle.std.proofs.Common.{◌∙◌}
+use Rattle.std.proofs.Common.{arith, ◌∙◌}
 use Rattle.rq_state.proofs.InOrder.{ordered_map}
 use Rattle.rq_state.proofs.Neighbours.{ordered_unmap}
 use Rattle.std.proofs.lemmas.Result.{err_from_is_err_and}

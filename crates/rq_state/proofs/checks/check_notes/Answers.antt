@@ -1,5 +1,4 @@
-use Rattle.std.proofs.Common.{arith}
-use Rattle.std.proofs.Common.{◌∙◌}
+use Rattle.std.proofs.Common.{arith, ◌∙◌}
 use Rattle.rq_state.proofs.Telling.{tells_from}
 use Rattle.rq_state.proofs.Tested.{notes_tested}
 use Rattle.rq_state.proofs.checks.check_notes.Goals as goal

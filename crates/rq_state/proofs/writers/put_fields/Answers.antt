@@ -1,5 +1,4 @@
-use Rattle.std.proofs.Common.{arith}
-use Rattle.std.proofs.Common.{◌≡◌, ◌++◌, ap, ◌∙◌}
+use Rattle.std.proofs.Common.{arith, ◌≡◌, ◌++◌, ap, ◌∙◌}
 use Rattle.std.specs.Int.{w64, to_be_bytes}
 use Rattle.rq_model.proofs.StateCodes.{are_few}
 use Rattle.rq_model.specs.StateSpelling.{counted, definition_bytes, registrant_bytes, element_bytes, note_bytes}

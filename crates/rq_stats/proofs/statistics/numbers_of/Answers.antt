@@ -1,4 +1,4 @@
-use Rattle.std.proofs.Common.{◌++◌, ◌∙◌, Bool, List, ℕ, IfOk, ap, sym, subst, string_bytes}
+use Rattle.std.proofs.Common.{◌++◌, ◌∙◌, Bool, List, ℕ, ap, sym, subst, string_bytes}
 use Rattle.rq_found.specs.Ends.{beginning_text}
 use Rattle.rq_found.proofs.Lines.{same_line}
 use Rattle.rq_stats.specs.Statistics.{AreNumbers}

@@ -1,5 +1,4 @@
-use Rattle.rq_writer.proofs.OneAnswer.{every_script_has_answer}
-use Rattle.rq_writer.proofs.OneAnswer.{one_answer}
+use Rattle.rq_writer.proofs.OneAnswer.{every_script_has_answer, one_answer}
 use Rattle.rq_writer.proofs.made_logs.one_answer.Goals as goal
 
 pub returns-clause-some : goal.returns-clause-some

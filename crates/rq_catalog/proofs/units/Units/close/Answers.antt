@@ -4,8 +4,7 @@ use Rattle.std.specs.List.{list_any}
 use Rattle.std.specs.Global.{Vec}
 use Rattle.rq_catalog.specs.Units.{numbers, outcome_at, engages_at, unit_in}
 use Rattle.rq_catalog.proofs.Rising.{HasNumber, looked_at, still_rising, numbers_kept, closed_outcomes, closed_queues}
-use Rattle.rq_catalog.proofs.Rising.{missing}
-use Rattle.rq_catalog.proofs.Rising.{queues_of, number_is}
+use Rattle.rq_catalog.proofs.Rising.{missing, queues_of, number_is}
 use Rattle.rq_catalog.proofs.units.Units.close.Goals as goal
 
 unit_missing : (c : goal.In-None) → unit_in c.args.self.now c.args.number ≡ None

@@ -1,7 +1,6 @@
 use Rattle.std.proofs.Common.{◌≡◌, [], length, refl, arith, rules}
 use Rattle.rq_exchange.proofs.Words.{CountdownChain}
-use Rattle.rq_exchange.proofs.Openings.{opened_more, columns_long, has_passes, rows_are}
-use Rattle.rq_exchange.proofs.Openings.{is_chain}
+use Rattle.rq_exchange.proofs.Openings.{opened_more, columns_long, has_passes, rows_are, is_chain}
 use Rattle.rq_exchange.proofs.chain.CountdownChain.open.Goals.{In_ok-rows}
 use Rattle.rq_exchange.proofs.chain.CountdownChain.open.Goals as goal
 

@@ -1,4 +1,4 @@
-use Rattle.std.proofs.Common.{rules, ℕ, ◌+◌, List, length, take, refl, ap, subst, arith}
+use Rattle.std.proofs.Common.{rules, ℕ, ◌+◌, List, length, take, ap, subst, arith}
 use Rattle.std.proofs.lemmas.List.{length-take}
 use Rattle.rq_model.specs.Records.{Record, Version}
 use Rattle.rq_front.specs.Chains.{bodies_at}
@@ -22,8 +22,8 @@ further g c version rs has =
     (c.in_ok-reach.ensures.judged version (run empty rs) has.judge) in
     gone_on version c.frames_join.ensures.end c.frames_join.ensures.log c.frames_join.ensures.frames
     c.frames_are_right.ensures.right c.one_front.ensures.from_run
-    c.args.bytes.now part rs c.args.self.now c.args.limit found c.judge_each.new.judge c.in_ok-reach.reach
-    c.requires.short has c.requires.after c.requires.within refl
+    c.args.bytes.now rs c.args.self.now c.args.limit found c.judge_each.new.judge c.in_ok-reach.reach
+    c.requires.short has c.requires.after c.requires.within
     c.in_ok-found.ensures.run c.in_ok-found.ensures.spans c.in_ok-found.ensures.inside are
     (c.end_of-end.result.0, why_of c.end_of-end.result.1) c.end_of-end.ensures
 

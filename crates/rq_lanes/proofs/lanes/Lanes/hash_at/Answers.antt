@@ -1,6 +1,5 @@
 use Rattle.std.proofs.Common.{◌<◌, slice_index_or, [], arith}
-use Rattle.rq_lanes.specs.Messages.{lane}
-use Rattle.rq_lanes.specs.Messages.{held}
+use Rattle.rq_lanes.specs.Messages.{lane, held}
 use Rattle.rq_lanes.proofs.Blocks.{runs_on}
 use Rattle.rq_lanes.proofs.lanes.Lanes.hash_at.Goals as goal
 

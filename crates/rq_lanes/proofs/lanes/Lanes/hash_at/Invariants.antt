@@ -1,6 +1,5 @@
 use Rattle.std.proofs.Common.{ℕ, ◌<◌, ◌≤◌}
-use Rattle.rq_lanes.specs.Messages.{lane}
-use Rattle.rq_lanes.specs.Messages.{HasTakenIn, held}
+use Rattle.rq_lanes.specs.Messages.{lane, HasTakenIn, held}
 use Rattle.rq_lanes.proofs.lanes.Lanes.hash_at.Given as goal
 
 abbrev pub invariant-steps : goal.invariant-steps

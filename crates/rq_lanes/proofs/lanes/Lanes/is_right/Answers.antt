@@ -1,7 +1,6 @@
 use Rattle.std.proofs.Common.{◌+◌, ℕ, ap, ◌∙◌, arith}
 use Rattle.std.specs.Prelude.{slice_range}
-use Rattle.rq_lanes.specs.Messages.{lane}
-use Rattle.rq_lanes.specs.Messages.{held}
+use Rattle.rq_lanes.specs.Messages.{lane, held}
 use Rattle.rq_lanes.proofs.Holding.{ended}
 use Rattle.rq_lanes.proofs.lanes.Lanes.is_right.Goals as goal
 

@@ -1,7 +1,6 @@
 use Rattle.std.proofs.Common.{◌≡◌, All, ◌++◌, map, reverse, vec_len, vec_items, ap, sym}
 use Rattle.std.proofs.Common.{subst, ◌∙◌, arith, append-nil, rules}
-use Rattle.rq_pool.proofs.Words.{reverse-reverse, nil_from_length, IsStocked, IsWhole, deck_id, deck_list}
-use Rattle.rq_pool.proofs.Words.{All-push}
+use Rattle.rq_pool.proofs.Words.{reverse-reverse, nil_from_length, IsStocked, IsWhole, deck_id, deck_list, All-push}
 use Rattle.std.proofs.lemmas.Grind.{common_steps, elements}
 use Rattle.rq_pool.proofs.Lists.{map-reverse}
 use Rattle.rq_pool.proofs.deque_room.DequeRoom.decks_of.Goals as goal

@@ -1,5 +1,4 @@
-use Rattle.std.proofs.Common.{◌≡◌, [], length, map, replicate, vec_len, ap, sym, subst, ◌∙◌, arith}
-use Rattle.std.proofs.Common.{Some, rules}
+use Rattle.std.proofs.Common.{◌≡◌, [], length, map, replicate, vec_len, ap, sym, subst, ◌∙◌, arith, Some, rules}
 use Rattle.rq_pool.proofs.Words.{length-map, IsWhole, deck_id, IsSeatBeside, All-push, All-pop}
 use Rattle.std.proofs.lemmas.Grind.{common_steps, elements}
 use Rattle.rq_pool.proofs.Dealing.{next_owner}

@@ -2,11 +2,10 @@ use Rattle.std.proofs.Common.{◌≡◌, List, length, map, sym, ap, ◌∙◌, 
 use Rattle.rq_model.specs.States.{State, Definition, id_before, registrant_before}
 use Rattle.rq_model.specs.WellFormed.{IsWellFormed}
 use Rattle.rq_model.specs.Queues.{Part, part_of}
-use Rattle.rq_state.specs.Laws.{gathered}
+use Rattle.rq_state.specs.Laws.{gathered, HasSame}
 use Rattle.rq_record.specs.declared.record.UnitNo.{UnitNo}
 use Rattle.rq_state.specs.Views.{unit_of}
 use Rattle.rq_state.specs.Inside.{state_of}
-use Rattle.rq_state.specs.Laws.{HasSame}
 use Rattle.rq_state.specs.Orders.{state_in_order, place_before}
 use Rattle.rq_queue.proofs.Gathered.{members, is_same}
 use Rattle.rq_standing.specs.Parts.{ArePartsOf}

@@ -1,6 +1,5 @@
 use Rattle.std.proofs.Common.{◌∙◌, [], List, ap, map}
-use Rattle.std.specs.Prelude.{slice_index_or}
-use Rattle.std.specs.Prelude.{None}
+use Rattle.std.specs.Prelude.{slice_index_or, None}
 use Rattle.rq_model.specs.States as model
 use Rattle.rq_state.proofs.state.State.copied_notes_of.Goals as goal
 
