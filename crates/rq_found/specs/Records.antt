@@ -2,11 +2,12 @@
 -- a record's kind, unit and queue, and how many queues are defined behind it; what a registrant did.
 use Rattle.std.specs.Prelude.{◌≡◌, ℕ, ◌+◌, ◌<◌, ◌≤◌, ◌==◌, min, if◌then◌else◌, List, [], ◌∷◌, length}
 use Rattle.std.specs.Prelude.{drop, take, codes, Option, Some, None, option_map}
-use Rattle.rq_model.specs.Frames.{stated, body_in}
-use Rattle.rq_model.specs.Records.{Record, Define, Register, Deregister, Begin, Enqueue, Dequeue}
+use Rattle.rq_model.specs.Frames.{stated, body_in, HasHeader}
+use Rattle.rq_model.specs.Records.{Version, Record, Define, Register, Deregister, Begin, Enqueue, Dequeue}
 use Rattle.rq_model.specs.Records.{Commit, Abort, Checkpoint, Kill}
 use Rattle.rq_model.specs.Reports.{kind_text}
-use Rattle.rq_model.specs.States.{Last, Registrant}
+use Rattle.rq_model.specs.StateSpelling.{SpellsState}
+use Rattle.rq_model.specs.States.{Last, Registrant, State}
 use Rattle.rq_found.specs.declared.frames.Placed.{Placed}
 use Rattle.rq_found.specs.declared.frames.PlacedFrames.{PlacedFrames}
 use Rattle.rq_found.specs.declared.registrants.LastShown.{LastShown}
@@ -16,6 +17,10 @@ use Rattle.rq_found.specs.declared.registrants.RegistrantShown.{RegistrantShown}
 abbrev pub front_at : Option ℕ → ℕ
 front_at None = 40
 front_at (Some at) = at
+
+-- the state that the bytes spell in a log of the version that the header of b names
+abbrev pub SpelledIn : List ℕ → List ℕ → State → Type 0
+SpelledIn b kept s = (version : Version) × HasHeader version b × SpellsState version s kept
 
 -- they are the frames of the first `used` bytes of b, from an offset on; the first has the number
 abbrev pub StandFrom : List ℕ → ℕ → ℕ → ℕ → PlacedFrames → Type 0
@@ -62,6 +67,11 @@ queue_shown (Enqueue unit queue priority by payload) = Some queue
 queue_shown (Dequeue unit queue by) = Some queue
 queue_shown (Kill queue element) = Some queue
 queue_shown r = None
+
+-- the queue that a record defines or names, if so many are defined before it
+abbrev pub queue_about : ℕ → Record → Option ℕ
+queue_about queues (Define limit error name) = Some queues
+queue_about queues r = queue_shown r
 
 -- how many queues are defined behind a body, of which so many are before it: one more if its first
 -- byte is that of a definition

@@ -6,7 +6,7 @@ ghost use Rattle.rq_model.specs.Spelling.{Spells};
 ghost use Rattle.rq_record.specs.Views.{record_of};
 ghost use Rattle.rq_record.specs.declared.fault.Fault.TheVariants.{Resources};
 ghost use Rattle.rq_found.specs.Records as records;
-ghost use Rattle.rq_found.specs.Records.{kind_word, queue_shown, unit_shown};
+ghost use Rattle.rq_found.specs.Records.{kind_word, queue_about, queue_shown, unit_shown};
 
 use crate::frames::Placed;
 use rq_record::{Fault, KeptRecord, QueueNo, UnitNo, Version, decode_kept};
@@ -48,7 +48,10 @@ impl Numbered {
     }
 
     /// The queue that it defines or names.
-    pub fn queue(&self) -> Option<QueueNo> {
+    pub fn queue(&self) -> Option<QueueNo>
+        ensures { option_map (λ queue. queue.0) result
+            ≡ queue_about self.now.queues (record_of self.now.record) }
+    {
         match &self.record {
             KeptRecord::Define { .. } => Some(QueueNo(self.queues)),
             record => queue_named(record),

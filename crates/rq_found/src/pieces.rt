@@ -1,8 +1,9 @@
 //! Words and numbers, one behind the other. What puts many of them is cheap to prove by a table of
 //! them: each format text of its own is dear, and so is each way out.
 
-ghost use Rattle.std.specs.Prelude.{◌≡◌, ◌++◌, OnOk, string_bytes};
+ghost use Rattle.std.specs.Prelude.{◌≡◌, ◌++◌, IfOk, OnOk, length, min, string_bytes, take};
 ghost use Rattle.std.specs.List.{flat_map};
+ghost use Rattle.rq_model.specs.Reports.{hex_of};
 ghost use Rattle.rq_found.specs.Texts.{piece_text};
 
 use std::alloc::{AllocError, Global};
@@ -41,13 +42,16 @@ pub fn put_text_pieces(text: &mut String, pieces: &[TextPiece<'_>]) -> Put
     Ok(())
 }
 
-/// Puts the first bytes as digits, two each, and answers how many these are.
+/// Puts the first bytes, `most` at most, as digits, two each, and answers how many bytes these are.
 pub fn put_digits(
     alloc: Global,
     text: &mut String,
     bytes: &[u8],
     most: usize,
-) -> Result<usize, AllocError> {
+) -> Result<usize, AllocError>
+    ensures { IfOk result (λ shown. (shown ≡ min (length bytes.now) most) × (string_bytes text.new
+        ≡ string_bytes text.old ++ flat_map hex_of (take shown bytes.now))) }
+{
     let shown = bytes.len().min(most);
     text.push_str(hex::encode(alloc, &bytes[..shown])?.as_str())?;
     Ok(shown)

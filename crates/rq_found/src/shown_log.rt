@@ -1,12 +1,14 @@
 //! A log that is shown: where its records begin, and its restart from there.
 
-ghost use Rattle.std.specs.Prelude.{◌≡◌, None, IfOk, IfErr, IfSome, IfNone, OnOk, drop, take};
+ghost use Rattle.std.specs.Prelude.{◌≡◌, ℕ, List, Some, None, IfOk, IfErr, IfSome, IfNone};
+ghost use Rattle.std.specs.Prelude.{OnOk, drop, take};
 ghost use Rattle.rq_model.specs.Carrying.{carried_gap};
+ghost use Rattle.rq_model.specs.Checkpoints.{IsCheckpointAt};
 ghost use Rattle.rq_model.specs.States.{empty};
 ghost use Rattle.rq_front.specs.Chains.{IsHeaded, IsLog};
 ghost use Rattle.rq_found.specs.Ends.{IsRestartFrom};
 ghost use Rattle.rq_found.specs.Refusals.{RefusedFrom};
-ghost use Rattle.rq_found.specs.Records.{StandFrom, front_at};
+ghost use Rattle.rq_found.specs.Records.{SpelledIn, StandFrom, front_at};
 ghost use Rattle.rq_record.specs.declared.fault.Fault.TheVariants.{Resources};
 
 use crate::frames::{PlacedFrames, first_frame};
@@ -44,7 +46,10 @@ pub fn begins_at(bytes: &[u8]) -> Option<u64>
 }
 
 // The state that the checkpoint at an offset spells.
-fn state_at(alloc: Global, bytes: &[u8], at: u64) -> Option<State> {
+fn state_at(alloc: Global, bytes: &[u8], at: u64) -> Option<State>
+    ensures { (kept : List ℕ) → IsCheckpointAt bytes.now at kept
+        → IfSome result (SpelledIn bytes.now kept) }
+{
     let version = version(bytes)?;
     let (frame, _) = first_frame(bytes.get(at as usize..)?)?;
     let spelled = frame.body.get(1..)?;
@@ -58,6 +63,8 @@ fn state_at(alloc: Global, bytes: &[u8], at: u64) -> Option<State> {
 /// there is one, which a restart has found there.
 pub fn first_state(alloc: Global, bytes: &[u8], at: Option<u64>) -> Result<State, Fault>
     ensures beginning { at ≡ None → IfOk result (λ s. s ≡ empty) }
+    ensures there { (offset : ℕ) (kept : List ℕ) → at ≡ Some offset
+        → IsCheckpointAt bytes.now offset kept → IfOk result (SpelledIn bytes.now kept) }
     ensures refused { IfErr result (λ e. e ≡ Resources) }
 {
     let Some(at) = at else {

@@ -1,9 +1,10 @@
 //! The frames of a log: the body of one, what it is linked to, one more at the end, and how workers
 //! share them.
 
-ghost use Rattle.std.specs.Prelude.{◌≡◌, ◌≤◌, length, drop, IfOk};
+ghost use Rattle.std.specs.Prelude.{◌≡◌, ◌≤◌, ◌==◌, if◌then◌else◌, length, drop, IfOk};
 ghost use Rattle.rq_model.specs.Frames.{HasFrame, IsBodyLength, before, body_in, digest, frame};
 ghost use Rattle.rq_record.specs.Writing.{Appends};
+ghost use Rattle.rq_plan.specs.Plans.{grain_of, workers_of};
 
 use byteorder::{BigEndian, ByteOrder};
 use rq_front::frame;
@@ -45,7 +46,8 @@ pub fn append_frame(prev: &[u8; 32], body: &[u8], out: &mut Vec<u8>) -> Result<[
 /// How many frames a worker checks in one piece: those of the plan's grain, and all of them where
 /// it is alone, so that no thread is started.
 pub fn grain_of(plan: &Plan) -> u32
-    ensures { 1 ≤ result }
+    ensures range { 1 ≤ result }
+    ensures size { result ≡ if workers_of plan.now == 1 then 4294967295 else grain_of plan.now }
 {
     if plan.workers() == 1 {
         u32::MAX

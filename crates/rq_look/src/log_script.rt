@@ -2,7 +2,6 @@
 
 ghost use Rattle.std.specs.Prelude.{◌≡◌, ◌∷◌, ◌++◌, ℕ, List, true, false, IfOk, IfErr, OnOk};
 ghost use Rattle.std.specs.Prelude.{string_bytes};
-ghost use Rattle.std.specs.List.{flat_map};
 ghost use Rattle.std.specs.Fmt.{decimal};
 ghost use Rattle.std.specs.Io.KnownBytes.{Appends};
 ghost use Rattle.rq_model.specs.Frames.{AreBytes};
@@ -10,7 +9,7 @@ ghost use Rattle.rq_model.specs.Fronts.{Restarted, IsRestart};
 ghost use Rattle.rq_model.specs.Records as model;
 ghost use Rattle.rq_model.specs.Records.{Two};
 ghost use Rattle.rq_model.specs.Spelling.{Spells};
-ghost use Rattle.rq_model.specs.Reports.{hex_of, payload_text};
+ghost use Rattle.rq_model.specs.Reports.{payload_text};
 ghost use Rattle.rq_record.specs.Views.{record_of};
 ghost use Rattle.rq_front.specs.Chains.{IsLog};
 ghost use Rattle.rq_judged.specs.FrontEnds.{IsEndOf};
@@ -23,22 +22,14 @@ ghost use Rattle.rq_look.specs.Scripts.{script_line};
 
 use crate::sheet::{relieve, write_out};
 use crate::shown_records::by_of;
-use rq_found::{End, Numbered, Placed, PlacedFrames, Put, ShownLog, Trouble, end_of, is_whole};
+use rq_found::{End, Numbered, Placed, PlacedFrames, Put, ShownLog, Trouble};
+use rq_found::{end_of, is_whole, put_digits};
 use rq_record::{KeptBy, KeptName, KeptRecord, QueueNo, UnitNo};
 use rq_report::put_error;
 use rq_restart::Plan;
 use std::alloc::Global;
 use std::thread::Threads;
 use std::{fmt, io};
-
-fn put_digits(alloc: Global, text: &mut String, bytes: &[u8]) -> Put
-    ensures { OnOk result
-        (string_bytes text.new ≡ string_bytes text.old ++ flat_map hex_of bytes.now) }
-{
-    let digits = hex::encode(alloc, bytes)?;
-    text.push_str(digits.as_str())?;
-    Ok(())
-}
 
 fn put_hex(alloc: Global, text: &mut String, bytes: &[u8]) -> Put
     ensures text { OnOk result
@@ -48,7 +39,8 @@ fn put_hex(alloc: Global, text: &mut String, bytes: &[u8]) -> Put
     if bytes.is_empty() {
         return text.push_str("-");
     }
-    put_digits(alloc, text, bytes)
+    put_digits(alloc, text, bytes, bytes.len())?;
+    Ok(())
 }
 
 fn put_definition(text: &mut String, name: &KeptName, limit: u16, error: QueueNo) -> Put
