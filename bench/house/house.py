@@ -11,6 +11,7 @@ usage: house.py
   `ONE_THING` lists is one thing that is said of two, methods of `PLAIN` mean what their types make of them, and those of
   `STAYING` are known to callers.
 - Files are nouns: the name of a file or folder of code that ends with *ing* is no thing, unless a type has that name.
+- ARCHITECTURE's table of crates says of each file of code what it decides, but for the file that a crate begins with.
 - A function only forwards if it is private, has one caller, and its body is one call with its own parameters.
 Ends with status 1 if there is one of any of these.
 """
@@ -245,6 +246,15 @@ def no_things(crate: str) -> list[str]:
             if os.path.basename(it).endswith("ing") and os.path.basename(it).replace("_", "") not in things]
 
 
+def untold(crate: str) -> list[str]:
+    """The files of a crate that the row of the crate in the table does not name."""
+    table = text_in(os.path.join(TOP, "docs", "ARCHITECTURE.md"))
+    rows = re.findall(rf"^\| `{crate}` \| .* \| .* \|$", table, re.M)
+    top = os.path.join(CRATES, crate, "src")
+    files = [os.path.relpath(it, top) for it in files_of(crate, "src/**/*.rt")]
+    return [f"{crate}/{it}" for it in files if it not in ("lib.rt", "main.rt") and f"`{it}`" not in "".join(rows)]
+
+
 def of_two(found: list[str]) -> list[str]:
     """Without those that are one thing."""
     return [it for it in found if not is_one_thing(*it.split(": "))]
@@ -286,6 +296,7 @@ def counted(crates: list[str]) -> dict[str, list[str]]:
         "functions that stand for two things": of_two(functions_of_two(calls)),
         "methods that stand for two things": of_two(methods_of_two(calls)),
         "files that are no things": [it for crate in untried for it in no_things(crate)],
+        "files that no row tells": [it for crate in untried for it in untold(crate)],
         "functions that only forward": [it for crate in crates for it in forwarders(crate)],
     }
 
