@@ -53,6 +53,7 @@ pub fn put_digits(
         ≡ string_bytes text.old ++ flat_map hex_of (take shown bytes.now))) }
 {
     let shown = bytes.len().min(most);
-    text.push_str(hex::encode(alloc, &bytes[..shown])?.as_str())?;
+    let digits = hex::encode(alloc, &bytes[..shown])?;
+    text.push_str(digits.as_str())?;
     Ok(shown)
 }
