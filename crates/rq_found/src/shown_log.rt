@@ -5,11 +5,11 @@ ghost use Rattle.std.specs.Prelude.{OnOk, drop, take};
 ghost use Rattle.rq_model.specs.Carrying.{carried_gap};
 ghost use Rattle.rq_model.specs.Checkpoints.{IsCheckpointAt};
 ghost use Rattle.rq_model.specs.States.{empty};
+ghost use Rattle.rq_record.specs.declared.fault.Fault.TheVariants.{Resources};
 ghost use Rattle.rq_front.specs.Chains.{IsHeaded, IsLog};
 ghost use Rattle.rq_found.specs.Ends.{IsRestartFrom};
 ghost use Rattle.rq_found.specs.Refusals.{RefusedFrom};
 ghost use Rattle.rq_found.specs.Records.{SpelledIn, StandFrom, front_at};
-ghost use Rattle.rq_record.specs.declared.fault.Fault.TheVariants.{Resources};
 
 use crate::frames::{PlacedFrames, first_frame};
 use rq_front::{CARRIED_AT, HEADER_LEN, is_carried, version};
