@@ -22,8 +22,9 @@ ghost use Rattle.rq_look.specs.Scripts.{script_line};
 
 use crate::sheet::{relieve, write_out};
 use crate::shown_records::by_of;
-use rq_found::{End, Numbered, Placed, PlacedFrames, Put, ShownLog, Trouble};
-use rq_found::{end_of, is_whole, put_digits};
+use rq_found::{
+    End, Numbered, Placed, PlacedFrames, Put, ShownLog, Trouble, end_of, is_whole, put_digits,
+};
 use rq_record::{KeptBy, KeptName, KeptRecord, QueueNo, UnitNo};
 use rq_report::put_error;
 use rq_restart::Plan;
