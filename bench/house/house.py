@@ -296,7 +296,7 @@ def counted(crates: list[str]) -> dict[str, list[str]]:
         "functions that stand for two things": of_two(functions_of_two(calls)),
         "methods that stand for two things": of_two(methods_of_two(calls)),
         "files that are no things": [it for crate in untried for it in no_things(crate)],
-        "files that no row tells": [it for crate in untried for it in untold(crate)],
+        "files of which no row tells": [it for crate in untried for it in untold(crate)],
         "functions that only forward": [it for crate in crates for it in forwarders(crate)],
     }
 
