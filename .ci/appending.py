@@ -9,7 +9,7 @@ from __future__ import annotations
 import json, os, re, sys, tempfile
 from collections.abc import Callable
 
-import carrying, counting, unharmed
+import carrying, counting, ordering, unharmed
 from tables.asking import MAKE
 from tables.carried import CARRIED_AT, GAP
 from tables.lawful import TABLES, cases
@@ -28,6 +28,7 @@ UNLAWFUL = {
     b"commit 7": b"unit 7 is not open",
     b"abort 1": b"unit 1 is not open",
     b"begin 5": b"unit 5 is not above unit 5, the greatest so far",
+    b"begin 3": b"unit 3 is not above unit 5, the greatest so far",
     b"register 1 ann": b"queue 1 is not defined",
     b"deregister 0 bob": b"bob is not registered with queue 0",
     b"define jobs 0 -": b"a queue is named jobs already",
@@ -341,7 +342,7 @@ def near_the_end() -> None:
 
 
 PARTS = [words, appends, refuses, rules, lawful, kills, damaged, cut_anywhere, marks, carries, cut_behind_a_carry, without_a_beginning, by_pipes]
-PARTS += [near_the_end, *carrying.PARTS, *unharmed.PARTS]
+PARTS += [near_the_end, *carrying.PARTS, *ordering.PARTS, *unharmed.PARTS]
 
 
 def main() -> None:

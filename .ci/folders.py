@@ -111,7 +111,7 @@ def calls() -> None:
     """What is done with a file before it is told to be made: if one of it fails, or if the file is exchanged."""
     shim = built("calls")
     if shim is None:
-        print("no C compiler: the calls that end the work on a file are not seen")
+        print("left out: the calls that end the work on a file need a C compiler")
         return
     log, closed = log_of_bytes(64, "closed")
     for line in [["make", "closed.script", "judged/out"], ["close", log, "judged/out", 1], ["upgrade", log, "judged/out", 1]]:

@@ -490,7 +490,7 @@ def threads() -> None:
     at a time; those that check digests, if the grain leaves several pieces, are two for each core at most."""
     shim = built("threads", "-lpthread")
     if shim is None:
-        print("no C compiler: threads are not counted")
+        print("left out: to count threads needs a C compiler")
         return
     long = long_log()
     for line in lines_of(ALONE, OFFSET=halfway_log()):

@@ -15,7 +15,7 @@ SMALL += ["upgrade two.log MADE 1"]
 def scarce() -> None:
     """A run that is refused ends the same all the same, or with `resources` and nothing written."""
     if built("threads", "-lpthread") is None:
-        print("no C compiler: no allocation is refused")
+        print("left out: to refuse allocations needs a C compiler")
         return
     sweep = Sweep(RQ, os.path.abspath("swept"))
     for line in lines_of(SMALL, MADE=os.path.join(sweep.made, "log")):

@@ -1,5 +1,5 @@
 #!/usr/bin/env python3
-"""Tries ./rq, ./rqlook, ./rqlog, tools/ship and tools/install in a small clone, with programs and a toolchain that only tell how they were
+"""Tries ./rq, ./rqlook, ./rqlog, tools/ship, tools/install and tools/release in a small clone, with programs and a toolchain that only tell how they were
 called: which program is run, when one is built, what is refused and installed. And tries in what order tools/proofs.py lets checks begin.
 
 usage: scripts.py
@@ -8,6 +8,7 @@ Prints a line for each thing that is not as it must be, and at last `N passed, M
 from __future__ import annotations
 import fcntl, os, pty, shutil, struct, subprocess, sys, tempfile, termios
 from contextlib import contextmanager, nullcontext
+from datetime import date
 from types import SimpleNamespace
 from typing import Any, Callable, Dict, Iterator, List, Tuple
 
@@ -42,8 +43,9 @@ TOOLS = {
 }
 SETTINGS = "glibc.malloc.hugetlb=1:glibc.malloc.mmap_threshold=524288:glibc.malloc.trim_threshold=16777216"
 NO_TOOLCHAIN = "the toolchain is not there"
-INSTALLED = ["bin/rq", "bin/rqlog", "bin/rqlook", "libexec/rq/installed", "libexec/rq/rq", "libexec/rq/rqlog", "libexec/rq/rqlook"]
-INSTALLED += ["share/man/man1/rq.1", "share/man/man1/rqlog.1", "share/man/man1/rqlook.1"]
+INSTALLED = ["bin/rq", "bin/rq-many", "bin/rqlog", "bin/rqlook"]
+INSTALLED += ["libexec/rq/installed", "libexec/rq/rq", "libexec/rq/rqlog", "libexec/rq/rqlook"]
+INSTALLED += ["share/man/man1/rq-many.1", "share/man/man1/rq.1", "share/man/man1/rqlog.1", "share/man/man1/rqlook.1"]
 
 
 def put(path: str, text: str, mode: int = 0o644) -> None:
@@ -83,7 +85,7 @@ class Clone:
         self.folder, self.kit = os.path.join(folder, "a clone"), os.path.join(folder, "kit")
         for name in ("tools", "docs"):
             shutil.copytree(os.path.join(TOP, name), self.at(name), ignore=shutil.ignore_patterns("measured", "__pycache__"))
-        for name in ("rq", "rqlook", "rqlog", "HANDLES"):
+        for name in ("rq", "rqlook", "rqlog", "rq-many", "HANDLES"):
             shutil.copy(os.path.join(TOP, name), self.at(name))
         put(self.at("crates.txt"), "low: byteorder\nrq: low\nrqlook: low\nrqlog: low\n")
         for name in SOURCES:
@@ -240,7 +242,30 @@ def installing(clone: Clone) -> None:
     check("over a file of another", (clone.run("tools/install", prefix)[0], files_below(prefix)), (1, INSTALLED))
     check("taking away", (clone.run("tools/install", "--uninstall", prefix)[0], files_below(prefix)), (0, ["bin/rq"]))
     check("beside a file of another", (clone.run("tools/install", prefix)[0], files_below(prefix)), (1, ["bin/rq"]))
+    other_names(clone, prefix)
     links(clone, prefix)
+
+
+def other_names(clone: Clone, prefix: str) -> None:
+    """Beside a program of the name rq, ours has another one; and back again."""
+    status, _, said = clone.run("tools/install", prefix)
+    check("how ours is named", (status, "--rq NAME installs our rq under another name" in said), (1, True))
+    ours = sorted("bin/rq-ours" if it == "bin/rq" else "share/man/man1/rq-ours.1" if it.endswith("/rq.1") else it for it in INSTALLED)
+    check("by another name", (clone.run("tools/install", "--rq", "rq-ours", prefix)[0], files_below(prefix)), (0, sorted(["bin/rq", *ours])))
+    check("what it runs", ended([os.path.join(prefix, "bin", "rq-ours")], {"PATH": PATH})[1].startswith("rq-x86"), True)
+    check("its manual", content(os.path.join(prefix, "share/man/man1/rq-ours.1")), content(clone.at("docs/rq.1")))
+    check("the other program", content(os.path.join(prefix, "bin", "rq")), "another")
+    check("a third name", (clone.run("tools/install", "--rq", "rq-3", prefix)[0], os.path.exists(os.path.join(prefix, "bin/rq-ours"))), (0, False))
+    for line in (["--rq", "rqlog", prefix], ["--rq", "a/b", prefix], ["--rq", "", prefix], ["--rq", "x"], ["--rq", "x", "--uninstall", prefix]):
+        check(f"the words {line[:2]}", clone.run("tools/install", *line)[0], 2)
+    check("away", (clone.run("tools/install", "--uninstall", prefix)[0], files_below(prefix)), (0, ["bin/rq"]))
+    beside = os.path.join(os.path.dirname(prefix), "beside")
+    os.mkdir(beside)
+    said = clone.run("tools/install", beside, PATH=os.path.join(prefix, "bin") + os.pathsep + PATH)
+    check("another rq on PATH that can't be run", (said[0], "is another program" in said[2]), (0, False))
+    os.chmod(os.path.join(prefix, "bin", "rq"), 0o755)
+    said = clone.run("tools/install", beside, PATH=os.path.join(prefix, "bin") + os.pathsep + PATH)
+    check("another rq on PATH is told", (said[0], f"{prefix}/bin/rq is another program" in said[2]), (0, True))
 
 
 def links(clone: Clone, prefix: str) -> None:
@@ -257,6 +282,67 @@ def links(clone: Clone, prefix: str) -> None:
     check("below DESTDIR", (clone.run("tools/install", "/usr", DESTDIR=below)[0], files_below(usr)), (0, INSTALLED))
     check("its program", "exec '/usr/libexec/rq/rq'" in content(os.path.join(usr, "bin", "rq")), True)
     check("away from there", (clone.run("tools/install", "--uninstall", "/usr", DESTDIR=below)[0], files_below(below)), (0, []))
+
+
+# The steps of a release that are commands: the file of each, which says its words, and fails if it is to.
+STEPS = {"bench/house/versions.py": "versions", "tools/ship": "dist", "test": "test", "tools/deb": "package", "tools/image": "image",
+         "bench/many/packages.py": "packages"}
+STEP = """#!/usr/bin/env python3
+import os, sys
+print("{name}", *(it for it in sys.argv[1:] if it[0] != "/"))
+if "{name}" == "package":
+    open(os.path.join(sys.argv[1], "a_1.0_amd64.deb"), "w").close()
+if "{name}" == "image":
+    os.makedirs(sys.argv[2])
+    open(os.path.join(sys.argv[2], "index.json"), "w").close()
+sys.exit("{name}" in os.environ.get("FAILING", ""))
+"""
+CHANGES = "# What is new\n\n## Not released\n\n- Much.\n\n## 1.0, 2026-11-27\n\nThe first.\n"
+
+
+def releasing(clone: Clone) -> None:
+    """The steps of a release, in their order, with stand-ins; and the next version, in each place."""
+    put(clone.at("crates/rq_file/src/version.rt"), '/// The version.\npub const VERSION: &str = "1.0";\n')
+    put(clone.at("CHANGELOG.md"), CHANGES)
+    for path, name in STEPS.items():
+        put(clone.at(path), STEP.format(name=name), 0o755)
+    git = ["git", "-C", clone.folder, "-c", "user.name=a", "-c", "user.email=a@b"]
+    for words in (["init", "-q"], ["add", "-A"], ["commit", "-qm", "all"]):
+        subprocess.run([*git, *words], check=True)
+    folder = os.path.join(os.path.dirname(clone.folder), "release")
+    status, out, _ = clone.run("tools/release", folder)
+    check("what is not released", (status, "not done: changes: " in out, "1 steps are not done" in out), (1, True, True))
+    check("the steps", [it[3:] for it in out.splitlines() if it.startswith("== ")][:-1],
+          ["tree", "versions", "changes", "dist", "test", "shipped", "package", "image", "packages"])
+    check("their commands", [it for it in out.splitlines() if it.split(" ")[0] in STEPS.values()],
+          ["versions", "dist --check", "test", "test --shipped", "package", "image", "packages"])
+    check("what is left to people", [it for it in out.splitlines() if it.startswith("left to you")],
+          ["left to you: a licence: package and image say that they are not licensed for distribution", "left to you: the tag: git tag v1.0"])
+    check("what it leaves", files_below(folder), ["SHA256SUMS", "a_1.0_amd64.deb", "a_1.0_amd64.oci.tar"])
+    check("over it", clone.run("tools/release", folder)[0], 1)
+    shutil.rmtree(folder)
+    status, out, _ = clone.run("tools/release", "--without", "shipped", folder, FAILING="test package")
+    check("steps that fail", (status, [it.split(":")[1][1:] for it in out.splitlines() if it.startswith("not done")]),
+          (1, ["changes", "test", "shipped", "package"]))
+    shutil.rmtree(folder)
+    next_version(clone, folder)
+
+
+def next_version(clone: Clone, folder: str) -> None:
+    for words in (["1.0"], ["0.9"], ["2"], ["1.1.1"], ["1.1", "x"]):
+        check(f"the next version is {words}", clone.run("tools/release", "--next", *words)[0] in (1, 2), True)
+    check("the next version", clone.run("tools/release", "--next", "1.10")[0], 0)
+    told = [content(clone.at(it)).count("1.10") for it in ("crates/rq_file/src/version.rt", "rq-many", "CHANGELOG.md", "docs/rq.1", "docs/rq-many.1")]
+    check("each place", told, [1] * 5)
+    head = content(clone.at("docs/rq-many.1")).partition("\n")[0]
+    check("a manual's head", head, f'.TH RQ\\-MANY 1 "{date.today()}" "rq\\-many 1.10" "User Commands"')
+    check("the changes", f"## 1.10, {date.today()}\n\n- Much.\n\n## 1.0, " in content(clone.at("CHANGELOG.md")), True)
+    check("none is left", clone.run("tools/release", "--next", "1.11")[0], 1)
+    status, out, _ = clone.run("tools/release", folder)
+    check("now it is not committed", (status, "not done: tree: " in out, "not done: changes: " in out), (1, True, False))
+    subprocess.run(["git", "-C", clone.folder, "-c", "user.name=a", "-c", "user.email=a@b", "commit", "-qam", "next"], check=True)
+    shutil.rmtree(folder)
+    check("all is done", clone.run("tools/release", folder)[0::2], (0, ""))
 
 
 # Checks of a crate, of one above it, of one beside them, of a program over the first two, and two wrong bodies of the first: for each,
@@ -326,7 +412,7 @@ def main() -> None:
     os.chmod(folder, 0o755)
     try:
         clone = Clone(folder)
-        for part in (words, shipping, terminals, changes, bytes_changed, building, read_only, installing, order, side_by_side):
+        for part in (words, shipping, terminals, changes, bytes_changed, building, read_only, installing, order, side_by_side, releasing):
             try:
                 part(clone)
             except Exception as fault:

@@ -217,7 +217,7 @@ def at_every_call() -> None:
     """Each call on a file fails in turn, or is the last one before the run is killed."""
     shim = built("../bench/faults/fault")
     if shim is None:
-        print("no C compiler: no call on a file is let fail")
+        print("left out: to let calls on files fail needs a C compiler")
         return
     log = "called.log"
     put("more.script", MORE)
@@ -249,7 +249,7 @@ class Appends(Sweep):
 def scarce() -> None:
     """Each allocation and each thread is refused in turn: a run ends the same all the same, or says so and changes nothing."""
     if built("../bench/faults/fault") is None:
-        print("no C compiler: no allocation is refused")
+        print("left out: to refuse allocations needs a C compiler")
         return
     put("more.script", MORE)
     sweep = Appends(content(plain("scarce", START)))

@@ -68,8 +68,17 @@ def built_peer(folder: str) -> str:
     source = os.path.join(HERE, "peer.rs")
     if not os.path.exists(peer) or os.path.getmtime(peer) < os.path.getmtime(source):
         build = ["rustc", "--edition", "2024", "-O", "-C", "target-cpu=native", source, "-l", "crypto", "-o", peer]
-        subprocess.run(build, check=True, stderr=subprocess.DEVNULL)
+        subprocess.run(build, check=True, stderr=subprocess.PIPE)
     return peer
+
+
+def can_link_crypto(folder: str) -> bool:
+    """Whether rustc links a program with OpenSSL's library here."""
+    source, program = os.path.join(folder, "empty.rs"), os.path.join(folder, "empty")
+    with open(source, "w", encoding="ascii") as file:
+        file.write("fn main() {}\n")
+    build = ["rustc", source, "-l", "crypto", "-o", program]
+    return subprocess.run(build, stdout=subprocess.DEVNULL, stderr=subprocess.DEVNULL).returncode == 0
 
 
 def log_of(peer: str, folder: str, shape: str, mib: int, seed: int = 1) -> str:

@@ -1,42 +1,46 @@
 #!/usr/bin/env python3
 """Tries the wrong bodies of the crates, many of different functions in one check, and holds them against receipts.
 
-usage: wrong_bodies.py [--jobs N] [--said FOLDER] [--write] [CRATE | CRATE/EDIT ..]
+usage: wrong_bodies.py [--jobs N] [--said FOLDER] [--write] [--due | CRATE | CRATE/EDIT ..]
        wrong_bodies.py --receipt
        wrong_bodies.py --gate [--jobs N]
-A wrong body is an edit of `crates/NAME/must-fail`, which `rt ci` tries too, of `crates/NAME/wrong-bodies`, or of `each-time` or
-`in-turn` in that. It must be refused by a goal of a function that it changes: one that stays open, or whose answer no longer proves it. It
+A wrong body is an edit of `crates/NAME/must-fail`, which `rt ci` tries too, of `crates/NAME/wrong-bodies`, or of `each-time` in
+that. It must be refused by a goal of a function that it changes: one that stays open, or whose answer no longer proves it. It
 fails if it is not refused, if it is refused only in another function or since a proof file names what it took away, or if it no
-longer applies.
-With no words all are tried. --write then writes the receipt of each crate of which one was refused
-(`crates/NAME/wrong-bodies/receipt`), the only file in the checkout that is written. It tells of each that was refused, and of those
-that were not tried what it told before, if the crate and those below it are the same since. --said keeps what each check said.
+longer applies. An answer that no longer proves its goal may not prove that of a right body either. So an edit may have a twin, a right
+body of the same shape, in its lines `right:`. That is tried too, and a wrong body whose twin is not proved fails.
+With no words all are tried; with --due those of which no receipt holds. --write then writes the receipt of each crate of which one was
+refused (`crates/NAME/wrong-bodies/receipt`), the only file in the checkout that is written. It tells of each that was refused, and of
+those that were not tried what it told before, as far as that holds. --said keeps what each check said.
 --receipt proves nothing: it holds each wrong body against its receipt, which is of the toolchain's logic, of this text of the
-edit, of the crate and of all crates below it. --gate does that too, but tries all wrong bodies of crates that are not what their
-receipt is of, those of `each-time` of all crates, and of those of `in-turn` a few of one crate, drawn anew in each run. Then it
-tries others, drawn in the same way: a few of one crate at least, and a few of another if both take no more than two processor
-minutes, as it reckons. Libraries are taken as the checkout has them, if `rt` built them of these files; else all are proved first
-in a copy, which takes what other checkouts on the machine hold.
+edit, and of all that the check of it reads: all of the functions that it changes with their proofs, and of the rest of the crate and of
+the crates below the statements that these name (wrong/readings.py). --gate does that too, but tries all wrong bodies of which no receipt
+holds, and those of `each-time` of all crates. Then it tries others, drawn anew in each run: a few of one crate at least, and a few of
+another if both take no more than two processor minutes, as it reckons. It tells how many rest on an answer alone, and say little.
+Libraries are taken as the checkout has them, if `rt` built them of these files; else all are proved first in a copy, which takes what
+other checkouts on the machine hold.
 """
 from __future__ import annotations
 import argparse, os, random, signal, sys, threading
 from concurrent.futures import ThreadPoolExecutor
-from typing import Dict, List, Optional, Sequence, Tuple
+from typing import Dict, List, Optional, Sequence, Set
 
 sys.dont_write_bytecode = True
 from wrong.checks import Tried, stop, tried
-from wrong.edits import EACH_TIME, IN_TURN, OTHERS, Batch, Edit, applied, batches_of, edits_of, few_of
-from wrong.places import places
-from wrong.receipts import Sums, beside, gone, held, made_of, receipt_of, written
-from wrong.verdicts import Verdict
+from wrong.edits import EACH_TIME, OTHERS, Batch, Edit, applied, batches_of, edits_of, few_of
+from wrong.places import built, places
+from wrong.receipts import Sums, beside, bytes_of, gone, held, made_of, receipt_of, written
+from wrong.statements import not_taken
+from wrong.verdicts import NO_PROOF, Verdict
 
 TOP = os.path.dirname(os.path.dirname(os.path.abspath(__file__)))
 # The processor seconds that the gate spends on drawn wrong bodies, what it reckons a check of them at before it knows better, and
 # how many batches it draws at most, of how many wrong bodies.
 SECONDS, RECKONED, DRAWN, FEW = 120, 60, 2, 8
-# How many functions the check of a batch that is drawn proves as a rule: some two seconds each. What a batch may need at most, of
-# those that are tried in turn and of all others.
-WIDE, WIDEST = 25, {IN_TURN: 1000, OTHERS: 60}
+# How a wrong body was refused, the most telling first.
+KINDS = ("by a goal that stays open", "by an answer, and its twin is proved", "by an answer alone, which says less")
+# How many functions the check of a batch that is drawn proves as a rule: some two seconds each.
+WIDE = 25
 
 
 def tell(line: str) -> None:
@@ -44,10 +48,11 @@ def tell(line: str) -> None:
 
 
 class Trial:
-    """The batches that are to be tried, and what those took that were drawn. All threads of a run take from it."""
+    """The batches that are to be tried, and what those took that were drawn. All threads of a run take from it, of some crates one
+    batch after the other."""
 
-    def __init__(self, due: Sequence[Batch], drawn: Sequence[Batch]):
-        self.due, self.drawn = list(due), list(drawn)
+    def __init__(self, due: Sequence[Batch], drawn: Sequence[Batch], in_turn: Set[str]):
+        self.due, self.drawn, self.in_turn = list(due), list(drawn), in_turn
         self.going: List[Batch] = []
         self.begun: List[Batch] = []
         self.spent, self.longest, self.is_stopped = 0.0, float(RECKONED), False
@@ -58,17 +63,23 @@ class Trial:
         now = sum(1 for it in self.going if it in self.begun)
         return bool(self.drawn) and (not self.begun or self.spent + (now + 1) * self.longest <= SECONDS)
 
+    def ready(self) -> List[Batch]:
+        """The batches that may begin now: of those that are due, or of the drawn ones if none is."""
+        busy = self.in_turn & {it.edits[0].crate for it in self.going}
+        return [it for it in self.due or self.drawn[: self.may_draw()] if it.edits[0].crate not in busy]
+
     def next(self) -> Optional[Batch]:
         """The next batch: one that is due, else one that was drawn. None, if there is none, once no check can make one due."""
         with self.alone:
-            while not (self.due or self.is_stopped or self.may_draw()) and self.going:
+            while not (self.ready() or self.is_stopped) and self.going:
                 self.alone.wait()
-            if self.is_stopped or not (self.due or self.may_draw()):
+            if self.is_stopped or not self.ready():
                 return None
-            if not self.due:
-                self.begun.append(self.drawn[0])
-            self.going.append((self.due or self.drawn).pop(0))
-            return self.going[-1]
+            batch = self.ready()[0]
+            self.begun += [] if self.due else [batch]
+            (self.due or self.drawn).remove(batch)
+            self.going.append(batch)
+            return batch
 
     def ended(self, batch: Batch, seconds: float, again: List[Batch]) -> None:
         """Notes that a check ended, what it took and what is to be tried once more."""
@@ -93,24 +104,34 @@ class Run:
         self.found: Dict[Edit, Verdict] = {}
         self.seconds: Dict[str, float] = {}
 
-    def batches(self, crate: str, wanted: Optional[List[Edit]] = None) -> List[Batch]:
-        """The batches of the crate's wrong bodies, or of some. Those that do not apply are told as such, and are in none."""
-        good = []
-        for edit in self.edits[crate] if wanted is None else wanted:
+    def batches(self, crate: str, wanted: Sequence[Edit]) -> List[Batch]:
+        """The batches of some of the crate's wrong bodies and of their twins. What does not apply is told as such, and is in none."""
+        good: List[Edit] = []
+        twins = [twin for it in wanted for twin in it.twin()]
+        for edit in [*wanted, *twins]:
             try:
                 applied(edit, self.sums.texts(crate))
                 good.append(edit)
             except ValueError as why:
-                self.found[edit] = Verdict(False, "", f"it no longer applies: {why}")
-        return batches_of(good, self.sums.texts(crate))
+                self.found[edit] = Verdict(False, "", f"{'its twin' if edit.is_twin else 'it'} no longer applies: {why}")
+        return [batch for is_twin in (False, True) for batch in batches_of([it for it in good if it.is_twin == is_twin], self.sums.texts(crate))]
+
+    def verdict(self, edit: Edit) -> Verdict:
+        """What was found of a wrong body that was tried: it counts for nothing if its twin is not proved."""
+        failed = [self.found[it] for it in edit.twin() if it in self.found and not self.found[it].is_well]
+        return failed[0] if failed and self.found[edit].is_well else self.found[edit]
+
+    def judged(self) -> Dict[Edit, Verdict]:
+        """What was found of the wrong bodies that were tried."""
+        return {it: self.verdict(it) for it in self.found if not it.is_twin}
 
     def told(self, batch: Batch, done: Tried) -> List[Batch]:
         """Notes what a check of a batch came to, and answers what is to be tried once more: in smaller batches, or each alone."""
         crate, alone = batch.edits[0].crate, len(batch.edits) == 1
         self.seconds[crate] = self.seconds.get(crate, 0) + done.seconds
-        open_ = [it for it in batch.edits if not done.verdicts[it].is_refused]
+        open_ = [it for it in batch.edits if not done.verdicts[it].is_well]
         tell(f"{crate}: {len(batch.edits)} in one check, {len(open_)} not judged by it, {done.seconds:.0f} s")
-        self.found.update({it: verdict for it, verdict in done.verdicts.items() if verdict.is_refused or alone})
+        self.found.update({it: verdict for it, verdict in done.verdicts.items() if verdict.is_well or alone})
         if alone:
             return []
         rest = [it for it in open_ if done.broken and it not in done.broken]
@@ -120,19 +141,22 @@ class Run:
 
     def try_all(self, due: Sequence[Batch], drawn: Sequence[Batch] = (), by_receipts: bool = False) -> None:
         """Tries the batches that are due, side by side, and alone the wrong bodies that a batch does not judge. Of those that are
-        drawn it tries one, and others while they take no longer than the gate may spend. By receipts, it first checks only the
-        functions that these name and what they call, and proves no crate whole for that."""
-        crates = [it.edits[0].crate for it in [*due, *drawn]]
+        drawn it tries one, and others while they take no longer than the gate may spend. By receipts, or if they are few of their
+        crate, it first checks only the functions that receipts name and what they call, and proves no crate whole for that."""
+        first = [*due, *drawn]
+        crates = [it.edits[0].crate for it in first]
         if not crates:
             return
-        trial, first = Trial(due, drawn), [*due, *drawn]
-        counts = {it: 1 if by_receipts else crates.count(it) for it in crates}
+        many = {it: sum(len(one.edits) for one in first if one.edits[0].crate == it) for it in crates}
+        lean = {it for it in crates if by_receipts or many[it] <= FEW}
+        counts = {it: 1 if it in lean else crates.count(it) for it in crates}
+        trial = Trial(due, drawn, {it for it, count in counts.items() if count == 1})
         with places(TOP, counts, self.jobs, tell) as at, ThreadPoolExecutor(self.jobs) as pool:
 
             def work(_: int) -> None:
                 try:
                     for batch in iter(trial.next, None):
-                        functions = functions_of(batch) if by_receipts and batch in first else ()
+                        functions = functions_of(batch) if batch.edits[0].crate in lean and batch in first else ()
                         done = tried(at[batch.edits[0].crate], batch, self.said, functions)
                         with trial.alone:
                             trial.ended(batch, done.seconds, self.told(batch, done))
@@ -149,12 +173,13 @@ class Run:
 
     def write(self) -> None:
         """Writes the receipts of the crates of which a wrong body was refused. What a receipt tells of those that were not tried
-        stays, if it is of the same sums and texts."""
+        stays, as far as it holds."""
+        judged = self.judged()
         for crate, edits in self.edits.items():
-            refused = {it: self.found[it] for it in edits if it in self.found and self.found[it].is_refused}
+            refused = {it: judged[it] for it in edits if it in judged and judged[it].is_well}
             if refused:
-                others = [it for it in edits if it not in self.found]
-                written(TOP, crate, beside(self.sums, crate, others, made_of(self.sums, crate, refused)))
+                others = [it for it in edits if it not in judged]
+                written(TOP, crate, beside(self.sums, crate, others, made_of(self.sums, refused)))
 
 
 def wanted_of(run: Run, words: List[str]) -> List[Batch]:
@@ -170,63 +195,88 @@ def wanted_of(run: Run, words: List[str]) -> List[Batch]:
 
 
 def functions_of(batch: Batch) -> List[str]:
-    """The functions that the receipt names for the wrong bodies of the batch."""
+    """The functions that the receipt names for the wrong bodies of the batch; none, if it does not tell of one."""
     lines = receipt_of(TOP, batch.edits[0].crate).lines
-    return [lines[it.name].function for it in batch.edits]
+    is_told = all(it.name in lines for it in batch.edits)
+    return [lines[it.name].function for it in batch.edits] if is_told else []
 
 
-def drawn(run: Run, crates: List[str], part: str, count: int) -> List[Batch]:
-    """Small batches of these crates, drawn anew in each run from a folder of wrong bodies: one and a few others of its crate. From
-    nothing a check proves all that the functions call, so others that call half a crate are left to a change of that crate."""
-    left = [it for crate in crates for it in run.edits[crate] if it.part() == part]
+def drawn(run: Run, of: Dict[str, List[Edit]]) -> List[Batch]:
+    """Small batches of these wrong bodies but those of each time, drawn anew in each run: one and a few others of its crate. From
+    nothing a check proves all that the functions call, so those beside the first call little more than it does."""
+    left = [it for edits in of.values() for it in edits if it.part() == OTHERS]
     random.shuffle(left)
     made: List[Batch] = []
-    while left and len(made) < count:
+    while left and len(made) < DRAWN:
         crate = left[0].crate
-        some = few_of([it for it in left if it.crate == crate], run.sums.texts(crate), FEW, WIDE, WIDEST[part])
-        left = [it for it in left[1:] if it not in some.edits]
-        made += [some] if some.edits else []
+        made.append(few_of([it for it in left if it.crate == crate], run.sums.texts(crate), FEW, WIDE))
+        left = [it for it in left[1:] if it not in made[-1].edits]
     return made
 
 
-def against_receipts(run: Run) -> Tuple[Dict[str, str], List[str]]:
-    """What does not hold by the receipts, by label, and the crates whose receipts hold whole."""
+def against_receipts(run: Run) -> Dict[str, str]:
+    """What does not hold by the receipts, by label."""
     wrong: Dict[str, str] = {}
-    same = []
     for crate, edits in run.edits.items():
-        lost = gone(run.sums, crate, edits)
-        wrong.update({f"{crate}/{name}": "its receipt tells of it, and it is gone" for name in lost})
-        is_same, why = held(run.sums, crate, edits)
-        for edit in edits:
-            try:
-                applied(edit, run.sums.texts(crate))
-            except ValueError as error:
-                why[edit.name] = f"it no longer applies: {error}"
-        wrong.update({f"{crate}/{name}": it for name, it in why.items()})
-        same += [crate] if edits and is_same and not why else []
-    return wrong, same
+        wrong.update({f"{crate}/{name}": "its receipt tells of it, and it is gone" for name in gone(run.sums, crate, edits)})
+        wrong.update({f"{crate}/{name}": why for name, why in held(run.sums, crate, edits).items()})
+    return wrong
+
+
+def missed_heads(run: Run) -> Dict[str, str]:
+    """The files of code of which a built library has heads that no reading takes, by label."""
+    wrong: Dict[str, str] = {}
+    for crate, rlib in built(TOP).items():
+        for path, text in run.sums.readings().crates[crate].files.items():
+            heads = os.path.join(rlib, "lang", path)
+            if path.endswith(".rt") and os.path.isfile(heads):
+                missed = not_taken(text, bytes_of(heads).decode())
+                wrong.update({f"{crate}/{path}": f"its heads as they were built say more than readings take: {missed[:8]}"} if missed else {})
+    return wrong
+
+
+def due_of(run: Run, wrong: Dict[str, str]) -> List[Batch]:
+    """The batches of the wrong bodies of which no receipt holds."""
+    due = {crate: [it for it in edits if it.label() in wrong] for crate, edits in run.edits.items()}
+    for crate, edits in due.items():
+        if edits:
+            tell(f"{crate}: of {len(edits)} of {len(run.edits[crate])} wrong bodies no receipt holds")
+    return [batch for crate, edits in due.items() for batch in run.batches(crate, edits)]
 
 
 def gate(run: Run) -> Dict[str, str]:
-    """What is wrong by the receipts, once the wrong bodies were tried of crates that are not what theirs are of, those that each
-    gate tries, some of those that are tried in turn, and some of the others."""
-    wrong, same = against_receipts(run)
-    changed = [crate for crate, edits in run.edits.items() if edits and crate not in same]
-    for crate in changed:
-        tell(f"{crate}: not what its receipt is of; its {len(run.edits[crate])} are tried")
-    run.try_all([it for crate in changed for it in run.batches(crate)])
-    each = {crate: [it for it in run.edits[crate] if it.part() == EACH_TIME] for crate in same}
-    due = [it for crate in same for it in run.batches(crate, each[crate])] + drawn(run, same, IN_TURN, 1)
-    run.try_all(due, drawn(run, same, OTHERS, DRAWN), by_receipts=True)
-    labels = {it.label() for it in run.found}
+    """What is wrong by the receipts, once the wrong bodies were tried of which none holds, those that each gate tries, and some of the
+    others."""
+    wrong = {**against_receipts(run), **missed_heads(run)}
+    run.try_all(due_of(run, wrong))
+    same = {crate: [it for it in edits if it.label() not in wrong] for crate, edits in run.edits.items()}
+    each = {crate: [it for it in edits if it.part() == EACH_TIME] for crate, edits in same.items()}
+    run.try_all([batch for crate, edits in each.items() for batch in run.batches(crate, edits)], drawn(run, same), by_receipts=True)
+    judged = run.judged()
+    labels = {it.label() for it in judged}
+    held_ = {it.label() for edits in same.values() for it in edits}
     wrong = {label: why for label, why in wrong.items() if label not in labels}
-    for edit, verdict in run.found.items():
+    for edit, verdict in judged.items():
         line = receipt_of(TOP, edit.crate).lines.get(edit.name)
-        if not verdict.is_refused:
+        if not verdict.is_well:
             wrong[edit.label()] = verdict.told
-        elif edit.crate in same and line and line.function != verdict.function:
+        elif edit.label() in held_ and line and line.function != verdict.function:
             wrong[edit.label()] = f"{verdict.function} is refused, and not {line.function}, as its receipt tells"
     return wrong
+
+
+def tell_kinds(run: Run, wrong: Dict[str, str]) -> None:
+    """Tells by what kinds of goals those were refused of which nothing is wrong: as was found now, or as their receipts have it. An
+    answer that no longer proves its goal says little, unless that of a right twin still does."""
+    rest: Dict[str, int] = {}
+    judged = run.judged()
+    for crate, edits in run.edits.items():
+        lines = receipt_of(TOP, crate).lines
+        for edit in (it for it in edits if it.label() not in wrong):
+            is_answer = (judged[edit].told if edit in judged else lines[edit.name].goal).endswith(NO_PROOF)
+            kind = KINDS[is_answer + (is_answer and not edit.right)]
+            rest[kind] = rest.get(kind, 0) + 1
+    tell("refused " + "; ".join(f"{kind}: {rest[kind]}" for kind in KINDS if kind in rest))
 
 
 def ended(wrong: Dict[str, str], labels: List[str]) -> int:
@@ -240,7 +290,7 @@ def ended(wrong: Dict[str, str], labels: List[str]) -> int:
 def words_of() -> argparse.Namespace:
     reader = argparse.ArgumentParser(usage="wrong_bodies.py --help says how", add_help=False)
     reader.add_argument("-h", "--help", action="store_true")
-    for name in ("--receipt", "--gate", "--write"):
+    for name in ("--receipt", "--gate", "--write", "--due"):
         reader.add_argument(name, action="store_true")
     reader.add_argument("--jobs", type=int, default=len(os.sched_getaffinity(0)))
     reader.add_argument("--said", default="")
@@ -259,11 +309,11 @@ def main() -> int:
     try:
         run = Run(max(1, words.jobs), os.path.abspath(words.said) if words.said else "")
         every = [it.label() for edits in run.edits.values() for it in edits]
-        if words.receipt:
-            return ended(against_receipts(run)[0], every)
-        if words.gate:
-            return ended(gate(run), every)
-        run.try_all(wanted_of(run, words.wanted))
+        if words.receipt or words.gate:
+            wrong = gate(run) if words.gate else against_receipts(run)
+            tell_kinds(run, wrong)
+            return ended(wrong, every)
+        run.try_all(due_of(run, against_receipts(run)) if words.due else wanted_of(run, words.wanted))
     except ValueError as error:
         tell(str(error))
         tell("0 passed, 1 failed")
@@ -271,8 +321,8 @@ def main() -> int:
     if words.write:
         run.write()
     tell("; ".join(f"{crate} {seconds / 60:.1f} min" for crate, seconds in sorted(run.seconds.items())))
-    wrong = {it.label(): verdict.told for it, verdict in run.found.items() if not verdict.is_refused}
-    return ended(wrong, [it.label() for it in run.found])
+    judged = run.judged()
+    return ended({it.label(): verdict.told for it, verdict in judged.items() if not verdict.is_well}, [it.label() for it in judged])
 
 
 if __name__ == "__main__":

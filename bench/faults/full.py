@@ -1,8 +1,9 @@
 #!/usr/bin/env python3
-"""Appends to a log that has room for 44 bytes more, and carries it on: what fits stands, and what does not is told.
+"""Takes the programs to the limits of a log's length: a file of more than 1 GiB is read to its end, and one of more than 4 GiB is too
+long. It appends to a log that has room for 44 bytes more, and carries it on: what fits stands, and what does not is told.
 
-usage: full.py RQ RQLOG [--folder DIR]
-The log is of checkpoints that are nothing but zeros, so its file has holes, and takes little of the disk. To make it costs a digest
+usage: full.py RQ RQLOG RQLOOK [--folder DIR]
+The last log is of checkpoints that are nothing but zeros, so its file has holes, and takes little of the disk. To make it costs a digest
 over 4 GiB, and so does each run. The last line is `N passed, M failed`.
 """
 from __future__ import annotations
@@ -52,6 +53,28 @@ def make(path: str) -> None:
             digest = write_zeros(file, digest, length)
 
 
+def sparse(path: str, length: int) -> str:
+    """A file that begins as a log, and has zeros behind its header."""
+    with open(path, "wb") as file:
+        file.write(header_of(1))
+        file.truncate(length)
+    return path
+
+
+def reads_all(rq: str, rqlog: str, look: str, path: str) -> None:
+    """What the programs say of a file of more than 1 GiB, and of one that is longer than a log may be."""
+    length = 2**30 + 4096
+    read = b" 40 of %d bytes, length" % length
+    for words, status in (([rq, "restart", "LOG", "1", "1000"], 0), ([rqlog, "restart", "LOG"], 0), ([look, "dump", "LOG"], 0)):
+        line = [sparse(path, length) if it == "LOG" else it for it in words]
+        said = run(*line)
+        check(f"{' '.join(words[1:])}, more than 1 GiB", (said[0], read in said[1], said[2]), (status, True, b""))
+        sparse(path, MOST + 1)
+        status, said, error = run(*line)
+        check(f"{' '.join(words[1:])}, more than 4 GiB", (status, said, b"too long" in error), (1, b"", True))
+    os.remove(path)
+
+
 def run(*words: str, script: bytes = b"") -> tuple[int, bytes, bytes]:
     begun = time.monotonic()
     done = subprocess.run(words, input=script, capture_output=True)
@@ -63,7 +86,9 @@ def run(*words: str, script: bytes = b"") -> tuple[int, bytes, bytes]:
 def main() -> int:
     words = parser()
     words.add_argument("rqlog")
+    words.add_argument("rqlook")
     options = parsed(words)
+    reads_all(options.program, options.rqlog, options.rqlook, os.path.join(options.folder, "sparse.log"))
     rqlog, log, new = options.rqlog, os.path.join(options.folder, "full.log"), os.path.join(options.folder, "full.carried")
     make(log)
     check("length", os.path.getsize(log), MOST - ROOM)

@@ -7,7 +7,7 @@ Without files: README.md and docs/*.md.
 A document shows a terminal session at the top of the clone: a fenced block marked `sh`, in which a line that begins with
 `$ ` is a command, lines that begin with `> ` go on with it, and the lines below, up to the next command or the end of the
 block, are all that it prints, on standard output and standard error. Each session that names `./rq` is run. The sessions of one document are run in turn in
-one folder, which has `rq`, `rqlook`, `rqlog`, `examples` and `bench` of the clone and starts without any other file; `./rq` is then a link.
+one folder, which has `rq`, `rqlook`, `rqlog`, `rq-many`, `examples` and `bench` of the clone and starts without any other file; `./rq` is then a link.
 A fenced block that names `./rq` and is no such session is counted as a difference. Other blocks are not run.
 
 With --program, --look and --write a built program stands in the place of a root script. Without them a root script whose program
@@ -65,7 +65,7 @@ def fill(folder: str, programs: dict[str, str]):
     """Makes the folder look like the clone to whoever runs a session there."""
     for name, program in programs.items():
         os.symlink(os.path.abspath(program), os.path.join(folder, name))
-    for name in ("examples", "bench"):
+    for name in ("rq-many", "examples", "bench"):
         os.symlink(os.path.join(TOP, name), os.path.join(folder, name))
 
 

@@ -12,8 +12,10 @@ usage: house.py
   `STAYING` are known to callers.
 - Files are nouns: the name of a file or folder of code that ends with *ing* is no thing, unless a type has that name.
 - ARCHITECTURE's table of crates says of each file of code what it decides, but for the file that a crate begins with.
+- The wrong bodies that `PINNED` lists are there, as edits that each gate tries, and there are `LEAST` in all. Who takes one away takes it
+  from there too.
 - A function only forwards if it is private, has one caller, and its body is one call with its own parameters.
-Ends with status 1 if there is one of any of these.
+The last line is `N passed, M failed`: of these rules those that hold, and what breaks one. The status is 1 if anything does.
 """
 from __future__ import annotations
 import glob, os, re, sys
@@ -24,6 +26,8 @@ from common import TOP, text_in
 from untested import TESTS
 
 CRATES = os.path.join(TOP, "crates")
+# The wrong bodies without which the program would be worth nothing, and how many there are at least of all.
+PINNED, LEAST = os.path.join(TOP, "bench", "house", "pinned.txt"), 700
 # The head of a definition, or of a module with parameters, in which some stand.
 HEAD = re.compile(r"^(?:abbrev |unfolding |unfoldable |pub |record |data )*(?!use |open |infix|ruleset |pub mod |mod )([^\s(){}:]+)(?= [^=\n]*(?::|where)| :)", re.M)
 INNER = re.compile(r"^  (?:abbrev |unfolding |pub |record |data )*([^\s(){}:]+)(?: [^=\n]*?)? :", re.M)
@@ -298,7 +302,18 @@ def counted(crates: list[str]) -> dict[str, list[str]]:
         "files that are no things": [it for crate in untried for it in no_things(crate)],
         "files of which no row tells": [it for crate in untried for it in untold(crate)],
         "functions that only forward": [it for crate in crates for it in forwarders(crate)],
+        "wrong bodies that are missed": missed(),
     }
+
+
+def missed() -> list[str]:
+    """The wrong bodies that have to be there and are not, those where nobody looks for them, and how many are too few."""
+    with open(PINNED, encoding="utf-8") as lines:
+        pinned = [line.split()[0] for line in lines if line.strip() and not line.startswith("#")]
+    found = [it for it in pinned if not os.path.isfile(os.path.join(CRATES, *it.replace("/", "/wrong-bodies/each-time/", 1).split("/")) + ".edit")]
+    every = glob.glob(os.path.join(CRATES, "*", "wrong-bodies", "**", "*.edit"), recursive=True)
+    astray = [os.path.relpath(it, CRATES) for it in every if os.path.basename(os.path.dirname(it)) not in ("wrong-bodies", "each-time")]
+    return found + astray + [f"{len(every)} in all, and not {LEAST}"] * (len(every) < LEAST)
 
 
 def main() -> int:
@@ -307,9 +322,9 @@ def main() -> int:
     for title, found in lists.items():
         for it in found:
             print(f"{title}: {it}")
-    for title, found in lists.items():
-        print(f"{len(found):5} {title}")
-    return 1 if any(lists.values()) else 0
+    failed = sum(map(len, lists.values()))
+    print(f"{sum(1 for found in lists.values() if not found)} passed, {failed} failed")
+    return 1 if failed else 0
 
 
 if __name__ == "__main__":

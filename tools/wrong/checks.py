@@ -43,7 +43,8 @@ def limits_of(batch: Batch, functions: Sequence[str]) -> List[str]:
 
 
 def said_of(place: Place, batch: Batch, functions: Sequence[str]) -> Tuple[str, float]:
-    """What the check of the crate with the batch says, and its processor seconds. Nothing is written beside the room."""
+    """What the check of the crate with the batch says, and its processor seconds. It begins from a copy of what other checks kept; if
+    there is nothing, from what those of this run kept, which then go one after the other."""
     with tempfile.TemporaryDirectory(prefix="wrong-bodies-") as room:
         for path, text in batch.texts.items():
             os.makedirs(os.path.dirname(os.path.join(room, path)), exist_ok=True)
@@ -53,6 +54,8 @@ def said_of(place: Place, batch: Batch, functions: Sequence[str]) -> Tuple[str, 
         if place.kept:
             shutil.copytree(place.kept, os.path.join(room, "kept"), copy_function=link_or_copy)
             words += ["--incremental", os.path.join(room, "kept")]
+        else:
+            words += ["--incremental", place.work]
         with open(os.path.join(room, "said"), "w+", encoding="utf-8", errors="replace") as said:
             run = subprocess.Popen(words, cwd=room, stdin=subprocess.DEVNULL, stdout=said, stderr=said, text=True)
             RUNNING.add(run)

@@ -10,8 +10,8 @@ CONST = re.compile(r"^(?:pub(?:\([^)]*\))? )?(?:const|static) (\w+)")
 CLAUSE = re.compile(r"^\s*(?:ghost|requires|ensures)\b", re.M)
 # As many wrong bodies are tried in one check at most.
 MOST = 32
-# The folder of a crate's wrong bodies, and those in it of the ones that the gate tries in each run, and in turn.
-OTHERS, EACH_TIME, IN_TURN = "wrong-bodies", "each-time", "in-turn"
+# The folder of a crate's wrong bodies, and that in it of the ones that the gate tries in each run.
+OTHERS, EACH_TIME = "wrong-bodies", "each-time"
 
 
 class Function(NamedTuple):
@@ -32,15 +32,22 @@ class Span(NamedTuple):
 
 
 class Edit(NamedTuple):
-    """A wrong body: its crate, its name, its file, and for each pair the file of the crate, the old text and the new one."""
+    """A wrong body: its crate, its name, its file, and for each pair the file of the crate, the old text and the new one. Or its twin,
+    a right body of the same shape, which shows that the shape is not what is refused."""
 
     crate: str
     name: str
     file: str
     pairs: Tuple[Tuple[str, str, str], ...]
+    right: Tuple[Tuple[str, str, str], ...] = ()
+    is_twin: bool = False
 
     def label(self) -> str:
         return f"{self.crate}/{self.name}"
+
+    def twin(self) -> "List[Edit]":
+        """Its twin, if it has one."""
+        return [self._replace(pairs=self.right, right=(), is_twin=True)] if self.right else []
 
     def part(self) -> str:
         """The folder in which it stands."""
@@ -58,29 +65,37 @@ class Applied(NamedTuple):
     reaches_out: bool
 
 
-def pairs_of(text: str) -> Iterator[Tuple[str, str, str]]:
-    """The file, the old text and the new one of each pair of an edit."""
-    path = old = ""
-    for line in text.split("\n"):
-        if line.startswith("file: "):
-            path = line[len("file: ") :].strip()
-        elif line.startswith("old: "):
-            old = line[len("old: ") :]
-        elif line.startswith("new:"):
-            new = line[len("new:") :]
-            yield path, old, new[1:] if new.startswith(" ") else new
+def pairs_of(text: str) -> Iterator[Tuple[str, str, str, str]]:
+    """The file, the old text and the new one of each pair of an edit, and what its twin has in place of the new one."""
+    path = old = new = ""
+    for line in [*text.split("\n"), "old: "]:
+        word, _, rest = line.partition(":")
+        rest = rest[1:] if rest.startswith(" ") else rest
+        if word == "right":
+            yield path, old, new, rest
+        elif old and word in ("file", "old"):
+            yield path, old, new, new
+        path = rest.strip() if word == "file" else path
+        old = rest if word == "old" else "" if word in ("file", "right") else old
+        new = rest if word == "new" else new
+
+
+def edit_of(crate: str, file: str) -> Edit:
+    """The edit in a file of the crate."""
+    with open(file, encoding="utf-8") as text:
+        found = list(pairs_of(text.read()))
+    pairs, right = tuple((path, old, new) for path, old, new, _ in found), tuple((path, old, other) for path, old, _, other in found)
+    return Edit(crate, os.path.basename(file)[: -len(".edit")], file, pairs, right if right != pairs else ())
 
 
 def edits_of(folder: str) -> List[Edit]:
     """The edits of the crate in this folder, by name, of all folders of wrong bodies."""
     crate, found = os.path.basename(folder), []
-    for part in ("must-fail", OTHERS, os.path.join(OTHERS, EACH_TIME), os.path.join(OTHERS, IN_TURN)):
+    for part in ("must-fail", OTHERS, os.path.join(OTHERS, EACH_TIME)):
         at = os.path.join(folder, part)
         for name in os.listdir(at) if os.path.isdir(at) else ():
             if name.endswith(".edit"):
-                with open(os.path.join(at, name), encoding="utf-8") as file:
-                    pairs = tuple(pairs_of(file.read()))
-                found.append(Edit(crate, name[: -len(".edit")], os.path.join(at, name), pairs))
+                found.append(edit_of(crate, os.path.join(at, name)))
     if len({it.name for it in found}) < len(found):
         raise ValueError(f"two wrong bodies of {crate} have one name")
     return sorted(found, key=lambda it: it.name)
@@ -96,17 +111,31 @@ def holder_of(head: str) -> str:
     return " ".join(it[0] for it in names if it)
 
 
+def body_of(text: str, indent: str, at: int) -> Tuple[int, int]:
+    """Where the body of a function begins whose head does at `at`, and where it ends. One without a body ends where it would begin."""
+    depth, is_first = 0, True
+    for line in text[at:].splitlines(keepends=True):
+        own, begin, at = is_first or line[len(indent) :][:1] not in ("", " "), at, at + len(line)
+        bare, is_first = line.rstrip(), False
+        if not depth and own and "{" in bare:
+            body = begin + (len(indent) if line.startswith(indent + "{") else bare.find(" {") + 1)
+            end = text.find(f"\n{indent}}}", at - 1)
+            return body, begin + len(bare) if bare.endswith("}") else len(text) if end < 0 else end + len(indent) + 2
+        depth += bare.count("{") - bare.count("}")
+        if not depth and bare.endswith(";"):
+            return at, at
+    return len(text), len(text)
+
+
 def functions_of(path: str, text: str) -> List[Span]:
-    """The functions of the file. The files are laid out: a function ends at a brace below its head, and if it has a contract
-    its body begins at one."""
+    """The functions of the file. The files are laid out: a body begins and ends at a brace below the head, or stands behind the head
+    in its line."""
     holders = [(it.start(), text.find("\n}", it.end()), holder_of(it[0])) for it in HOLDER.finditer(text)]
     found = []
     for head in HEAD.finditer(text):
-        end = text.find(f"\n{head[1]}}}", head.end())
         holder = next((name for begin, last, name in holders if begin < head.start() < last), "")
-        last = len(text) if end < 0 else end + len(head[1]) + 2
-        body = text.find(f"\n{head[1]}{{\n", head.end(), last)
-        found.append(Span(head.start(), body if body > 0 else text.find("{", head.end()), last, Function(path, holder, head[2])))
+        body, end = body_of(text, head[1], head.start())
+        found.append(Span(head.start(), body, end, Function(path, holder, head[2])))
     return found
 
 
@@ -115,7 +144,6 @@ def changed_by(texts: Texts, path: str, at: int, old: str) -> Tuple[List[Functio
     holds or a function takes. A constant is of the functions that name it."""
     text, end = texts[path], at + len(old)
     line = text[text.rfind("\n", 0, at) + 1 : end]
-    # (a function without a body of its own, as a trait has, seems to end where a later one does)
     span = next((it for it in reversed(functions_of(path, text)) if it.begin < end and at < it.end), None)
     if span:
         if at < span.body and CLAUSE.search(text, span.begin, end):
@@ -202,17 +230,15 @@ class Calls:
         return frozenset(found)
 
 
-def few_of(edits: List[Edit], texts: Texts, most: int, wide: int, widest: int) -> Batch:
+def few_of(edits: List[Edit], texts: Texts, most: int, wide: int) -> Batch:
     """Of these edits the first, and as many others as one check takes with it: `most` in all, and so that it proves no more than
-    `wide` functions, or those that the first needs. There is none if that one needs more than `widest`."""
+    `wide` functions, or those that the first needs."""
     made, calls = Batch(texts), Calls(texts)
     below: FrozenSet[Function] = frozenset()
     for edit in edits:
         more = below | calls.below(applied(edit, texts).changed)
-        if len(made.edits) < most and len(more) <= (wide if made.edits else widest) and made.takes(edit):
+        if len(made.edits) < most and (not made.edits or len(more) <= wide) and made.takes(edit):
             below, wide = more, max(wide, len(more))
-        if not made.edits:
-            break
     return made
 
 

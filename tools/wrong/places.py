@@ -10,10 +10,12 @@ PARTS = ("src", "specs", "proofs")
 
 
 class Place(NamedTuple):
-    """A crate over built libraries: the words of a check of it, and the folder of what its checks kept, or none."""
+    """A crate over built libraries: the words of a check of it, the folder of what its checks kept, or none, and then one for what
+    those of this run keep, one after the other."""
 
     words: List[str]
     kept: str
+    work: str
 
 
 def loaded(name: str, file: str) -> Any:
@@ -50,8 +52,16 @@ def is_of_the_gate(crate: Any) -> bool:
     return is_there and os.stat(crate.rlib).st_mtime_ns > last_change(crate)
 
 
-def place_of(crate: Any, kept: str) -> Place:
-    return Place(crate.words(["--jobs", "1"], keeps=False), kept if os.path.isdir(kept) else "")
+def built(top: str) -> Dict[str, str]:
+    """The libraries of the checkout that are built of its files as they stand, by their crates."""
+    crates = [it for it in rtlib().crates_below(top) if it.makes_rlib()]
+    return {it.name: it.rlib for it in crates if it.is_built() or is_of_the_gate(it)}
+
+
+def place_of(crate: Any, kept: str, room: str) -> Place:
+    work = os.path.join(room, "work", crate.name)
+    os.makedirs(work, exist_ok=True)
+    return Place(crate.words(["--jobs", "1"], keeps=False), kept if os.path.isdir(kept) else "", work)
 
 
 def kept_of(crate: Any) -> str:
@@ -65,7 +75,7 @@ def seeded(crate: Any, room: str) -> str:
         if os.path.isdir(os.path.join(crate.folder, part)):
             shutil.copytree(os.path.join(crate.folder, part), os.path.join(seed, part))
     os.mkdir(to)
-    words = [os.path.join(KIT, "bin", "rattle"), "check", *place_of(crate, "").words, "--incremental", to]
+    words = [os.path.join(KIT, "bin", "rattle"), "check", *place_of(crate, "", room).words, "--incremental", to]
     how: Dict[str, Any] = {"stdin": subprocess.DEVNULL, "stdout": subprocess.DEVNULL, "stderr": subprocess.DEVNULL}
     if subprocess.run(words, cwd=seed, **how).returncode:
         raise ValueError(f"{crate.name} is not proved as it stands")
@@ -99,11 +109,11 @@ def places(top: str, wanted: Dict[str, int], jobs: int, tell: Callable[[str], No
             bare = [name for name, count in wanted.items() if count > 1 and not os.path.isdir(kept_of(crates[name]))]
             with ThreadPoolExecutor(jobs) as pool:
                 seeds = dict(zip(bare, pool.map(lambda name: seeded(crates[name], os.path.join(room, name)), bare)))
-            yield {name: place_of(crates[name], seeds.get(name, kept_of(crates[name]))) for name in wanted}
+            yield {name: place_of(crates[name], seeds.get(name, kept_of(crates[name])), room) for name in wanted}
         else:
             tell("libraries are proved first, in a copy")
             shutil.copytree(os.path.join(top, "crates"), os.path.join(room, "crates"), ignore=shutil.ignore_patterns("out"))
             shutil.copy(os.path.join(top, "crates.txt"), room)
             prove_in(room, [it.name for it in needed], jobs, tell)
             copied = {it.name: it for it in module.crates_below(room)}
-            yield {name: place_of(copied[name], kept_of(copied[name])) for name in wanted}
+            yield {name: place_of(copied[name], kept_of(copied[name]), room) for name in wanted}

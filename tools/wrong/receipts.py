@@ -1,31 +1,32 @@
 """Receipts: by which goal each wrong body of a crate was refused, and the sums of what that rests on."""
 from __future__ import annotations
 import hashlib, os
-from typing import Dict, List, NamedTuple, Tuple
+from typing import Dict, List, NamedTuple, Optional
 
-from wrong.edits import Edit, Texts, texts_in
+from wrong.edits import Edit, Texts, applied, texts_in
 from wrong.places import KIT
+from wrong.readings import Readings
 from wrong.verdicts import Verdict
 
 HEAD = """# By which goal each wrong body of this crate was refused. `tools/wrong_bodies.py --write` makes this file.
-# logic: the toolchain's logic. crate: its code, definitions and proofs, its line of crates.txt, and all that of the crates below.
-# Then of each wrong body its name, the sum of its file, the function that sins and what is not proved of it.
+# logic: the toolchain's logic. Then of each wrong body its name, the sum of its file, the sum of what its check reads in this crate and
+# those below (wrong/readings.py), the function that sins and what is not proved of it.
 """
 
 
 class Line(NamedTuple):
-    """What a receipt says of a wrong body."""
+    """What a receipt says of a wrong body: the sums of its file and of what its check reads, and by what it was refused."""
 
     sum: str
+    read: str
     function: str
     goal: str
 
 
 class Receipt(NamedTuple):
-    """The toolchain's logic, the sum of the crate with those below it, and a line for each wrong body, by its name."""
+    """The toolchain's logic, and a line for each wrong body, by its name."""
 
     logic: str
-    crate: str
     lines: Dict[str, Line]
 
 
@@ -48,11 +49,12 @@ def edit_sum(edit: Edit) -> str:
 
 
 class Sums:
-    """The texts and sums of the crates, each read once."""
+    """The texts of the crates, each read once, and the sums of what checks read of them."""
 
     def __init__(self, top: str):
-        self.top, self.read, self.made = top, {}, {}  # type: str, Dict[str, Texts], Dict[str, str]
+        self.top, self.texts_of, self.sums = top, {}, {}  # type: str, Dict[str, Texts], Dict[str, str]
         self.lines: Dict[str, List[str]] = {}
+        self.known: Optional[Readings] = None
         with open(os.path.join(top, "crates.txt"), encoding="utf-8") as lines:
             for line in lines:
                 words = line.partition("#")[0].replace(":", " : ").split()
@@ -60,17 +62,30 @@ class Sums:
                     self.lines[words[0]] = words
 
     def texts(self, crate: str) -> Texts:
-        if crate not in self.read:
-            self.read[crate] = texts_in(os.path.join(self.top, "crates", crate))
-        return self.read[crate]
+        if crate not in self.texts_of:
+            self.texts_of[crate] = texts_in(os.path.join(self.top, "crates", crate))
+        return self.texts_of[crate]
 
-    def crate(self, name: str) -> str:
-        """The sum of the crate and of those below it."""
-        if name not in self.made:
-            words = self.lines[name]
-            lower = [self.crate(it) for it in words[words.index(":") :] if it in self.lines]
-            self.made[name] = sum_of(words, sorted(self.texts(name).items()), lower)
-        return self.made[name]
+    def below(self, crate: str) -> List[str]:
+        """The crates of this repository that the crate stands on."""
+        words = self.lines[crate]
+        lower = [it for it in words[words.index(":") :] if it in self.lines]
+        return list(dict.fromkeys(it for one in lower for it in (one, *self.below(one))))
+
+    def readings(self) -> Readings:
+        if self.known is None:
+            self.known = Readings({it: self.texts(it) for it in self.lines}, {it: self.below(it) for it in self.lines})
+        return self.known
+
+    def read(self, edit: Edit) -> str:
+        """The sum of what the check of a wrong body reads. ValueError says why it does not apply."""
+        read = self.readings().of(edit, applied(edit, self.texts(edit.crate)).changed)
+        return sum_of(*((*place, self.sum(text)) for *place, text in read))[:32]
+
+    def sum(self, text: str) -> str:
+        if text not in self.sums:
+            self.sums[text] = sum_of(text)
+        return self.sums[text]
 
 
 def path_of(top: str, crate: str) -> str:
@@ -78,8 +93,8 @@ def path_of(top: str, crate: str) -> str:
 
 
 def text_of(receipt: Receipt) -> str:
-    rows = [f"{name} {it.sum} {it.function} {it.goal}\n" for name, it in sorted(receipt.lines.items())]
-    return f"{HEAD}logic {receipt.logic}\ncrate {receipt.crate}\n" + "".join(rows)
+    rows = [f"{name} {it.sum} {it.read} {it.function} {it.goal}\n" for name, it in sorted(receipt.lines.items())]
+    return f"{HEAD}logic {receipt.logic}\n" + "".join(rows)
 
 
 def written(top: str, crate: str, receipt: Receipt) -> None:
@@ -93,50 +108,52 @@ def written(top: str, crate: str, receipt: Receipt) -> None:
 
 def receipt_of(top: str, crate: str) -> Receipt:
     """The crate's receipt as it stands; an empty one, if there is none or it cannot be read."""
-    sums: Dict[str, str] = {}
+    of_logic = ""
     lines: Dict[str, Line] = {}
     try:
         rows = bytes_of(path_of(top, crate)).decode().split("\n")
     except (OSError, UnicodeDecodeError):
         rows = []
     for row in rows:
-        words = row.split(" ", 3)
-        if len(words) == 2 and words[0] in ("logic", "crate"):
-            sums[words[0]] = words[1]
-        elif len(words) == 4 and not row.startswith("#"):
+        words = row.split(" ", 4)
+        if len(words) == 2 and words[0] == "logic":
+            of_logic = words[1]
+        elif len(words) == 5 and not row.startswith("#"):
             lines[words[0]] = Line(*words[1:])
-    return Receipt(sums.get("logic", ""), sums.get("crate", ""), lines)
+    return Receipt(of_logic, lines)
 
 
-def made_of(sums: Sums, crate: str, verdicts: Dict[Edit, Verdict]) -> Receipt:
-    """The receipt that these verdicts on wrong bodies of the crate come to."""
-    lines = {it.name: Line(edit_sum(it), verdict.function, verdict.told) for it, verdict in verdicts.items()}
-    return Receipt(logic(), sums.crate(crate), lines)
+def made_of(sums: Sums, verdicts: Dict[Edit, Verdict]) -> Receipt:
+    """The receipt that these verdicts on wrong bodies of a crate come to."""
+    lines = {it.name: Line(edit_sum(it), sums.read(it), verdict.function, verdict.told) for it, verdict in verdicts.items()}
+    return Receipt(logic(), lines)
 
 
 def beside(sums: Sums, crate: str, others: List[Edit], made: Receipt) -> Receipt:
-    """The receipt, and what the one that stands tells of these other wrong bodies, if that is of the same sums and texts."""
-    stands = receipt_of(sums.top, crate)
-    if (stands.logic, stands.crate) != (made.logic, made.crate):
-        return made
-    told = {it.name: stands.lines[it.name] for it in others if it.name in stands.lines}
-    kept = {it.name: told[it.name] for it in others if it.name in told and told[it.name].sum == edit_sum(it)}
-    return made._replace(lines={**kept, **made.lines})
+    """The receipt, and what the one that stands tells of these other wrong bodies, as far as that holds."""
+    stands, why = receipt_of(sums.top, crate), held(sums, crate, others)
+    return made._replace(lines={**{it.name: stands.lines[it.name] for it in others if it.name not in why}, **made.lines})
 
 
-def held(sums: Sums, crate: str, edits: List[Edit]) -> Tuple[bool, Dict[str, str]]:
-    """Whether the receipt is of this toolchain and this crate, and why it does not hold for some wrong bodies, by their names."""
+def held(sums: Sums, crate: str, edits: List[Edit]) -> Dict[str, str]:
+    """Why the receipt does not hold for some of these wrong bodies, by their names."""
     receipt, wrong = receipt_of(sums.top, crate), {}
-    is_same = receipt.logic == logic() and receipt.crate == sums.crate(crate)
     for edit in edits:
         line = receipt.lines.get(edit.name)
+        try:
+            read = sums.read(edit)
+        except ValueError as error:
+            wrong[edit.name] = f"it no longer applies: {error}"
+            continue
         if line is None:
             wrong[edit.name] = "no receipt tells of it"
         elif line.sum != edit_sum(edit):
             wrong[edit.name] = "it is not the text that its receipt is of"
-        elif not is_same:
-            wrong[edit.name] = "the logic, the crate or one below it is not what its receipt is of"
-    return is_same, wrong
+        elif receipt.logic != logic():
+            wrong[edit.name] = "the toolchain's logic is not what its receipt is of"
+        elif line.read != read:
+            wrong[edit.name] = "what its check reads is not what its receipt is of"
+    return wrong
 
 
 def gone(sums: Sums, crate: str, edits: List[Edit]) -> List[str]:

@@ -12,6 +12,7 @@ OPEN = re.compile(r"`search` did not prove (`[^`]+`)")
 # What is not proved of a goal; a goal whose answer stands in a file and no longer fits.
 STATED = re.compile(r"it is not proved that (.*?) \((`[^`]+`)\)")
 ANSWER = re.compile(r"^error: (?:unsolved \S+ in )?(`[^`]+`): (.*)")
+NO_PROOF = "its answer does not prove it"
 # A proof file that names what is no longer there, and what stands on something that was refused: no goal of the function.
 LOST = re.compile(r"has no field|is not in scope|has no `|is no name")
 AFTER = re.compile(r"not admitted|was rejected, was not checked|was refused")
@@ -20,9 +21,10 @@ ENDED = re.compile(r"^(?:only=\d+ proved=\d+|logic=(?:not-)?proved\b.*)$", re.M)
 
 
 class Verdict(NamedTuple):
-    """Whether a wrong body is refused by a goal of a function that it changes: that function and the goal, or else why not."""
+    """Whether a wrong body is refused by a goal of a function that it changes: that function and the goal, or else why not. Of a twin,
+    whether the functions that it changes are proved."""
 
-    is_refused: bool
+    is_well: bool
     function: str
     told: str
 
@@ -67,7 +69,7 @@ def read(said: str) -> Said:
             elif LOST.search(place[3]) or not place[1].endswith("/Answers.antt"):
                 lost.setdefault(path_of(place[1]), place[3])
             elif answer and not AFTER.search(place[3]):
-                goals.setdefault(path_of(place[1]), f"{answer[1]}: its answer does not prove it")
+                goals.setdefault(path_of(place[1]), f"{answer[1]}: {NO_PROOF}")
     return Said(bool(ENDED.search(said)), verdicts, goals, lost, broken)
 
 
@@ -118,11 +120,22 @@ def why_not(said: Said, changed: FrozenSet[Function]) -> str:
     return f"no goal of {names} is open: {sorted(own.values())[0][:120]}"
 
 
+def of_twin(said: Said, changed: FrozenSet[Function]) -> Verdict:
+    """The verdict on a twin: each function that it changes is to be proved."""
+    own = {path: told for path, told in said.verdicts.items() if any(is_of(path, it) for it in changed)}
+    refused = sorted(path for path, told in own.items() if not told.startswith("proved"))
+    goal = said.goals.get(refused[0], own[refused[0]])[:160] if refused else why_not(said, changed)
+    is_well = said.ended and not refused and all(any(is_of(path, it) for path in own) for it in changed)
+    return Verdict(is_well, "", "" if is_well else f"its twin is not proved: {goal}")
+
+
 def judged(said: Said, batch: Batch) -> Dict[Edit, Verdict]:
-    """The verdict on each wrong body of the batch."""
+    """The verdict on each wrong body and each twin of the batch."""
     found = {}
     for edit in batch.edits:
-        found[edit] = own_goal(said, batch.changed[edit]) or Verdict(False, "", why_not(said, batch.changed[edit]))
+        changed = batch.changed[edit]
+        wrong = own_goal(said, changed) or Verdict(False, "", why_not(said, changed))
+        found[edit] = of_twin(said, changed) if edit.is_twin else wrong
     return found
 
 
