@@ -19,9 +19,10 @@ import argparse, glob, json, os, pty, random, resource, shutil, subprocess, sys,
 sys.path.insert(0, os.path.dirname(os.path.dirname(os.path.abspath(__file__))))
 from common import (COMPARED, HEADER, HERE, NO_RECORD, UNLAWFUL, best, bodies_of, built_peer, chained, check, checkpoints_script, counted, header_of,
                     log_of, parsed, parser, write_log)
+from fronted import checkpoint_rows, marks_of, told_of, wanted_marks, wanted_of
 from looked import Stories, columns_of, compact, cut_to, is_hidden, line_of, records_of
 from paged import ALL, SHOWN, TAGS, WORDS, Page, Told, payload
-from records import begin, commit, define, enqueue, register
+from records import begin, checkpoint, commit, define, enqueue, register
 from schema import report_misfits
 
 
@@ -206,6 +207,35 @@ def same_queues(look: str, log: str) -> tuple[list[str], Page]:
     return [it["name"] for it in report["queues"]], page
 
 
+def same_front(rq: str, look: str, path: str) -> None:
+    """The first chapter of a log's page, its picture's checkpoints, and the rows of these, if it has rows of records."""
+    report = json.loads(told(look, "report", path, "--json")[1])
+    audit = told(rq, "audit", path, "1")[1].splitlines()
+    with open(path, "rb") as source:
+        log = source.read()
+    page = page_of(look, path)
+    check(f"{path}'s page, its first chapter", told_of(page, report), dict(wanted_of(report, log, audit)))
+    check(f"{path}'s page, checkpoints in its picture", marks_of(page), wanted_marks(audit, len(log)))
+    rows, bodies = dict(page.rows), bodies_of(log[:report["front"]["used"]])
+    for name, want in checkpoint_rows(records_of(bodies), bodies, audit).items():
+        if "r0" in rows:
+            check(f"{path}'s page, {name}", rows.get(name), want)
+
+
+def false_checkpoints(rq: str, look: str, folder: str) -> None:
+    """The page of a log with true and with false checkpoints; one part of its picture has both."""
+    path = os.path.join(folder, "look.false")
+    bodies = [define(b"jobs"), checkpoint(b"no state"), begin(1)]
+    bodies += [it for unit in range(2, 402) for it in (begin(unit), commit(unit))]
+    write_log(path, header_of(1), [*bodies, checkpoint(b""), commit(1)])
+    subprocess.run([rq, "make", os.path.join(HERE, "..", "examples", "checkpoint.script"), path + ".true"], check=True)
+    with open(path + ".true", "rb") as source:
+        both = bodies_of(source.read())
+    write_log(path + ".both", header_of(1), [*both[:9], checkpoint(b"\0" * 52), *both[9:]])
+    for it in (path, path + ".both"):
+        same_front(rq, look, it)
+
+
 def same_page(look: str, log: str, records: list[dict], draw: random.Random) -> None:
     """The rows of the page's queues against the report, and those of lives and records against the log."""
     names, page = same_queues(look, log)
@@ -266,6 +296,7 @@ def reasons(rq: str, look: str, log: str, folder: str) -> None:
         check(f"a page's end, {why}", ["behind it", f"{why}: {front['reason']}"] in [cells for _, cells in page_of(look, path).rows], True)
         check(f"a report's front by {why}", told(rq, "restart", path, "4", "1000")[1].split("\n", 1)[0],
               f"front {front['records']} records, {front['used']} of {front['total']} bytes, {why}")
+        same_front(rq, look, path)
         same_check(rq, look, path)
         if why == "chain":
             widths(look, path)
@@ -527,6 +558,7 @@ def look_at(options: argparse.Namespace, log: str, draw: random.Random) -> None:
     same_dump(look, log, records, draw)
     same_check(rq, look, log)
     same_stories(look, log, records, options.stories, draw)
+    same_front(rq, look, log)
     same_page(look, log, records, draw)
 
 
@@ -554,6 +586,7 @@ def main() -> int:
         if options.own:
             carried(rq, look, log, folder, draw)
     reasons(rq, look, small, folder)
+    false_checkpoints(rq, look, folder)
     odd_payloads(rq, look, folder)
     kills(rq, look, folder)
     untold(look, folder)
