@@ -1,7 +1,7 @@
 #!/usr/bin/env python3
 """Holds what `rqlook` shows against what `rq` says and what the log's bytes are, over many logs, and counts what differs.
 
-usage: look.py RQ RQLOOK [--own] [--seeds N] [--stories N] [--mib N] [--scripts N] [--speed MIB] [--folder DIR]
+usage: look.py RQ RQLOOK [--own] [--draw N] [--seeds N] [--stories N] [--mib N] [--scripts N] [--speed MIB] [--folder DIR]
 For each shape and seed of the peer's logs: the report as JSON is held against its schema, told as text again, and compared with `rq
 restart`; the lines of each queue alone with those of the whole; the script is made a log again by `rq make`, and compared byte by
 byte; each line of a dump, whole and by each option, as text and as JSON, with what is made of the log's bytes here (looked.py); so are
@@ -236,6 +236,19 @@ def false_checkpoints(rq: str, look: str, folder: str) -> None:
         same_front(rq, look, it)
 
 
+def in_any_order(rows: dict[str, list[str]]) -> dict[str, list[str]]:
+    """The rows, with what happens at each put in order."""
+    return {name: [*cells[:-1], "|".join(sorted(cells[-1].split("|")))] for name, cells in rows.items() if cells}
+
+
+def same_rows(path: str, rows: dict[str, list[str]], whole: dict[str, list[str]], short: dict[str, list[str]]) -> None:
+    """A page's rows of records and elements: all of each payload, and from some row on only the first of each."""
+    is_whole = True
+    for name, want in whole.items():
+        is_whole = is_whole and (want == short[name] or rows.get(name) != short[name])
+        check(f"{path}'s page, {name}", rows.get(name), want if is_whole else short[name])
+
+
 def same_page(look: str, log: str, records: list[dict], draw: random.Random) -> None:
     """The rows of the page's queues against the report, and those of lives and records against the log."""
     names, page = same_queues(look, log)
@@ -245,8 +258,7 @@ def same_page(look: str, log: str, records: list[dict], draw: random.Random) -> 
         some_lives(look, log, lives, draw)
         return
     check(f"{log}'s page, elements", {name: cells for name, cells in rows.items() if name[:1] == "e" and name[1:].isdecimal()}, lives.elements())
-    for name, want in lives.rows().items():
-        check(f"{log}'s page, {name}", rows.get(name), want)
+    same_rows(log, rows, lives.rows(), lives.rows(whole=False))
 
 
 def some_lives(look: str, log: str, lives: Told, draw: random.Random) -> None:
@@ -492,9 +504,8 @@ def carried_page(look: str, path: str, records: list[dict], stories: Stories, fi
     rows = dict(page.rows)
     if f"r{first}" not in rows and len(records) - first > ALL:
         return
-    for name, want in Told(records, stories, names).behind(first).items():
-        got = rows.get(name, [""])
-        check(f"{path}'s page, {name}", (got[:-1], sorted(got[-1].split("|"))), (want[:-1], sorted(want[-1].split("|"))))
+    lives = Told(records, stories, names)
+    same_rows(path, *map(in_any_order, (rows, lives.behind(first), lives.behind(first, whole=False))))
 
 
 def carried(rq: str, look: str, log: str, folder: str, draw: random.Random) -> None:
@@ -566,6 +577,7 @@ def main() -> int:
     words = parser()
     words.add_argument("look")
     words.add_argument("--own", action="store_true")
+    words.add_argument("--draw", type=int, default=1)
     words.add_argument("--seeds", type=int, default=3)
     words.add_argument("--stories", type=int, default=10)
     words.add_argument("--mib", type=int, default=1)
@@ -573,7 +585,7 @@ def main() -> int:
     words.add_argument("--speed", type=int, default=0)
     options = parsed(words)
     rq, look, folder = options.program, options.look, options.folder
-    draw = random.Random(1)
+    draw = random.Random(options.draw)
     if options.own:
         logs = own_logs(rq, folder)
         small = logs[-1]
