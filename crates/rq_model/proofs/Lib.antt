@@ -40,6 +40,7 @@ mod ReportLines
 mod Marked
 mod Appended
 mod Carried
+mod CarriedFiles
 mod Along
 pub mod StepParts
 pub mod UnitEnds

@@ -40,9 +40,9 @@ ghost use Rattle.rq_model.specs.Laws.{RedoSteps, CrashIsHarmless, MovesRise, Arr
 ghost use Rattle.rq_model.specs.Appending.{CrashInFrames, CrashWhileAppending, AppendedIsFront};
 ghost use Rattle.rq_model.specs.Appending.{WrittenStays, CheckpointIsTrue, CheckpointSaysTheSame};
 ghost use Rattle.rq_model.specs.Appending.{FrontGrows, FrontStays, AlongIsFront, WindowGoesOn};
-ghost use Rattle.rq_model.specs.Carrying.{TrueHasFront, CrashWhileCarriedGrows, MovesOn, GapIsLoud};
+ghost use Rattle.rq_model.specs.Carrying.{TrueHasFront, CrashWhileCarriedGrows, MovesOn, IsNoLog};
 ghost use Rattle.rq_model.specs.Carrying.{LaterSaysTheSame, FilesJoin, StartsAnew, FrontGoesOn};
-ghost use Rattle.rq_model.specs.Carrying.{AnewJoins, IsCarriedGap};
+ghost use Rattle.rq_model.specs.Carrying.{AnewJoins, ReadsAsLog};
 
 /// A body spells at most one record, a record has one body, and the bytes of a state spell no other
 /// state.
@@ -229,24 +229,28 @@ pub fn carried_logs()
     ensures crash { CrashWhileCarriedGrows }
 {}
 
-/// A checkpoint and all bytes after it restart to the same in another file, and so does a later
-/// checkpoint there. A restart of the whole file finds no record, and says so. The files join: the
-/// last one has the front of all records together.
+/// No carried file begins as a log, so there is no restart of it. It is read as one: with the header
+/// of a log in place of its own.
+pub fn carried_headers()
+    ensures apart { IsNoLog }
+    ensures read { ReadsAsLog }
+{}
+
+/// A checkpoint and all bytes after it restart to the same in a carried file, and so does a later
+/// checkpoint there. The files join: the last one has the front of all records together.
 pub fn continued_logs()
     ensures moves { MovesOn }
-    ensures loud { GapIsLoud }
     ensures later { LaterSaysTheSame }
     ensures join { FilesJoin }
 {}
 
-/// The state after the front of a log, full or not, begins a new file with a checkpoint: its open
+/// The state after the front of a log, full or not, begins a carried file with a checkpoint: its open
 /// units, elements, registrants and numbers go on, and so do the digests. Whatever is written
 /// there, the files join.
 pub fn logs_begun_anew()
     ensures starts { StartsAnew }
     ensures front { FrontGoesOn }
     ensures join { AnewJoins }
-    ensures gap { IsCarriedGap }
 {}
 
 /// What stays in a queue at an abort and what arrives have distinct ids, and can be put in in any
