@@ -20,6 +20,12 @@ ghost use Rattle.rq_model.specs.FateLaws.{HowFar, WhoIsRegistered, CountIsNone, 
 ghost use Rattle.rq_model.specs.FateLaws.{OutcomeIsAhead, RestartAccounts, BeginningAccounts};
 ghost use Rattle.rq_model.specs.FateLaws.{ClosedAccounts, CheckpointAccounts, ReportAccounts};
 ghost use Rattle.rq_model.specs.FateLaws.{BeginningReportAccounts, CheckpointReportAccounts};
+ghost use Rattle.rq_model.specs.AllFiles.{BegunFileCarriesOn, FilesAccount, ClosedFilesAccount};
+ghost use Rattle.rq_model.specs.AllFiles.{FilesReportAccounts};
+ghost use Rattle.rq_model.specs.Tampering.{FramesWithOneEnd, RecordsWithOneEnd, TamperingShows};
+ghost use Rattle.rq_model.specs.Tampering.{LinkWitnesses, FilesWithOneEnd};
+ghost use Rattle.rq_model.specs.ClientLines.{ReportTellsClients, BeginningTellsClients};
+ghost use Rattle.rq_model.specs.ClientLines.{CheckpointTellsClients, FilesTellClients};
 ghost use Rattle.rq_model.specs.WorkedLogs.{WorkedBytes, WorkedLogs, UnlawfulLogs};
 ghost use Rattle.rq_model.specs.WorkedLogs.{WorkedCheckpoint, WorkedEnds};
 ghost use Rattle.rq_model.specs.WorkedMachine.{WorkedLaw, WorkedSteps, WorkedOrders, WorkedQueues};
@@ -382,6 +388,37 @@ pub fn reports_account()
     ensures report { ReportAccounts }
     ensures beginning { BeginningReportAccounts }
     ensures checkpoint { CheckpointReportAccounts }
+{}
+
+/// The report of a log has one line for each client that is registered, with the latest operation
+/// that it hears of, and no line of others. So has the report of its front with a beginning of the
+/// tail, the report from a true checkpoint, and that of the last of several files.
+pub fn reports_tell_clients()
+    ensures report { ReportTellsClients }
+    ensures beginning { BeginningTellsClients }
+    ensures checkpoint { CheckpointTellsClients }
+    ensures files { FilesTellClients }
+{}
+
+/// Of a log that was carried on in other files, a restart of the last file accounts for each request
+/// and client of the records of all files. So does a restart of the last file closed, and of each
+/// beginning of that which holds its front. The report of the last file says so. A file that begins
+/// with a checkpoint of the state after these records, linked to them, carries them on.
+pub fn all_files_account()
+    ensures begun { BegunFileCarriesOn }
+    ensures restart { FilesAccount }
+    ensures closed { ClosedFilesAccount }
+    ensures report { FilesReportAccounts }
+{}
+
+/// Two logs with different fronts and the same last 32 bytes show two different messages with one
+/// SHA-256. So do two old logs that one file is linked to, and two rows of files with the same end.
+pub fn tampering_shows()
+    ensures frames { FramesWithOneEnd }
+    ensures records { RecordsWithOneEnd }
+    ensures fronts { TamperingShows }
+    ensures link { LinkWitnesses }
+    ensures files { FilesWithOneEnd }
 {}
 
 /// Three bodies and two states, byte by byte.
