@@ -1,4 +1,4 @@
 pub mod Beside
-pub mod Replacing
+pub mod Predecessors
 pub mod Standard
 pub mod Targets

@@ -6,7 +6,7 @@ ghost use Rattle.rq_file.specs.Beside.{IsBeside};
 ghost use Rattle.rq_file.specs.Targets.{new_of, old_of};
 
 use crate::paths::{folder_within, followed, free_name, is_of_process};
-use crate::replacing::{Replaces, is_free};
+use crate::predecessors::{Replaces, is_free};
 use std::fs::{File, Files, Metadata, OpenFile, OpenOptions, Permissions};
 use std::io::ErrorKind;
 use std::os::fd::AsFd;

@@ -2,7 +2,7 @@
 
 use crate::late::{Late, in_place};
 use crate::names::Names;
-use crate::replacing::Replaces;
+use crate::predecessors::Replaces;
 use std::fs::Files;
 use std::io::{self, Read, Write};
 use std::os::fd::AsFd;

@@ -1,7 +1,7 @@
 //! What stands where a file is to be made, and whether it gives way.
 
 ghost use Rattle.std.specs.Prelude.{◌≡◌};
-ghost use Rattle.rq_file.specs.Replacing as spec;
+ghost use Rattle.rq_file.specs.Predecessors as spec;
 
 use crate::named::NamedFile;
 use crate::names::{Names, file_under};

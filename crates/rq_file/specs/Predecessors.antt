@@ -1,8 +1,8 @@
 -- What a file that is made may take the place of.
 use Rattle.std.specs.Prelude.{ℕ, Bool, true, false, not, ◌&&◌, List, codes, nat_eq}
 use Rattle.std.specs.List.{starts_with}
-use Rattle.rq_file.specs.declared.replacing.Replaces.{Replaces}
-use Rattle.rq_file.specs.declared.replacing.Replaces.TheVariants.{Nothing, Beginning, Remark, NoLog, Anything}
+use Rattle.rq_file.specs.declared.predecessors.Replaces.{Replaces}
+use Rattle.rq_file.specs.declared.predecessors.Replaces.TheVariants.{Nothing, Beginning, Remark, NoLog, Anything}
 
 -- a file that begins so is a log
 abbrev pub is_log : List ℕ → Bool
