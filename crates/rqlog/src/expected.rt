@@ -107,13 +107,14 @@ impl fmt::Display for Misfit {
 fn is_hex(most: usize, text: &[u8]) -> bool {
     let are_digits = text.iter().all(|b| matches!(b, b'0'..=b'9' | b'a'..=b'f'));
     let fits = !text.is_empty() && text.len() % 2 == 0 && text.len() / 2 <= most;
-    text == b"-" || (fits && are_digits)
+    text == b"-".as_slice() || (fits && are_digits)
 }
 
 fn fits(form: Shape, text: &[u8]) -> bool {
     match form {
         Shape::Number(most) => decimal_number(most, text).is_some(),
-        Shape::NumberOrNone(most) => text == b"-" || decimal_number(most, text).is_some(),
+        Shape::NumberOrNone(most) => text == b"-".as_slice()
+            || decimal_number(most, text).is_some(),
         Shape::Name => Name::new(text).is_some(),
         Shape::Hex(most) => is_hex(most, text),
     }
@@ -127,16 +128,16 @@ fn kind_of(word: &[u8]) -> Option<&'static LineForm> {
 /// What is expected where a line is none of a script.
 pub(crate) fn slot_missed(line: &[u8]) -> Misfit {
     let mut texts = line.split(|b| *b == b' ');
-    let Some(kind) = kind_of(texts.next().unwrap_or(b"")) else {
+    let Some(kind) = kind_of(texts.next().unwrap_or(b"".as_slice())) else {
         return Misfit {
             number: 1,
             name: "what the record is",
             expected: "define, register, deregister, begin, enqueue, dequeue, commit, abort or kill",
         };
     };
-    let mut number = 1;
+    let mut number: usize = 1;
     for field in kind.1 {
-        number += 1;
+        number = number.saturating_add(1);
         let text = texts.next();
         if !text.map_or(false, |text| fits(field.1, text)) {
             return Misfit {
@@ -148,7 +149,7 @@ pub(crate) fn slot_missed(line: &[u8]) -> Misfit {
     }
     if texts.next().is_some() {
         return Misfit {
-            number: number + 1,
+            number: number.saturating_add(1),
             name: "behind the last",
             expected: "the end of the line",
         };
@@ -160,7 +161,7 @@ pub(crate) fn slot_missed(line: &[u8]) -> Misfit {
 fn nobody(kind: &LineForm) -> Misfit {
     let before = kind.1.iter().take_while(|field| field.0 != TAG.0).count();
     Misfit {
-        number: before + 2,
+        number: before.saturating_add(2),
         name: "TAG of nobody",
         expected: "0",
     }

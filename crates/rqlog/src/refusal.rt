@@ -94,6 +94,7 @@ impl From<Fault> for Refusal {
     fn from(fault: Fault) -> Refusal {
         match fault {
             Fault::Resources => Refusal::Memory,
+            Fault::WriteFailed => Refusal::Refused(Stream::Output, fault),
             _ => Refusal::Refused(Stream::Log, fault),
         }
     }
