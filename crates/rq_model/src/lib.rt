@@ -31,6 +31,7 @@ ghost use Rattle.rq_model.specs.WorkedLogs.{WorkedCheckpoint, WorkedEnds};
 ghost use Rattle.rq_model.specs.WorkedMachine.{WorkedLaw, WorkedSteps, WorkedOrders, WorkedQueues};
 ghost use Rattle.rq_model.specs.WorkedMachine.{WorkedRedo};
 ghost use Rattle.rq_model.specs.WorkedFates.{WorkedRequests, WorkedTries, WorkedClients};
+ghost use Rattle.rq_model.specs.WorkedFates.{WorkedClientLines};
 ghost use Rattle.rq_model.specs.WorkedFormats.{WorkedNames, WorkedBodies, WorkedWidths};
 ghost use Rattle.rq_model.specs.WorkedFormats.{WorkedFrames, AllRests, WorkedStates, WorkedMembers};
 ghost use Rattle.rq_model.specs.WorkedFormats.{WorkedLines};
@@ -461,9 +462,10 @@ pub fn worked_ends()
     ensures { WorkedEnds }
 {}
 
-/// Requests and clients with each fate, each limit of tries on both sides.
+/// Requests and clients with each fate, each limit of tries on both sides, the lines of clients.
 pub fn worked_fates()
     ensures requests { WorkedRequests }
     ensures tries { WorkedTries }
     ensures clients { WorkedClients }
+    ensures lines { WorkedClientLines }
 {}
