@@ -1,5 +1,5 @@
 -- Each place behind a front is looked at, one after the other.
-use Rattle.std.proofs.Common.{◌≡◌, ℕ, ◌+◌, ◌<◌, ◌≤◌, List, length, sym, subst, arith, below_more}
+use Rattle.std.proofs.Common.{ℕ, ◌+◌, ◌<◌, ◌≤◌, List, length, sym, subst, arith, below_more}
 use Rattle.rq_model.specs.Records.{Version}
 use Rattle.rq_behind.specs.Scans.{HasRecordAt, HasNoRecordBefore, IsSeenAt, Scans}
 use Rattle.rq_behind.specs.declared.scan.Scan.{Scan}
