@@ -6,6 +6,8 @@
 mod forms;
 mod places;
 mod runs;
+mod scan;
 mod search;
 
+pub use scan::{SCANNED_LEN, Scan, first_record};
 pub use search::{Found, behind};
