@@ -528,7 +528,7 @@ def carried(rq: str, look: str, log: str, folder: str, draw: random.Random) -> N
     front = {"carried_at": CARRIED_AT, "records": len(records), "used": size, "total": size, "why": "whole", "reason": "nothing follows"}
     for words, wanted in [([], shown_here)] + wanted_by(draw, shown_here):
         same_lines(look, path, words, wanted, ("\n".join(end), {"front": front}))
-    check(f"{path}'s findings", told(look, "check", path), (1, f"carried: use rqlog\n{end[1]}\n"))
+    check(f"{path}'s findings", told(look, "check", path), (1, f"carried: use rqlog\n{end[1]}\nverdict: whole, each checkpoint is true. Next: rqlog append {path}\n"))
     _, want = told(rq, "restart-at", path, str(CARRIED_AT), "4", "1000")
     check(f"{path} as text", told(look, "report", path), (0, f"{end[0]}\n{want}"))
     report = json.loads(told(look, "report", path, "--json")[1])
