@@ -1,15 +1,17 @@
-//! The program `rqlog`: appends to logs, marks them with checkpoints, and carries them on into new
-//! files.
+//! The program `rqlog`: appends to logs, makes them whole after a crash, marks them with checkpoints, and
+//! carries them on into new files.
 #![tactic(auto)]
 
 mod checkpoints;
 mod commands;
+mod damage;
 mod files;
 mod fronts;
 mod inputs;
 mod lines;
 mod messages;
 mod new_log;
+mod recovery;
 mod refusal;
 mod words;
 

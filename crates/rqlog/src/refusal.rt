@@ -1,10 +1,9 @@
 //! Why the program ends before it is done.
 
+use crate::damage::BadEnd;
 use crate::lines::{LineRefused, Reason};
 use clap::error::ErrorKind;
 use rq_journal::Fault;
-use rq_report::why_word;
-use rq_restart::Why;
 use std::alloc::AllocError;
 use std::io;
 
@@ -31,6 +30,10 @@ pub(crate) enum Stream {
     LogAsItWas,
     /// The log, where some of what was to be appended may stand.
     LogUnknown,
+    /// The log, which may be cut to its front already.
+    LogToRecover,
+    /// The file that keeps what is cut off.
+    Kept,
     Output,
     /// The output that was to tell what is done all the same.
     Telling,
@@ -53,8 +56,10 @@ pub(crate) enum Refusal {
     There,
     /// Another file came into the log's place, or its bytes changed meanwhile.
     Changed,
-    /// The front of the log ends for a reason that hides records or a fault of its writer.
-    Damaged(Why),
+    /// The front of the log ends where nothing is written behind it.
+    Damaged(BadEnd),
+    /// What is to be kept of the log has a name under which other bytes stand.
+    KeptOther,
     /// A line is not appended.
     Line(LineRefused),
     /// There is no room behind the log.
@@ -109,7 +114,8 @@ impl Stream {
     // What it is called.
     fn name(self) -> &'static str {
         match self {
-            Stream::Log | Stream::LogAsItWas | Stream::LogUnknown => "LOG",
+            Stream::Log | Stream::LogAsItWas | Stream::LogUnknown | Stream::LogToRecover => "LOG",
+            Stream::Kept => "LOG.cut-OFFSET",
             Stream::Script => "SCRIPT",
             Stream::New => "NEW",
             Stream::Out => "OUT",
@@ -122,6 +128,7 @@ impl Stream {
         match self {
             Stream::LogAsItWas => ": nothing was appended",
             Stream::LogUnknown => ": some records may stand there: rqlook check tells",
+            Stream::LogToRecover => ": use rqlog recover again",
             Stream::Telling => ": it is done all the same",
             _ => "",
         }
@@ -157,6 +164,7 @@ impl Refusal {
             Refusal::Held => "LOG: another program writes it: try again",
             Refusal::There => "NEW: it is there already: name a file that is not",
             Refusal::Changed => "LOG: it changed meanwhile: try again",
+            Refusal::KeptOther => "LOG.cut-OFFSET: other bytes stand there: move it away",
             Refusal::Full => "log is full: carry it on",
             Refusal::Ended => "numbers end at 4294967295: begin a new log",
             _ => "resources",
@@ -166,7 +174,11 @@ impl Refusal {
     fn exit(&self) -> u8 {
         match self {
             Refusal::Words(_) | Refusal::NoText | Refusal::Plan => USAGE,
-            Refusal::Failed(..) | Refusal::Held | Refusal::There | Refusal::Changed => STREAM,
+            Refusal::Failed(..)
+            | Refusal::Held
+            | Refusal::There
+            | Refusal::KeptOther
+            | Refusal::Changed => STREAM,
             Refusal::Damaged(_) | Refusal::Full | Refusal::Ended => REFUSED,
             Refusal::Line(refused) if matches!(refused.reason, Reason::Memory) => MEMORY,
             Refusal::Line(_) => REFUSED,
@@ -183,10 +195,7 @@ impl Refusal {
                 let (name, left) = (stream.name(), stream.left());
                 eprintln!(rt; "rqlog: {name}: {error}{left}")
             }
-            Refusal::Damaged(why) => {
-                let why = why_word(*why);
-                eprintln!(rt; "rqlog: LOG: its front ends by {why}: rqlook check tells where")
-            }
+            Refusal::Damaged(bad) => eprintln!(rt; "rqlog: LOG: {bad}"),
             Refusal::Line(refused) => eprintln!(rt; "rqlog: {refused}"),
             Refusal::Refused(fault) => {
                 let advice = advice(*fault);
