@@ -13,7 +13,7 @@ import carrying, counting, ordering, unharmed
 from tables.asking import MAKE
 from tables.carried import CARRIED_AT, GAP
 from tables.lawful import TABLES, cases
-from trying import DONE, check, content, put, run
+from trying import DONE, Ended, check, content, put, run
 from writing import MORE, START, START_BODIES, appended, plain, rqlog, says
 
 from common import HEADER, chained, header_of, pieces_of
@@ -187,8 +187,13 @@ def kills() -> None:
     check("append a kill in version 1", (rqlog("append", one, script=b"kill 0 3\n"), content(one)), (want, before))
     put("killed.log", chained(header_of(1), [*START_BODIES, kill(0, 3)]))
     before = content("killed.log")
-    check("append behind a kill", (rqlog("append", "killed.log", script=MORE), content("killed.log")),
-          (says("killed.log: its front ends by form: rqlook check tells where"), before))
+    ended = rqlog("append", "killed.log", script=MORE)
+    check("append behind a kill", (is_damage(ended, "killed.log", "form"), content("killed.log")), (True, before))
+
+
+def is_damage(ended: Ended, log: str, why: str) -> bool:
+    """Whether nothing was written, since the front ends so. What else is said of it, recovering.py asks."""
+    return ended[:2] == (1, b"") and ended[2].startswith(f"rqlog: {log}: its front ends by {why} at ".encode())
 
 
 def damaged() -> None:
@@ -200,9 +205,8 @@ def damaged() -> None:
              [*START_BODIES, bytes(9)]), "law": chained(header_of(1), bodies)}
     for why, bytes_ in kinds.items():
         put(log, bytes_)
-        want = says(f"{log}: its front ends by {why}: rqlook check tells where")
         for line in ("append damaged.log", "append damaged.log --each", "checkpoint damaged.log", "carry damaged.log new.log"):
-            check(f"{line}, {why}", (rqlog(*line.split(), script=MORE), content(log)), (want, bytes_))
+            check(f"{line}, {why}", (is_damage(rqlog(*line.split(), script=MORE), log, why), content(log)), (True, bytes_))
         check(f"no new file, {why}", os.path.exists("new.log"), False)
     for what, bytes_ in {"empty": b"", "script": START, "header": good[:39]}.items():
         put(log, bytes_)
