@@ -1,5 +1,5 @@
 //! The write side of a log: records are appended behind its front, a checkpoint of the state there
-//! is put behind it, and the state is carried into another file; and a log that a crash left goes on.
+//! is put behind it, and the state is carried on in another file; and a log that a crash left goes on.
 #![tactic(auto)]
 
 mod appender;
@@ -16,6 +16,6 @@ pub use left_behind::{Damage, TORN_LEN, damage_behind};
 pub use opened_logs::{NotWritten, Opened, frames_behind, open, open_carried, opened_behind};
 pub use recoveries::{NotRecovered, Recovered, recovered, recovered_at};
 pub use rq_catalog::Rule;
-pub use rq_front::{CARRIED_AT, is_carried};
+pub use rq_front::{CARRIED_AT, is_carried, read_as_log, write_as_carried};
 pub use rq_record::Fault;
 pub use rq_restart::{Ending, Plan, Why};

@@ -2,8 +2,9 @@
 
 use crate::damage::LeftOut;
 use crate::fronts::{OpenLog, opened_front, redone_behind};
+use crate::inputs::ReadLog;
 use crate::refusal::Refusal;
-use rq_journal::{NotTaken, Plan, checkpoint_of};
+use rq_journal::{NotTaken, Plan, checkpoint_of, write_as_carried};
 use rq_record::{Fault, Record, kept_records};
 use rq_restart::{RedoneFront, go_on};
 use rq_standing::Standing;
@@ -83,30 +84,32 @@ fn mark_behind<R: Threads + Sync>(
 pub(crate) fn mark<R: Threads + Sync>(
     rt: &R,
     alloc: Global,
-    bytes: &[u8],
+    read: &ReadLog,
     plan: &Plan,
     ends_units: bool,
     drops: bool,
 ) -> Result<(OpenLog, usize), Refusal> {
-    let mut log = opened_front(rt, alloc, bytes, plan, drops)?;
-    let front = redone_behind(rt, alloc, bytes, plan)?;
+    let mut log = opened_front(rt, alloc, read, plan, drops)?;
+    let front = redone_behind(rt, alloc, read, plan)?;
     let offset = mark_behind(rt, alloc, &mut log, front, plan, ends_units)?;
     Ok((log, offset))
 }
 
-/// Makes of a log that was carried on the closed one, and answers what is left out of it behind its
-/// front, if that is to be told. Refuses to leave out what is not to be dropped.
-pub(crate) fn close_carried<R: Threads + Sync>(
+/// The closed file of a carried one that was read, and what is left out of it behind its front, if that
+/// is to be told. Refuses to leave out what is not to be dropped.
+pub(crate) fn closed_carried<R: Threads + Sync>(
     rt: &R,
     alloc: Global,
-    bytes: &mut Vec<u8>,
+    read: ReadLog,
     plan: &Plan,
     drops: bool,
-) -> Result<Option<LeftOut>, Refusal> {
-    let mut log = opened_front(rt, alloc, bytes, plan, drops)?;
-    let aborts = aborts_of(alloc, &redone_behind(rt, alloc, bytes, plan)?.state)?;
+) -> Result<(Vec<u8>, Option<LeftOut>), Refusal> {
+    let mut log = opened_front(rt, alloc, &read, plan, drops)?;
+    let aborts = aborts_of(alloc, &redone_behind(rt, alloc, &read, plan)?.state)?;
     append_all(alloc, &mut log, &aborts)?;
-    bytes.truncate(log.opened.used);
-    bytes.append(&mut log.frames)?;
-    Ok(log.left_out)
+    let mut made = read.bytes;
+    made.truncate(log.opened.used);
+    made.append(&mut log.frames)?;
+    write_as_carried(&mut made);
+    Ok((made, log.left_out))
 }

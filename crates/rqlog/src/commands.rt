@@ -1,10 +1,10 @@
 //! What the program does for each of its commands.
 
-use crate::checkpoints::{close_carried, mark};
+use crate::checkpoints::{closed_carried, mark};
 use crate::damage::{EndOfFront, LastBytes, LeftOut, expect_end};
 use crate::files::{HeldLog, Hold, put_whole};
 use crate::fronts::{OpenLog, front_in, next_behind};
-use crate::inputs::{begun_log, log_from, opened, rest_of_log, script_in};
+use crate::inputs::{ReadLog, begun_log, log_from, opened, rest_of_log, script_in};
 use crate::lines::append_script;
 use crate::messages::{
     audit_text, tell_appended, tell_carried, tell_left_out, tell_marked, warn_of_end,
@@ -14,7 +14,7 @@ use crate::recovery::recover;
 use crate::refusal::{Refusal, Stream, failed};
 use clap::ArgMatches;
 use rq_file::{Patient, Replaces, expect_replaceable, name_one_file, put_over};
-use rq_journal::{CARRIED_AT, Fault, Plan, audit_carried, carried, carried_again, is_carried};
+use rq_journal::{CARRIED_AT, Fault, Plan, audit_carried, carried, carried_again};
 use rq_restart::ending_of;
 use rq_tool::{Open, OverRead, OverWrite, Work, through};
 use std::fs::File;
@@ -81,31 +81,31 @@ where
     R: Files<File = File> + Print + Eprint + AllocGlobal + Threads + Sync,
 {
     let mut held = HeldLog::open(rt, path, Hold::ToWrite)?;
-    let bytes = rest_of_log(rt, held.file())?;
+    let read = rest_of_log(rt, held.file())?;
     let (closes, drops) = (words.get_flag("close"), words.get_flag("drop"));
-    let (log, offset) = mark(rt, rt.alloc(), &bytes, plan, closes, drops)?;
+    let (log, offset) = mark(rt, rt.alloc(), &read, plan, closes, drops)?;
     held.append(rt, &log)?;
     tell_left_out(rt, log.left_out);
     let json = words.get_flag("json");
     told(tell_marked(rt, json, offset as u64, log.len() as u64))
 }
 
-// A log that goes on from this one.
-fn carried_on<R>(rt: &R, bytes: &[u8], plan: &Plan) -> Result<Vec<u8>, Fault>
+// The carried file that goes on from this log.
+fn carried_on<R>(rt: &R, log: &ReadLog, plan: &Plan) -> Result<Vec<u8>, Fault>
 where
     R: AllocGlobal + Threads + Sync,
 {
-    if is_carried(bytes) {
-        carried_again(rt, rt.alloc(), bytes, plan)
+    if log.is_carried {
+        carried_again(rt, rt.alloc(), &log.bytes, plan)
     } else {
-        carried(rt, rt.alloc(), bytes, plan)
+        carried(rt, rt.alloc(), &log.bytes, plan)
     }
 }
 
-// Makes the file of a log that goes on from this one, and tells how many records stand before it.
-fn carry_bytes<R>(
+// Makes the carried file that goes on from this log, and tells how many records stand before it.
+fn carry_log<R>(
     rt: &R,
-    bytes: &[u8],
+    read: &ReadLog,
     plan: &Plan,
     new: &str,
     words: &ArgMatches<'_>,
@@ -113,8 +113,8 @@ fn carry_bytes<R>(
 where
     R: Files<File = File> + Print + Eprint + AllocGlobal + Threads + Sync,
 {
-    let log = next_behind(rt, rt.alloc(), bytes, plan, words.get_flag("drop"))?;
-    let made = carried_on(rt, bytes, plan)?;
+    let log = next_behind(rt, rt.alloc(), read, plan, words.get_flag("drop"))?;
+    let made = carried_on(rt, read, plan)?;
     put_new(rt, new, &made)?;
     tell_left_out(rt, log.left_out);
     warn_of_end(rt, log.next);
@@ -128,8 +128,8 @@ where
     let new = words.get_str("NEW").unwrap_or("-");
     expect_free(rt, new)?;
     let mut held = HeldLog::open(rt, path, Hold::ToRead)?;
-    let bytes = rest_of_log(rt, held.file())?;
-    carry_bytes(rt, &bytes, plan, new, words)
+    let read = rest_of_log(rt, held.file())?;
+    carry_log(rt, &read, plan, new, words)
 }
 
 // Prints what is made of a log.
@@ -159,11 +159,11 @@ where
     Ok(print_log(rt, work, from, plan)?)
 }
 
-// The closed log, plain or carried on, and what of the log it leaves out, if that is to be told. What is
+// The file of the closed log, plain or carried on, and what of the log it leaves out, if that is to be told. What is
 // not to be dropped stays.
 fn closed_of<R>(
     rt: &R,
-    bytes: Vec<u8>,
+    log: ReadLog,
     plan: &Plan,
     drops: bool,
 ) -> Result<(Vec<u8>, Option<LeftOut>), Refusal>
@@ -171,11 +171,10 @@ where
     R: AllocGlobal + Threads + Sync,
 {
     let alloc = rt.alloc();
-    if is_carried(&bytes) {
-        let mut bytes = bytes;
-        let left = close_carried(rt, alloc, &mut bytes, plan, drops)?;
-        return Ok((bytes, left));
+    if log.is_carried {
+        return closed_carried(rt, alloc, log, plan, drops);
     }
+    let bytes = log.bytes;
     let ending = ending_of(rt, alloc, &bytes, plan)?;
     let left = expect_end(
         alloc,
@@ -192,9 +191,9 @@ where
     R: Files<File = File> + Eprint + AllocGlobal + Threads + Sync,
 {
     let mut held = HeldLog::open(rt, path, Hold::ToReplace)?;
-    let bytes = rest_of_log(rt, held.file())?;
-    let read = bytes.len();
-    let (made, left) = closed_of(rt, bytes, plan, drops)?;
+    let log = rest_of_log(rt, held.file())?;
+    let read = log.bytes.len();
+    let (made, left) = closed_of(rt, log, plan, drops)?;
     held.expect_as_read(rt, read)?;
     put_whole(rt, path, Stream::Out, &made)?;
     tell_left_out(rt, left);
@@ -220,21 +219,21 @@ where
     }
     let rule = replaced_by(words);
     expect_replaceable(rt, out, &rule).map_err(|error| failed(Stream::Out, error))?;
-    let bytes = log_from(rt, opened(rt, path, Stream::Log)?)?;
-    let (made, left) = closed_of(rt, bytes, plan, true)?;
+    let log = log_from(rt, opened(rt, path, Stream::Log)?)?;
+    let (made, left) = closed_of(rt, log, plan, true)?;
     put_over(rt, out, &made, &rule).map_err(|error| failed(Stream::Out, error))?;
     tell_left_out(rt, left);
     Ok(())
 }
 
-// Tells which checkpoints of a log are true that was carried on.
+// Tells which checkpoints of a carried file are true, of which these are the bytes as they are read.
 fn tell_audit<R, F>(rt: &R, from: F, plan: &Plan) -> Result<(), Refusal>
 where
     R: Print + AllocGlobal + Threads + Sync,
     F: Read + Drop,
 {
-    let bytes = log_from(rt, from)?;
-    let found = audit_carried(rt, rt.alloc(), &bytes, plan)?;
+    let log = log_from(rt, from)?;
+    let found = audit_carried(rt, rt.alloc(), &log.bytes, plan)?;
     let text = audit_text(rt.alloc(), &found)?;
     Ok(rt.write_all(text.as_bytes())?)
 }

@@ -1,11 +1,11 @@
 //! Where the front of a log ends, plain or carried on.
 
 use crate::damage::{EndOfFront, LINK_LEN, LastBytes, LeftOut, expect_end};
-use crate::inputs::{begins_carried, feed_file, last_of_log, rest_of_log};
+use crate::inputs::{ReadLog, begins_carried, feed_file, last_of_log, rest_of_log};
 use crate::refusal::Refusal;
 use byteorder::{BigEndian, ByteOrder};
 use rq_journal::{
-    CARRIED_AT, Fault, Opened, Plan, TORN_LEN, Why, is_carried, open, open_carried, opened_behind,
+    CARRIED_AT, Fault, Opened, Plan, TORN_LEN, Why, open, open_carried, opened_behind,
 };
 use rq_judged::GrowingFront;
 use rq_record::Version;
@@ -74,12 +74,12 @@ impl OpenLog {
 
 // How many records were numbered before the first frame of a log. If it was carried on, the spelling
 // of the state that it begins with tells it first, behind the length and the kind of its checkpoint.
-fn numbered_before(bytes: &[u8]) -> u64 {
+fn numbered_before(log: &ReadLog) -> u64 {
     let at = CARRIED_AT + 5;
-    if !is_carried(bytes) || bytes.len() < at + 8 {
+    if !log.is_carried || log.bytes.len() < at + 8 {
         return 0;
     }
-    BigEndian::read_u64(&bytes[at..])
+    BigEndian::read_u64(&log.bytes[at..])
 }
 
 // Where a log of so many bytes was opened, before whose first frame so many records were numbered.
@@ -98,15 +98,16 @@ fn open_at(alloc: Global, opened: Opened, read: usize, before: u64) -> OpenLog {
 pub(crate) fn front_of<R: Threads + Sync>(
     rt: &R,
     alloc: Global,
-    bytes: &[u8],
+    log: &ReadLog,
     plan: &Plan,
 ) -> Result<OpenLog, Fault> {
-    let opened = if is_carried(bytes) {
+    let bytes = &log.bytes;
+    let opened = if log.is_carried {
         open_carried(rt, alloc, bytes, plan)?
     } else {
         open(rt, alloc, bytes, plan)?
     };
-    Ok(open_at(alloc, opened, bytes.len(), numbered_before(bytes)))
+    Ok(open_at(alloc, opened, bytes.len(), numbered_before(log)))
 }
 
 /// Where the front of a log ends, behind which records may follow, or do if what stands there is to be
@@ -114,12 +115,12 @@ pub(crate) fn front_of<R: Threads + Sync>(
 pub(crate) fn opened_front<R: Threads + Sync>(
     rt: &R,
     alloc: Global,
-    bytes: &[u8],
+    read: &ReadLog,
     plan: &Plan,
     drops: bool,
 ) -> Result<OpenLog, Refusal> {
-    let mut log = front_of(rt, alloc, bytes, plan)?;
-    log.expect_end(alloc, LastBytes::all(bytes), drops)?;
+    let mut log = front_of(rt, alloc, read, plan)?;
+    log.expect_end(alloc, LastBytes::all(&read.bytes), drops)?;
     Ok(log)
 }
 
@@ -156,8 +157,8 @@ where
     R: AllocGlobal + Threads + Sync,
 {
     if begins_carried(file) {
-        let bytes = rest_of_log(rt, file)?;
-        return opened_front(rt, rt.alloc(), &bytes, plan, drops);
+        let read = rest_of_log(rt, file)?;
+        return opened_front(rt, rt.alloc(), &read, plan, drops);
     }
     let mut log = plain_front(rt, file, plan)?;
     if !matches!(log.opened.why, Why::Whole) {
@@ -178,11 +179,11 @@ where
 pub(crate) fn next_behind<R: Threads + Sync>(
     rt: &R,
     alloc: Global,
-    bytes: &[u8],
+    read: &ReadLog,
     plan: &Plan,
     drops: bool,
 ) -> Result<OpenLog, Refusal> {
-    let log = opened_front(rt, alloc, bytes, plan, drops)?;
+    let log = opened_front(rt, alloc, read, plan, drops)?;
     log.expect_numbers(1)?;
     Ok(log)
 }
@@ -191,12 +192,12 @@ pub(crate) fn next_behind<R: Threads + Sync>(
 pub(crate) fn redone_behind<R: Threads + Sync>(
     rt: &R,
     alloc: Global,
-    bytes: &[u8],
+    log: &ReadLog,
     plan: &Plan,
 ) -> Result<RedoneFront, Fault> {
-    if is_carried(bytes) {
-        redone_front_at(rt, alloc, bytes, CARRIED_AT as u64, plan)
+    if log.is_carried {
+        redone_front_at(rt, alloc, &log.bytes, CARRIED_AT as u64, plan)
     } else {
-        redone_front(rt, alloc, bytes, plan)
+        redone_front(rt, alloc, &log.bytes, plan)
     }
 }

@@ -2,24 +2,24 @@
 
 use crate::damage::{BadEnd, EndOfFront, LastBytes, left_out};
 use crate::files::{HeldLog, Hold};
-use crate::inputs::{log_from, rest_of_log};
+use crate::inputs::{ReadLog, bytes_from, rest_of_log};
 use crate::messages::{tell_left_out, tell_recovered};
 use crate::new_log::put_new;
 use crate::refusal::{Refusal, Stream, failed};
 use rq_file::{NamedFile, folder_within};
-use rq_journal::{CARRIED_AT, NotRecovered, Plan, Recovered, is_carried, recovered, recovered_at};
+use rq_journal::{CARRIED_AT, NotRecovered, Plan, Recovered, recovered, recovered_at};
 use std::alloc::{AllocError, Global};
 use std::fs::{File, Files, OpenFile, OpenOptions};
 use std::io;
 use std::thread::Threads;
 
 // How a log goes on, plain or carried on; damage stays, unless it is to be dropped.
-fn recovered_log<R>(rt: &R, bytes: &[u8], plan: &Plan, drops: bool) -> Result<Recovered, Refusal>
+fn recovered_log<R>(rt: &R, log: &ReadLog, plan: &Plan, drops: bool) -> Result<Recovered, Refusal>
 where
     R: AllocGlobal + Threads + Sync,
 {
-    let alloc = rt.alloc();
-    let made = if is_carried(bytes) {
+    let (alloc, bytes) = (rt.alloc(), &log.bytes);
+    let made = if log.is_carried {
         recovered_at(rt, alloc, bytes, CARRIED_AT as u64, plan, drops)
     } else {
         recovered(rt, alloc, bytes, plan, drops)
@@ -61,7 +61,7 @@ where
         Ok(place) => place,
         Err(error) => return Err(failed(Stream::Kept(offset), error)),
     };
-    let found = log_from(rt, place.file())?;
+    let found = bytes_from(rt, place.file())?;
     if found.as_slice() != cut {
         return Err(Refusal::KeptOther(offset));
     }
@@ -112,19 +112,19 @@ where
     R: Files<File = File> + Print + Eprint + AllocGlobal + Threads + Sync,
 {
     let mut held = HeldLog::open(rt, path, Hold::ToWrite)?;
-    let bytes = rest_of_log(rt, held.file())?;
-    let made = recovered_log(rt, &bytes, plan, drops)?;
+    let read = rest_of_log(rt, held.file())?;
+    let made = recovered_log(rt, &read, plan, drops)?;
     let left = match made.damage {
         Some(_) => Some(left_out(
             rt.alloc(),
-            LastBytes::all(&bytes),
+            LastBytes::all(&read.bytes),
             EndOfFront::of(&made.ending),
         )?),
         None => None,
     };
     let kept = kept_cut(rt, path, &made)?;
     if changes(&made) {
-        held.recover(rt, bytes.len(), &made.ending)?;
+        held.recover(rt, read.bytes.len(), &made.ending)?;
     }
     tell_left_out(rt, left);
     Ok(tell_recovered(rt, json, &kept, &made))

@@ -183,11 +183,12 @@ where
     let Some(plan) = plan_of(words) else {
         return Err(Failure::Workers);
     };
-    let bytes = read_log_file(rt, file_of(words), watch)?;
+    let mut bytes = read_log_file(rt, file_of(words), watch)?;
     watch.begins(rt, &bytes);
+    let at = begins_at(&mut bytes);
     let log = ShownLog {
         bytes: &bytes,
-        at: begins_at(&bytes),
+        at,
         plan: &plan,
     };
     act_on(rt, name, words, log, watch)
