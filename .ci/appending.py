@@ -11,10 +11,10 @@ from collections.abc import Callable
 
 import carrying, counting, ordering, unharmed
 from tables.asking import MAKE
-from tables.carried import CARRIED_AT, GAP
+from tables.carried import CARRIED_AT, carried_header
 from tables.lawful import TABLES, cases
 from trying import DONE, Ended, check, content, put, run
-from writing import MORE, START, START_BODIES, appended, plain, rqlog, says
+from writing import MORE, START, START_BODIES, appended, plain, read_as_log, rqlog, says
 
 from common import HEADER, chained, header_of, pieces_of
 from records import begin, checkpoint, commit, kill, spelled
@@ -61,14 +61,10 @@ NO_PLANS = ["restart a.log 0", "restart a.log 65", "restart a.log 1 0", "restart
             "checkpoint a.log --workers 65", "audit a.log 0", "close a.log out 65"]
 
 
-def carried_header(version: int, link: bytes) -> bytes:
-    return header_of(version) + GAP + link
-
-
 def carried_bytes(version: int, link: bytes, bodies: list[bytes]) -> bytes:
     """A carried file of these bodies, each chained to what stands before it."""
     frames = b"".join(pieces_of(header_of(version)[:8] + link, bodies))[HEADER:]
-    return carried_header(version, link) + frames
+    return carried_header(version) + link + frames
 
 
 def queues_of(report: bytes) -> bytes:
@@ -230,7 +226,7 @@ def cut_behind_a_carry() -> None:
     start = content("new.carried")
     check("carry a cut log", content("cut.carried"), start)
     check("append to be cut, carried", rqlog("append", "new.carried", script=MORE)[0], 0)
-    for name, by in {"rqlog": lambda: rqlog("restart", "new.carried")[1], "rq": lambda: restarted_at("new.carried", CARRIED_AT)}.items():
+    for name, by in {"rqlog": lambda: rqlog("restart", "new.carried")[1], "rq": lambda: restarted_at(read_as_log("new.carried"), CARRIED_AT)}.items():
         put("new.carried", start)
         rqlog("append", "new.carried", script=MORE)
         check(f"beginnings behind a carry, {name}", wrong_beginnings("new.carried", start, 6, by, every=7), [])
@@ -281,17 +277,15 @@ def carries() -> None:
     ended = rqlog("carry", log, "new.carried")
     want = carried_bytes(1, link, [checkpoint(spelling)])
     check("carry", (ended, content("new.carried")), ((0, b"carried on behind 5 records, %d bytes\n" % len(want), b""), want))
-    check("restart of it by rq", run("restart", "new.carried", 1, 1)[1], b"front 0 records, 40 of %d bytes, length\n"
-          b"units 0 committed, 0 aborted, 0 cut off\n" % len(want))
     check("append to it", rqlog("append", "new.carried", script=MORE.removesuffix(b"commit 2\n"))[0], 0)
     told = rqlog("carry", "new.carried", "third.carried", "--json")
     check("carry twice", json.loads(told[1]), {"next": 9, "offset": CARRIED_AT, "bytes": os.path.getsize("third.carried")})
-    check("link of the third", content("third.carried")[64:96], content("new.carried")[-32:])
+    check("link of the third", content("third.carried")[40:72], content("new.carried")[-32:])
     check("append to the third", rqlog("append", "third.carried", script=b"commit 2\nbegin 3\n")[0], 0)
     one = plain("one", START + b"checkpoint\n" + MORE.replace(b"commit 2", b"checkpoint\ncommit 2") + b"begin 3\n")
-    for name, by in {"restart-at": restarted_at("third.carried", CARRIED_AT), "rqlog": rqlog("restart", "third.carried")[1]}.items():
+    for name, by in {"restart-at": restarted_at(read_as_log("third.carried"), CARRIED_AT), "rqlog": rqlog("restart", "third.carried")[1]}.items():
         check(f"carried, {name}", but_for_bytes(by), but_for_bytes(restarted(one)))
-    check("restarts agree", rqlog("restart", "third.carried", 2, 10)[1], restarted_at("third.carried", CARRIED_AT))
+    check("restarts agree", rqlog("restart", "third.carried", 2, 10)[1], restarted_at(read_as_log("third.carried"), CARRIED_AT))
     check("restart of a plain log", rqlog("restart", one), (0, restarted(one), b""))
     marks_carried(one)
 
@@ -300,8 +294,8 @@ def marks_carried(one: str) -> None:
     """A carried file is marked, audited and closed."""
     before = os.path.getsize("third.carried")
     check("checkpoint of it", rqlog("checkpoint", "third.carried"), (0, b"%d\n" % before, b""))
-    check("audit of it", rqlog("audit", "third.carried"), (0, b"checkpoint 96 carried\ncheckpoint %d true\n" % before, b""))
-    check("restart-at there", restarted_at("third.carried", before), restarted_at("third.carried", CARRIED_AT))
+    check("audit of it", rqlog("audit", "third.carried"), (0, b"checkpoint 72 carried\ncheckpoint %d true\n" % before, b""))
+    check("restart-at there", restarted_at(read_as_log("third.carried"), before), restarted_at(read_as_log("third.carried"), CARRIED_AT))
     check("close of it", rqlog("close", "third.carried", "closed.carried", 1), DONE)
     run("close", one, "one.closed", 1)
     check("its report", queues_of(rqlog("restart", "closed.carried")[1]), queues_of(restarted("one.closed")))
@@ -313,11 +307,11 @@ def marks_carried(one: str) -> None:
 
 
 def without_a_beginning() -> None:
-    """A file that begins as a carried log and has no checkpoint at 96, or one that spells no state: all lines refuse it."""
+    """A file that begins as a carried log and has no checkpoint at 72, or one that spells no state: all lines refuse it."""
     rqlog("carry", plain("old"), "new.carried")
     good, link = content("new.carried"), content("old.log")[-32:]
     none, bad = (says(f"wrong.carried: {it} checkpoint: rqlook check tells what the file is") for it in ("no", "bad"))
-    kinds = {end: (good[:end], none) for end in (64, 80, 96, 99, len(good) - 1)}
+    kinds = {end: (good[:end], none) for end in (40, 60, 72, 75, len(good) - 1)}
     kinds |= {"turned": (good[:120] + bytes([good[120] ^ 1]) + good[121:], none),
               "no state": (carried_bytes(1, link, [checkpoint(b"")]), bad),
               "another record": (carried_bytes(1, link, [begin(2), *[checkpoint(b"")] * 2]), none)}

@@ -1,3 +1,4 @@
 pub mod Findings
+pub mod Joining
 pub mod Looks
 pub mod Scripts

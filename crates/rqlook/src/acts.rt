@@ -1,13 +1,14 @@
 //! What the program does for each of its commands.
 
 use crate::failures::{Failure, FileTrouble, of_file};
-use crate::log_files::{read_log_file, typed_name};
+use crate::log_files::{read_log_file, shown_name, typed_name};
 use crate::made_files::make_file;
 use crate::narrow_lines::Narrow;
 use crate::progress::{Watch, Watched};
 use crate::words::{columns_asked, records_asked, subject_asked};
 use clap::ArgMatches;
-use rq_found::{Diagnosis, Plan, Seen, ShownLog, Trouble, begins_at, put_diagnosis};
+use rq_found::{Diagnosis, Fault, Plan, Seen, ShownLog, Trouble, begins_at, put_diagnosis};
+use rq_look::Joins;
 use std::alloc::{AllocError, Global};
 use std::io::{self, ErrorKind, Write};
 use std::os::fd::AsFd;
@@ -51,19 +52,111 @@ fn verdict_line(alloc: Global, file: &str, diagnosis: Diagnosis) -> Result<Strin
     Ok(line)
 }
 
+/// Whether a log is refused that was carried on, since no checkpoint with which it begins is right.
+pub(crate) fn is_frontless(log: &ShownLog<'_>, trouble: &Trouble) -> bool {
+    let is_refused = matches!(
+        trouble,
+        Trouble::Log(Fault::NoCheckpoint) | Trouble::Log(Fault::BadCheckpoint)
+    );
+    log.at.is_some() && is_refused
+}
+
+// Prints a line for each record that is wanted; of a carried log without a front, for each right frame,
+// if what stands behind a front is wanted.
+fn dump<R: AllocGlobal + Threads + Sync, W: Write>(
+    rt: &R,
+    asked: &Request<'_, '_>,
+    output: &mut W,
+) -> Result<(), Trouble> {
+    let wanted = records_asked(asked.words);
+    match rq_look::dump(rt, rt.alloc(), &asked.log, &wanted, output) {
+        Err(trouble) if wanted.behind && is_frontless(&asked.log, &trouble) => {
+            rq_look::dump_frontless(rt.alloc(), &asked.log, &wanted, output)
+        }
+        done => done,
+    }
+}
+
 // Prints what a check finds, unless it is to say nothing. Answers whether it finds nothing.
 fn check<R: AllocGlobal + Threads + Sync, W: Write>(
     rt: &R,
     asked: &Request<'_, '_>,
     output: &mut W,
 ) -> Result<bool, Trouble> {
-    let found = rq_look::check(rt, rt.alloc(), &asked.log)?;
+    let found = match rq_look::check(rt, rt.alloc(), &asked.log) {
+        Err(trouble) if is_frontless(&asked.log, &trouble) => {
+            rq_look::check_frontless(rt.alloc(), &asked.log)?
+        }
+        found => found?,
+    };
     if !asked.words.get_flag("quiet") {
         let verdict = verdict_line(rt.alloc(), asked.file, found.diagnosis)?;
         print_found(found.text.as_str(), output)?;
         print_found(verdict.as_str(), output)?;
     }
     Ok(found.fine)
+}
+
+// What is said of a carried log and the one before it, of this name.
+fn join_text(
+    alloc: Global,
+    log: &ShownLog<'_>,
+    joins: Joins,
+    old: &str,
+) -> Result<String, Trouble> {
+    let name = Seen(shown_name(old));
+    let text = if log.at.is_none() {
+        format!(in alloc; "not carried: it goes on from no log\n")
+    } else if joins.checkpoint {
+        format!(in alloc; "goes on from the front of {name}\n")
+    } else if joins.link {
+        format!(in alloc;
+            "does not go on from the front of {name}: its link does, its checkpoint does not\n"
+        )
+    } else {
+        format!(in alloc; "does not go on from the front of {name}: its link is of another\n")
+    };
+    Ok(text?)
+}
+
+// Tells whether a carried log goes on from the front of the one before it, if the words name that, and
+// answers whether it does.
+fn check_after<R>(rt: &R, asked: &Request<'_, '_>, watch: Watch) -> Result<bool, Failure>
+where
+    R: Files + Input + Print + Eprint + Clock + AllocGlobal + Threads + Sync,
+{
+    let Some(file) = asked.words.get_str("after") else {
+        return Ok(true);
+    };
+    let mut bytes = read_log_file(rt, file, watch)?;
+    let at = begins_at(&mut bytes);
+    let old = ShownLog {
+        bytes: &bytes,
+        at,
+        plan: asked.log.plan,
+    };
+    match tell_joins(rt, asked, &old, file) {
+        Ok(joins) => Ok(joins),
+        Err(trouble) => Err(of_file(rt, file, FileTrouble::Refused(trouble))),
+    }
+}
+
+// Tells whether it goes on from the front of this one.
+fn tell_joins<R>(
+    rt: &R,
+    asked: &Request<'_, '_>,
+    old: &ShownLog<'_>,
+    file: &str,
+) -> Result<bool, Trouble>
+where
+    R: Print + AllocGlobal + Threads + Sync,
+{
+    let joins = rq_look::joins(rt, rt.alloc(), &asked.log, old)?;
+    if !asked.words.get_flag("quiet") {
+        let text = join_text(rt.alloc(), &asked.log, joins, file)?;
+        print_found(text.as_str(), &mut io::writer(rt))?;
+    }
+    Ok(joins.checkpoint && asked.log.at.is_some())
 }
 
 // Tells how long a megabyte of the log took, if there is a clock.
@@ -100,8 +193,8 @@ fn perform<R: Eprint + Clock + AllocGlobal + Threads + Sync, W: Write>(
     let (alloc, log, words) = (rt.alloc(), &asked.log, asked.words);
     match asked.name {
         "check" => return check(rt, asked, output),
-        "script" => return rq_look::script(rt, alloc, log.bytes, log.plan, output),
-        "dump" => rq_look::dump(rt, alloc, log, &records_asked(words), output)?,
+        "script" => return rq_look::script(rt, alloc, log, output),
+        "dump" => dump(rt, asked, output)?,
         "report" => {
             let (queue, json) = (words.get_one::<u32>("queue"), words.get_flag("json"));
             rq_look::report(rt, alloc, log, queue, json, output)?
@@ -140,7 +233,7 @@ fn act_on<'a, R>(
     watch: Watch,
 ) -> Result<bool, Failure>
 where
-    R: Files + Print + Eprint + Clock + AllocGlobal + Threads + Sync,
+    R: Files + Input + Print + Eprint + Clock + AllocGlobal + Threads + Sync,
     R::File: AsFd,
 {
     let file = file_of(words);
@@ -150,17 +243,14 @@ where
         file,
         log,
     };
-    // These begin with the first record, and so show no log that was carried on.
-    if asked.log.at.is_some() && matches!(name, "script" | "salvage") {
-        return Err(of_file(rt, file, FileTrouble::Carried));
-    }
     if let Some(to) = words.get_str("OUT") {
         return make_file(rt, &asked, to);
     }
-    match print_shown(rt, &asked, watch) {
-        Ok(fine) => Ok(fine),
-        Err(trouble) => Err(of_file(rt, file, FileTrouble::Refused(trouble))),
-    }
+    let fine = match print_shown(rt, &asked, watch) {
+        Ok(fine) => fine,
+        Err(trouble) => return Err(of_file(rt, file, FileTrouble::Refused(trouble))),
+    };
+    Ok(check_after(rt, &asked, watch)? && fine)
 }
 
 // The file that the log is in.
