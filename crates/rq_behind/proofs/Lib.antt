@@ -1,2 +1,5 @@
+mod Advances
+mod Changed
 mod Ends
+mod Proved
 mod Sound

@@ -3,9 +3,19 @@
 //! stands before those.
 #![tactic(auto)]
 
+mod byte_search;
+mod changes;
+mod efforts;
 mod forms;
+mod mended_logs;
+mod mending;
 mod places;
 mod runs;
 mod search;
+mod tries;
+mod witness;
 
+pub use changes::Change;
+pub use efforts::LeftOut;
+pub use mended_logs::{Mended, mend};
 pub use search::{Found, behind};

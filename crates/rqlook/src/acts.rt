@@ -3,11 +3,13 @@
 use crate::failures::{Failure, FileTrouble, of_file};
 use crate::log_files::read_log_file;
 use crate::made_files::make_file;
+use crate::mended_files::mend_file;
 use crate::narrow_lines::Narrow;
 use crate::progress::{Watch, Watched};
 use crate::words::{columns_asked, records_asked, subject_asked};
 use clap::ArgMatches;
 use rq_found::{Plan, ShownLog, Trouble, begins_at};
+use std::fs::File;
 use std::io::{self, ErrorKind, Write};
 use std::os::fd::AsFd;
 use std::rt::{Clock, Files};
@@ -162,8 +164,7 @@ fn file_of<'a>(words: &'a ArgMatches<'_>) -> &'a str {
 /// Does the command of the words on its log. False answers that something is wrong with the log.
 pub(crate) fn act<R>(rt: &R, matches: &ArgMatches<'_>, watch: Watch) -> Result<bool, Failure>
 where
-    R: Files + Input + Print + Eprint + Clock + AllocGlobal + Threads + Sync,
-    R::File: AsFd,
+    R: Files<File = File> + Input + Print + Eprint + Clock + AllocGlobal + Threads + Sync,
 {
     let Some((name, words)) = matches.subcommand() else {
         return Ok(true);
@@ -171,6 +172,10 @@ where
     let Some(plan) = plan_of(words) else {
         return Err(Failure::Workers);
     };
+    if name == "mend" {
+        let to = words.get_str("OUT").unwrap_or("-");
+        return mend_file(rt, file_of(words), to, &plan, watch);
+    }
     let bytes = read_log_file(rt, file_of(words), watch)?;
     watch.begins(rt, &bytes);
     let log = ShownLog {

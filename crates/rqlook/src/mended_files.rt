@@ -1,0 +1,80 @@
+//! A log that is mended into a file of its own.
+
+use crate::failures::{Failure, FileTrouble, of_file};
+use crate::log_files::read_log_file;
+use crate::progress::Watch;
+use rq_behind::{Mended, mend};
+use rq_file::{expect_free, put_new};
+use rq_found::{Fault, Plan, ShownLog, Trouble, begins_at};
+use rq_front::HEADER_LEN;
+use rq_judged::grain_of;
+use rq_look::{Findings, check, mended_text};
+use std::fs::{File, Files};
+use std::io::{self, ErrorKind};
+use std::rt::Clock;
+use std::thread::Threads;
+
+// Why there is no file of this name.
+fn unmade<R: AllocGlobal>(rt: &R, to: &str, error: io::Error) -> Failure {
+    match error.kind() {
+        ErrorKind::OutOfMemory => Failure::Memory,
+        _ => of_file(rt, to, FileTrouble::Stream(error)),
+    }
+}
+
+// What a check finds of a mended log.
+fn checked<R: AllocGlobal + Threads + Sync>(
+    rt: &R,
+    mended: &Mended,
+    plan: &Plan,
+) -> Result<Findings, Trouble> {
+    let log = ShownLog {
+        bytes: &mended.bytes,
+        at: None,
+        plan,
+    };
+    check(rt, rt.alloc(), &log)
+}
+
+// Says what was put back, and what a check finds of the log then.
+fn tell<R: Print + AllocGlobal>(rt: &R, mended: &Mended, found: &Findings) -> Result<(), Failure> {
+    let mut text = mended_text(rt.alloc(), mended)?;
+    text.push_str(found.text.as_str())?;
+    rt.write_all(text.as_bytes())?;
+    Ok(())
+}
+
+// Mends these bytes, and makes the file of what they are then. Answers whether the log is whole.
+fn mend_bytes<R>(rt: &R, file: &str, to: &str, bytes: Vec<u8>, plan: &Plan) -> Result<bool, Failure>
+where
+    R: Files<File = File> + Print + AllocGlobal + Threads + Sync,
+{
+    let refused = |trouble: Trouble| -> Failure { of_file(rt, file, FileTrouble::Refused(trouble)) };
+    let mended = mend(rt, rt.alloc(), bytes, HEADER_LEN, grain_of(plan))
+        .map_err(|fault: Fault| -> Failure { refused(Trouble::Log(fault)) })?;
+    let found = checked(rt, &mended, plan).map_err(refused)?;
+    put_new(rt, to, &mended.bytes).map_err(|error| unmade(rt, to, error))?;
+    tell(rt, &mended, &found)?;
+    Ok(found.fine)
+}
+
+/// Makes the file of a mended log. It is new, and whole or not there. Answers whether the log is whole
+/// then, and each of its checkpoints true.
+pub(crate) fn mend_file<R>(
+    rt: &R,
+    file: &str,
+    to: &str,
+    plan: &Plan,
+    watch: Watch,
+) -> Result<bool, Failure>
+where
+    R: Files<File = File> + Input + Print + Eprint + Clock + AllocGlobal + Threads + Sync,
+{
+    expect_free(rt, to).map_err(|error| unmade(rt, to, error))?;
+    let bytes = read_log_file(rt, file, watch)?;
+    watch.begins(rt, &bytes);
+    if begins_at(&bytes).is_some() {
+        return Err(of_file(rt, file, FileTrouble::Carried));
+    }
+    mend_bytes(rt, file, to, bytes, plan)
+}
