@@ -1,7 +1,7 @@
 #!/usr/bin/env python3
 """Holds what `rqlook` shows against what `rq` says and what the log's bytes are, over many logs, and counts what differs.
 
-usage: look.py RQ RQLOOK [--own] [--seeds N] [--stories N] [--mib N] [--scripts N] [--speed MIB] [--folder DIR]
+usage: look.py RQ RQLOOK [--own] [--draw N] [--seeds N] [--stories N] [--mib N] [--scripts N] [--speed MIB] [--folder DIR]
 For each shape and seed of the peer's logs: the report as JSON is held against its schema, told as text again, and compared with `rq
 restart`; the lines of each queue alone with those of the whole; the script is made a log again by `rq make`, and compared byte by
 byte; each line of a dump, whole and by each option, as text and as JSON, with what is made of the log's bytes here (looked.py); so are
@@ -14,14 +14,15 @@ units on many queues with checkpoints. Each log with a true checkpoint is carrie
 it must be what is shown of the whole log from there on, at its offsets. The last line is `N passed, M failed`, by answers.
 """
 from __future__ import annotations
-import argparse, glob, json, os, pty, random, resource, shutil, subprocess, sys, tty
+import argparse, glob, json, os, pty, random, re, resource, shutil, subprocess, sys, tty
 
 sys.path.insert(0, os.path.dirname(os.path.dirname(os.path.abspath(__file__))))
 from common import (COMPARED, HEADER, HERE, NO_RECORD, UNLAWFUL, best, bodies_of, built_peer, chained, check, checkpoints_script, counted, header_of,
                     log_of, parsed, parser, write_log)
+from fronted import checkpoint_rows, marks_of, told_of, wanted_marks, wanted_of
 from looked import Stories, columns_of, compact, cut_to, is_hidden, line_of, records_of
 from paged import ALL, SHOWN, TAGS, WORDS, Page, Told, payload
-from records import begin, commit, define, enqueue, register
+from records import begin, checkpoint, commit, define, enqueue, register
 from schema import report_misfits
 
 
@@ -145,6 +146,10 @@ def same_check(rq: str, look: str, log: str) -> None:
     check(f"{log}'s findings", (status, text.count("the checkpoint at"), text.count("front ends")),
           (0 if whole and not false else 1, len(false), 0 if whole else 1))
     check(f"{log}'s findings, not said", told(look, "check", log, "-q"), (status, ""))
+    behind = "\nbehind it no frame is right in itself; " in text and "\nthe search gave up" not in text
+    is_torn = behind and not re.search(r" bytes, (form|law): ", text) and os.path.getsize(log) - int(text.split(" at ", 1)[1].split()[0]) <= 1 << 20
+    word = ("whole, but not" if false else "whole, each") if whole else "a torn end" if is_torn else "damaged"
+    check(f"{log}'s verdict", text.split("\n")[-2].startswith(f"verdict: {word}"), True)
 
 
 def same_stories(look: str, log: str, records: list[dict], count: int, draw: random.Random) -> None:
@@ -206,6 +211,48 @@ def same_queues(look: str, log: str) -> tuple[list[str], Page]:
     return [it["name"] for it in report["queues"]], page
 
 
+def same_front(rq: str, look: str, path: str) -> None:
+    """The first chapter of a log's page, its picture's checkpoints, and the rows of these, if it has rows of records."""
+    report = json.loads(told(look, "report", path, "--json")[1])
+    audit = told(rq, "audit", path, "1")[1].splitlines()
+    with open(path, "rb") as source:
+        log = source.read()
+    page = page_of(look, path)
+    check(f"{path}'s page, its first chapter", told_of(page, report), dict(wanted_of(report, log, audit)))
+    check(f"{path}'s page, checkpoints in its picture", marks_of(page), wanted_marks(audit, len(log)))
+    rows, bodies = dict(page.rows), bodies_of(log[:report["front"]["used"]])
+    for name, want in checkpoint_rows(records_of(bodies), bodies, audit).items():
+        if "r0" in rows:
+            check(f"{path}'s page, {name}", rows.get(name), want)
+
+
+def false_checkpoints(rq: str, look: str, folder: str) -> None:
+    """The page of a log with true and with false checkpoints; one part of its picture has both."""
+    path = os.path.join(folder, "look.false")
+    bodies = [define(b"jobs"), checkpoint(b"no state"), begin(1)]
+    bodies += [it for unit in range(2, 402) for it in (begin(unit), commit(unit))]
+    write_log(path, header_of(1), [*bodies, checkpoint(b""), commit(1)])
+    subprocess.run([rq, "make", os.path.join(HERE, "..", "examples", "checkpoint.script"), path + ".true"], check=True)
+    with open(path + ".true", "rb") as source:
+        both = bodies_of(source.read())
+    write_log(path + ".both", header_of(1), [*both[:9], checkpoint(b"\0" * 52), *both[9:]])
+    for it in (path, path + ".both"):
+        same_front(rq, look, it)
+
+
+def in_any_order(rows: dict[str, list[str]]) -> dict[str, list[str]]:
+    """The rows, with what happens at each put in order."""
+    return {name: [*cells[:-1], "|".join(sorted(cells[-1].split("|")))] for name, cells in rows.items() if cells}
+
+
+def same_rows(path: str, rows: dict[str, list[str]], whole: dict[str, list[str]], short: dict[str, list[str]]) -> None:
+    """A page's rows of records and elements: all of each payload, and from some row on only the first of each."""
+    is_whole = True
+    for name, want in whole.items():
+        is_whole = is_whole and (want == short[name] or rows.get(name) != short[name])
+        check(f"{path}'s page, {name}", rows.get(name), want if is_whole else short[name])
+
+
 def same_page(look: str, log: str, records: list[dict], draw: random.Random) -> None:
     """The rows of the page's queues against the report, and those of lives and records against the log."""
     names, page = same_queues(look, log)
@@ -215,8 +262,7 @@ def same_page(look: str, log: str, records: list[dict], draw: random.Random) -> 
         some_lives(look, log, lives, draw)
         return
     check(f"{log}'s page, elements", {name: cells for name, cells in rows.items() if name[:1] == "e" and name[1:].isdecimal()}, lives.elements())
-    for name, want in lives.rows().items():
-        check(f"{log}'s page, {name}", rows.get(name), want)
+    same_rows(log, rows, lives.rows(), lives.rows(whole=False))
 
 
 def some_lives(look: str, log: str, lives: Told, draw: random.Random) -> None:
@@ -266,6 +312,7 @@ def reasons(rq: str, look: str, log: str, folder: str) -> None:
         check(f"a page's end, {why}", ["behind it", f"{why}: {front['reason']}"] in [cells for _, cells in page_of(look, path).rows], True)
         check(f"a report's front by {why}", told(rq, "restart", path, "4", "1000")[1].split("\n", 1)[0],
               f"front {front['records']} records, {front['used']} of {front['total']} bytes, {why}")
+        same_front(rq, look, path)
         same_check(rq, look, path)
         if why == "chain":
             widths(look, path)
@@ -461,9 +508,8 @@ def carried_page(look: str, path: str, records: list[dict], stories: Stories, fi
     rows = dict(page.rows)
     if f"r{first}" not in rows and len(records) - first > ALL:
         return
-    for name, want in Told(records, stories, names).behind(first).items():
-        got = rows.get(name, [""])
-        check(f"{path}'s page, {name}", (got[:-1], sorted(got[-1].split("|"))), (want[:-1], sorted(want[-1].split("|"))))
+    lives = Told(records, stories, names)
+    same_rows(path, *map(in_any_order, (rows, lives.behind(first), lives.behind(first, whole=False))))
 
 
 def carried(rq: str, look: str, log: str, folder: str, draw: random.Random) -> None:
@@ -482,7 +528,7 @@ def carried(rq: str, look: str, log: str, folder: str, draw: random.Random) -> N
     front = {"carried_at": CARRIED_AT, "records": len(records), "used": size, "total": size, "why": "whole", "reason": "nothing follows"}
     for words, wanted in [([], shown_here)] + wanted_by(draw, shown_here):
         same_lines(look, path, words, wanted, ("\n".join(end), {"front": front}))
-    check(f"{path}'s findings", told(look, "check", path), (1, f"carried: use rqlog\n{end[1]}\n"))
+    check(f"{path}'s findings", told(look, "check", path), (1, f"carried: use rqlog\n{end[1]}\nverdict: whole, each checkpoint is true. Next: rqlog append {path}\n"))
     _, want = told(rq, "restart-at", path, str(CARRIED_AT), "4", "1000")
     check(f"{path} as text", told(look, "report", path), (0, f"{end[0]}\n{want}"))
     report = json.loads(told(look, "report", path, "--json")[1])
@@ -527,6 +573,7 @@ def look_at(options: argparse.Namespace, log: str, draw: random.Random) -> None:
     same_dump(look, log, records, draw)
     same_check(rq, look, log)
     same_stories(look, log, records, options.stories, draw)
+    same_front(rq, look, log)
     same_page(look, log, records, draw)
 
 
@@ -534,6 +581,7 @@ def main() -> int:
     words = parser()
     words.add_argument("look")
     words.add_argument("--own", action="store_true")
+    words.add_argument("--draw", type=int, default=1)
     words.add_argument("--seeds", type=int, default=3)
     words.add_argument("--stories", type=int, default=10)
     words.add_argument("--mib", type=int, default=1)
@@ -541,7 +589,7 @@ def main() -> int:
     words.add_argument("--speed", type=int, default=0)
     options = parsed(words)
     rq, look, folder = options.program, options.look, options.folder
-    draw = random.Random(1)
+    draw = random.Random(options.draw)
     if options.own:
         logs = own_logs(rq, folder)
         small = logs[-1]
@@ -554,6 +602,7 @@ def main() -> int:
         if options.own:
             carried(rq, look, log, folder, draw)
     reasons(rq, look, small, folder)
+    false_checkpoints(rq, look, folder)
     odd_payloads(rq, look, folder)
     kills(rq, look, folder)
     untold(look, folder)

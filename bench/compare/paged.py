@@ -170,8 +170,8 @@ class Told:
             rows[f"e{number}"] = [str(number), "".join(steps)]
         return rows
 
-    def record(self, it: dict) -> str:
-        """What a record says."""
+    def record(self, it: dict, whole: bool = True) -> str:
+        """What a record says, with all of its payload or the first of it."""
         words = [it["kind"]]
         if "unit" in it:
             words.append(f"unit {it['unit']}")
@@ -188,17 +188,17 @@ class Told:
         if "tag" in it:
             words.append(f"by {it['registrant']} tag {it['tag']}")
         if "payload" in it:
-            words.append(f"payload {payload(it['payload'])}")
+            words.append(f"payload {payload(it['payload'], whole)}")
         return " ".join(words)
 
-    def rows(self) -> dict[str, list[str]]:
-        """The row of each record but its events, by its id."""
-        return {f"r{it['record']}": [str(it["record"]), str(it["offset"]), self.record(it), "".join(map(self.event, self.events[it["record"]]))]
+    def rows(self, whole: bool = True) -> dict[str, list[str]]:
+        """The row of each record, by its id."""
+        return {f"r{it['record']}": [str(it["record"]), str(it["offset"]), self.record(it, whole), "".join(map(self.event, self.events[it["record"]]))]
                 for it in self.records if it["kind"] != "checkpoint"}
 
-    def behind(self, first: int) -> dict[str, list[str]]:
+    def behind(self, first: int, whole: bool = True) -> dict[str, list[str]]:
         """The rows of the records from this one on, and of the elements that these have to do with, by their ids."""
-        rows = {name: cells for name, cells in self.rows().items() if int(name[1:]) >= first}
+        rows = {name: cells for name, cells in self.rows(whole).items() if int(name[1:]) >= first}
         for name, (element, life) in self.elements().items():
             steps = [it for it in life.split("|")[:-1] if it.startswith("at the restart") or int(it.split()[0]) >= first]
             if steps:

@@ -2,4 +2,5 @@ mod Advances
 mod Changed
 mod Ends
 mod Proved
+mod Scanned
 mod Sound

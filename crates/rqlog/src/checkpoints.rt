@@ -1,6 +1,7 @@
 //! The checkpoint of a state, and the ABORTs of open units.
 
-use crate::fronts::{OpenLog, front_of, opened_front, redone_behind};
+use crate::damage::LeftOut;
+use crate::fronts::{OpenLog, opened_front, redone_behind};
 use crate::refusal::Refusal;
 use rq_journal::{NotTaken, Plan, checkpoint_of};
 use rq_record::{Fault, Record, kept_records};
@@ -85,24 +86,27 @@ pub(crate) fn mark<R: Threads + Sync>(
     bytes: &[u8],
     plan: &Plan,
     ends_units: bool,
+    drops: bool,
 ) -> Result<(OpenLog, usize), Refusal> {
-    let mut log = opened_front(rt, alloc, bytes, plan)?;
+    let mut log = opened_front(rt, alloc, bytes, plan, drops)?;
     let front = redone_behind(rt, alloc, bytes, plan)?;
     let offset = mark_behind(rt, alloc, &mut log, front, plan, ends_units)?;
     Ok((log, offset))
 }
 
-/// Makes of a log that was carried on the closed one.
+/// Makes of a log that was carried on the closed one, and answers what is left out of it behind its
+/// front, if that is to be told. Refuses to leave out what is not to be dropped.
 pub(crate) fn close_carried<R: Threads + Sync>(
     rt: &R,
     alloc: Global,
     bytes: &mut Vec<u8>,
     plan: &Plan,
-) -> Result<(), Refusal> {
-    let mut log = front_of(rt, alloc, bytes, plan)?;
+    drops: bool,
+) -> Result<Option<LeftOut>, Refusal> {
+    let mut log = opened_front(rt, alloc, bytes, plan, drops)?;
     let aborts = aborts_of(alloc, &redone_behind(rt, alloc, bytes, plan)?.state)?;
     append_all(alloc, &mut log, &aborts)?;
     bytes.truncate(log.opened.used);
     bytes.append(&mut log.frames)?;
-    Ok(())
+    Ok(log.left_out)
 }

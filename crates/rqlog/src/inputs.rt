@@ -9,7 +9,7 @@ use rq_journal::{Fault, Plan, is_carried};
 use rq_judged::GrowingFront;
 use std::alloc::{AllocError, Global};
 use std::fs::{self, File, Files};
-use std::io::{self, Chain, Cursor, ErrorKind, Read};
+use std::io::{self, Chain, Cursor, ErrorKind, Read, Seek, SeekFrom};
 use std::os::unix::fs::FileExt;
 use std::thread::Threads;
 
@@ -22,7 +22,7 @@ const PIECE: usize = 1_048_576;
 // The bytes that were read, if they are not too many.
 fn within(read: io::Result<Vec<u8>>, stream: Stream) -> Result<Vec<u8>, Refusal> {
     match read {
-        Ok(bytes) if bytes.len() as u64 >= LIMIT => Err(Refusal::Refused(Fault::TooLong)),
+        Ok(bytes) if bytes.len() as u64 >= LIMIT => Err(Refusal::Refused(stream, Fault::TooLong)),
         Ok(bytes) => Ok(bytes),
         Err(error) => Err(failed(stream, error)),
     }
@@ -40,6 +40,19 @@ where
 /// The bytes of a log from its open file, read from where that stands.
 pub(crate) fn rest_of_log<A: AllocGlobal>(rt: &A, file: &mut File) -> Result<Vec<u8>, Refusal> {
     log_from(rt, &*file)
+}
+
+/// The bytes of a log from an offset of its open file on, at most so many.
+pub(crate) fn last_of_log<A: AllocGlobal>(
+    rt: &A,
+    file: &mut File,
+    offset: usize,
+    most: usize,
+) -> Result<Vec<u8>, Refusal> {
+    if let Err(error) = file.seek(SeekFrom::Start(offset as u64)) {
+        return Err(failed(Stream::Log, error));
+    }
+    log_from(rt, (&*file).take(most as u64))
 }
 
 /// Whether the log of an open file or pipe was carried on, and all its bytes, to be read.
@@ -74,7 +87,7 @@ fn read_piece(file: &mut File, piece: &mut [u8]) -> Result<usize, Refusal>
             Err(error) => return Err(Refusal::Failed(Stream::Log, error)),
         }
     }
-    Err(Refusal::Refused(Fault::ReadFailed))
+    Err(Refusal::Refused(Stream::Log, Fault::ReadFailed))
 }
 
 // Room for what is read at a time. (A function of its own, since the check of one that knows its

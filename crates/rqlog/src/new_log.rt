@@ -1,20 +1,16 @@
 //! The file of a new log, which takes nobody's place.
 
 use crate::refusal::{Refusal, Stream, failed};
-use std::fs::{File, Files};
-use std::io::{self, ErrorKind};
-
-// Why there is no new log.
-fn refused(error: io::Error) -> Refusal {
-    match error.kind() {
-        ErrorKind::AlreadyExists => Refusal::There,
-        _ => failed(Stream::New, error),
-    }
-}
+use rq_file::{Replaces, put_over};
+use std::fs::{self, File, Files};
+use std::io::ErrorKind;
 
 /// Refuses a name for a new log under which something stands.
 pub(crate) fn expect_free<R: Files<File = File>>(rt: &R, new: &str) -> Result<(), Refusal> {
-    rq_file::expect_free(rt, new).map_err(|error| refused(error))
+    if fs::symlink_metadata(rt, new).is_ok() {
+        return Err(Refusal::There);
+    }
+    Ok(())
 }
 
 /// Makes the file of a new log, whole or not at all. What came under its name meanwhile stays.
@@ -22,5 +18,9 @@ pub(crate) fn put_new<R>(rt: &R, new: &str, bytes: &[u8]) -> Result<(), Refusal>
 where
     R: Files<File = File> + AllocGlobal,
 {
-    rq_file::put_new(rt, new, bytes).map_err(|error| refused(error))
+    match put_over(rt, new, bytes, &Replaces::Nothing) {
+        Ok(()) => Ok(()),
+        Err(error) if error.kind() == ErrorKind::AlreadyExists => Err(Refusal::There),
+        Err(error) => Err(failed(Stream::New, error)),
+    }
 }

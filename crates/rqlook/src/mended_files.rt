@@ -2,25 +2,17 @@
 
 use crate::failures::{Failure, FileTrouble, of_file};
 use crate::log_files::read_log_file;
+use crate::made_files::{expect_free, write_made};
 use crate::progress::Watch;
 use rq_behind::{Mended, mend};
-use rq_file::{expect_free, put_new};
-use rq_found::{Fault, Plan, ShownLog, Trouble, begins_at};
+use rq_file::Replaces;
+use rq_found::{Plan, ShownLog, Trouble, begins_at};
 use rq_front::HEADER_LEN;
 use rq_judged::grain_of;
 use rq_look::{Findings, check, mended_text};
-use std::fs::{File, Files};
-use std::io::{self, ErrorKind};
-use std::rt::Clock;
+use std::os::fd::AsFd;
+use std::rt::{Clock, Files};
 use std::thread::Threads;
-
-// Why there is no file of this name.
-fn unmade<R: AllocGlobal>(rt: &R, to: &str, error: io::Error) -> Failure {
-    match error.kind() {
-        ErrorKind::OutOfMemory => Failure::Memory,
-        _ => of_file(rt, to, FileTrouble::Stream(error)),
-    }
-}
 
 // What a check finds of a mended log.
 fn checked<R: AllocGlobal + Threads + Sync>(
@@ -44,16 +36,26 @@ fn tell<R: Print + AllocGlobal>(rt: &R, mended: &Mended, found: &Findings) -> Re
     Ok(())
 }
 
+// That this file is refused.
+fn refused<R: AllocGlobal>(rt: &R, file: &str, trouble: Trouble) -> Failure {
+    of_file(rt, file, FileTrouble::Refused(trouble))
+}
+
 // Mends these bytes, and makes the file of what they are then. Answers whether the log is whole.
 fn mend_bytes<R>(rt: &R, file: &str, to: &str, bytes: Vec<u8>, plan: &Plan) -> Result<bool, Failure>
 where
-    R: Files<File = File> + Print + AllocGlobal + Threads + Sync,
+    R: Files + Print + AllocGlobal + Threads + Sync,
+    R::File: AsFd,
 {
-    let refused = |trouble: Trouble| -> Failure { of_file(rt, file, FileTrouble::Refused(trouble)) };
-    let mended = mend(rt, rt.alloc(), bytes, HEADER_LEN, grain_of(plan))
-        .map_err(|fault: Fault| -> Failure { refused(Trouble::Log(fault)) })?;
-    let found = checked(rt, &mended, plan).map_err(refused)?;
-    put_new(rt, to, &mended.bytes).map_err(|error| unmade(rt, to, error))?;
+    let mended = match mend(rt, rt.alloc(), bytes, HEADER_LEN, grain_of(plan)) {
+        Ok(mended) => mended,
+        Err(fault) => return Err(refused(rt, file, Trouble::Log(fault))),
+    };
+    let found = match checked(rt, &mended, plan) {
+        Ok(found) => found,
+        Err(trouble) => return Err(refused(rt, file, trouble)),
+    };
+    write_made(rt, to, &mended.bytes, &Replaces::Nothing)?;
     tell(rt, &mended, &found)?;
     Ok(found.fine)
 }
@@ -68,9 +70,10 @@ pub(crate) fn mend_file<R>(
     watch: Watch,
 ) -> Result<bool, Failure>
 where
-    R: Files<File = File> + Input + Print + Eprint + Clock + AllocGlobal + Threads + Sync,
+    R: Files + Input + Print + Eprint + Clock + AllocGlobal + Threads + Sync,
+    R::File: AsFd,
 {
-    expect_free(rt, to).map_err(|error| unmade(rt, to, error))?;
+    expect_free(rt, to, &Replaces::Nothing)?;
     let bytes = read_log_file(rt, file, watch)?;
     watch.begins(rt, &bytes);
     if begins_at(&bytes).is_some() {
