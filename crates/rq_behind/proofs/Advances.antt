@@ -158,8 +158,15 @@ pub end_behind : (b : List ℕ) (from end : ℕ) (bodies : List (List ℕ)) (res
     → IsFrameRun b from bodies end rest → from ≤ end
 end_behind b from end bodies rest inside run =
     let parts = ap length run.run.whole in
-    omega (arith, inside, run.within, parts, length-drop from b, length-drop end b,
-    length-append (frames (before from b) bodies) (drop end b))
+    omega (
+      arith,
+      inside,
+      run.within,
+      parts,
+      length-drop from b,
+      length-drop end b,
+      length-append (frames (before from b) bodies) (drop end b),
+    )
 
 -- what is told from the end of the front on
 pub told_from : (log : List ℕ) (least : ℕ) (m : Mending) → IsMended log least m → AreTold log least m.changes.items

@@ -50,8 +50,13 @@ changed_more log from b cs at c place low was other changed =
       same = ap (λ (x : List ℕ). slice_set x at c.now) changed.same
           ∙ ap (λ (k : ℕ). slice_set (with_changes log cs) k c.now) (sym place) ∙ sym (changes_push log cs c);
       told = λ rest told. subst (AreTold log from) (sym (append_assoc cs (c ∷ []) rest))
-          (changed.told (c ∷ rest) (omega (arith, place), omega (arith, place, low, changed.size), stood, other,
-          subst (λ (k : ℕ). AreTold log k rest) (omega (arith, place)) told));
+          (changed.told (c ∷ rest) (
+            omega (arith, place),
+            omega (arith, place, low, changed.size),
+            stood,
+            other,
+            subst (λ (k : ℕ). AreTold log k rest) (omega (arith, place)) told,
+          ));
       size = size ∙ changed.size;
       behind =
           let off : drop (at + 1) (slice_set b at c.now) ≡ drop (at + 1) b = drop-set-lt (at + 1) b at c.now (omega arith) in

@@ -42,13 +42,7 @@ fn are_others(others: Others, mask: u8) -> bool {
 }
 
 // The digest of a message with another byte at an offset. The hasher holds what comes before `from`.
-fn digest_with(
-    before: &Sha256,
-    bytes: &[u8],
-    from: usize,
-    end: usize,
-    other: Candidate,
-) -> [u8; 32]
+fn digest_with(before: &Sha256, bytes: &[u8], from: usize, end: usize, other: Candidate) -> [u8; 32]
     requires from { from ≤ other.offset }
     requires low { other.offset < end }
     requires within { end ≤ length bytes.now }
@@ -90,12 +84,7 @@ fn sought_at(
 }
 
 // The byte that makes the digest right in the place of one of a block, from an offset on.
-fn sought_in(
-    bytes: &[u8],
-    message: Message,
-    block: usize,
-    others: Others,
-) -> Option<Candidate>
+fn sought_in(bytes: &[u8], message: Message, block: usize, others: Others) -> Option<Candidate>
     requires low { message.start + 36 ≤ message.end }
     requires within { message.end + 32 ≤ length bytes.now }
     ensures { IfSome result (λ c. (message.start + 36 ≤ c.offset) × (c.offset < message.end)) }
@@ -135,12 +124,15 @@ pub(crate) fn sought_byte<R: Threads + Sync>(
         end: at + 4 + len,
     };
     let blocks = (FRAME_LEN + len) / BLOCK + 1;
-    let index = (0..blocks).into_par_iter().with_min_len(least).position_first(
-        rt,
-        |block: usize| -> bool
-            requires low { message.start + 36 ≤ message.end }
-            requires within { message.end + 32 ≤ length bytes.now }
-        { sought_in(bytes, message, block, others).is_some() },
-    )?;
+    let index = (0..blocks)
+        .into_par_iter()
+        .with_min_len(least)
+        .position_first(
+            rt,
+            |block: usize| -> bool
+                requires low { message.start + 36 ≤ message.end }
+                requires within { message.end + 32 ≤ length bytes.now }
+            { sought_in(bytes, message, block, others).is_some() },
+        )?;
     sought_in(bytes, message, index, others)
 }

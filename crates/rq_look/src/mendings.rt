@@ -37,7 +37,9 @@ fn put_left_out(text: &mut String, left_out: Option<LeftOut>) -> Put
 {
     match left_out {
         None => Ok(()),
-        Some(LeftOut::Long) => text.push_str("not tried: each byte of the body there, which is too long\n"),
+        Some(LeftOut::Long) => text.push_str(
+            "not tried: each byte of the body there, which is too long\n",
+        ),
         Some(LeftOut::Spent) => text.push_str("not tried: more, since so much was tried in vain\n"),
     }
 }

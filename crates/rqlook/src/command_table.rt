@@ -131,7 +131,11 @@ static COMMANDS: [Subcommand; 10] = [
         about: "Makes a log of a damaged one, with the bytes put back that a digest proves",
         words: &[
             LOG,
-            Word("OUT", Value(TEXT), "The file of the mended log; nothing may stand there"),
+            Word(
+                "OUT",
+                Value(TEXT),
+                "The file of the mended log; nothing may stand there",
+            ),
             WIDTH,
             WORKERS,
         ],

@@ -80,7 +80,12 @@ where
 }
 
 /// Writes what was made to the file of this name, or to standard output for `-`.
-pub(crate) fn write_made<R>(rt: &R, to: &str, made: &[u8], rule: &Replaces<'_>) -> Result<bool, Failure>
+pub(crate) fn write_made<R>(
+    rt: &R,
+    to: &str,
+    made: &[u8],
+    rule: &Replaces<'_>,
+) -> Result<bool, Failure>
 where
     R: Files + Print + AllocGlobal,
     R::File: AsFd,

@@ -17,8 +17,11 @@ places-init g c =
       size = refl;
       written = paste-zero b offset c.args.now.now;
       changed = λ log from h. subst (λ (k : ℕ). IsChanged log from b cs k) (omega arith) h;
-      told = ([], sym (append-nil cs),
-          All-nil (λ (x : Change). (x.frame ≡ c.args.frame) × (offset ≤ x.offset) × (x.offset < offset + g.row.N)));
+      told = (
+        [],
+        sym (append-nil cs),
+        All-nil (λ (x : Change). (x.frame ≡ c.args.frame) × (offset ≤ x.offset) × (x.offset < offset + g.row.N)),
+      );
     }
 
 pub places-preserved : goal.places-preserved
@@ -37,9 +40,12 @@ places-preserved g c =
           ∙ ap (paste b offset c.args.now.now) (omega arith);
       changed = λ log from h. subst (λ (n : ℕ). IsChanged log from c.put_one.new.bytes.items c.put_one.new.changes.items n)
           (omega arith) (c.in_ok-put_one.ensures.changed log from (c.places.invariant.changed log from h));
-      told = (t.0 ++ u.0, u.1 ∙ ap (λ (xs : List Change). xs ++ u.0) t.1 ∙ append_assoc cs t.0 u.0,
-          All-append (λ (x : Change). (x.frame ≡ c.args.frame) × (offset ≤ x.offset) × (x.offset < offset + g.row.N)) t.0 u.0 t.2
-          (λ i d lt. let x = u.2 i d lt in (x.0, omega (arith, x.1), omega (arith, x.1))));
+      told = (
+        t.0 ++ u.0,
+        u.1 ∙ ap (λ (xs : List Change). xs ++ u.0) t.1 ∙ append_assoc cs t.0 u.0,
+        All-append (λ (x : Change). (x.frame ≡ c.args.frame) × (offset ≤ x.offset) × (x.offset < offset + g.row.N)) t.0 u.0 t.2
+            (λ i d lt. let x = u.2 i d lt in (x.0, omega (arith, x.1), omega (arith, x.1))),
+      );
     }
 
 pub returns-clause-written : goal.returns-clause-written
