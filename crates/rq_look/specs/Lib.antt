@@ -1,4 +1,5 @@
 pub mod Findings
 pub mod Joining
 pub mod Looks
+pub mod Mendings
 pub mod Scripts

@@ -3,6 +3,7 @@
 use crate::failures::{Failure, FileTrouble, of_file};
 use crate::log_files::{read_log_file, shown_name, typed_name};
 use crate::made_files::make_file;
+use crate::mended_files::mend_file;
 use crate::narrow_lines::Narrow;
 use crate::progress::{Watch, Watched};
 use crate::words::{columns_asked, records_asked, subject_asked};
@@ -273,6 +274,10 @@ where
     let Some(plan) = plan_of(words) else {
         return Err(Failure::Workers);
     };
+    if name == "mend" {
+        let to = words.get_str("OUT").unwrap_or("-");
+        return mend_file(rt, file_of(words), to, &plan, watch);
+    }
     let mut bytes = read_log_file(rt, file_of(words), watch)?;
     watch.begins(rt, &bytes);
     let at = begins_at(&mut bytes);

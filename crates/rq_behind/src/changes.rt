@@ -1,0 +1,71 @@
+//! Bytes of a log that were put back.
+
+ghost use Rattle.std.specs.Prelude.{◌≡◌, ◌≤◌, ◌<◌, ◌+◌, ◌++◌, ℕ, List, All, OnOk, length, slice_set};
+ghost use Rattle.rq_behind.specs.Mending.{IsChanged, written};
+
+use std::alloc::AllocError;
+
+/// A byte that was put back.
+#[derive(Clone, Copy, Debug, PartialEq, Eq)]
+pub struct Change {
+    /// Its offset in the log.
+    pub offset: usize,
+    /// What stood there.
+    pub was: u8,
+    /// What stands there now.
+    pub now: u8,
+    /// The offset of the frame whose digest proves it.
+    pub frame: usize,
+}
+
+// Puts a byte at an offset, and tells of it if it is another than the one that stood there.
+fn put_one(
+    bytes: &mut Vec<u8>,
+    changes: &mut Vec<Change>,
+    offset: usize,
+    now: u8,
+    frame: usize,
+) -> Result<(), AllocError>
+    requires within { offset < length bytes.old.items }
+    ensures written { OnOk result (bytes.new.items ≡ slice_set bytes.old.items offset now) }
+    ensures changed { OnOk result ((log : List ℕ) (from : ℕ) →
+        IsChanged log from bytes.old.items changes.old.items offset
+        → IsChanged log from bytes.new.items changes.new.items (offset + 1)) }
+    ensures told { OnOk result ((more : List Change) × (changes.new.items ≡ changes.old.items ++ more)
+        × All (λ c. (c.frame ≡ frame) × (c.offset ≡ offset)) more) }
+{
+    let was = bytes[offset];
+    if was == now {
+        return Ok(());
+    }
+    changes.push(Change {
+        offset,
+        was,
+        now,
+        frame,
+    })?;
+    bytes[offset] = now;
+    Ok(())
+}
+
+/// Puts these bytes at an offset, and tells of each that is another than the one that stood there.
+pub(crate) fn put<const N: usize>(
+    bytes: &mut Vec<u8>,
+    changes: &mut Vec<Change>,
+    offset: usize,
+    now: &[u8; N],
+    frame: usize,
+) -> Result<(), AllocError>
+    requires within { offset + N ≤ length bytes.old.items }
+    ensures written { OnOk result (bytes.new.items ≡ written bytes.old.items offset now.now) }
+    ensures changed { OnOk result ((log : List ℕ) (from : ℕ) →
+        IsChanged log from bytes.old.items changes.old.items offset
+        → IsChanged log from bytes.new.items changes.new.items (offset + N)) }
+    ensures told { OnOk result ((more : List Change) × (changes.new.items ≡ changes.old.items ++ more)
+        × All (λ c. (c.frame ≡ frame) × (offset ≤ c.offset) × (c.offset < offset + N)) more) }
+{
+    'places: for k in 0..N {
+        put_one(bytes, changes, offset + k, now[k], frame)?;
+    }
+    Ok(())
+}
