@@ -125,8 +125,8 @@ ENDS = [
     Ends("dump LOG --behind", GOES_ON, in_its_length, 0, ALL_BEHIND + ALL_COUNTED + CARRIED + "front ends behind 0 records, at 72 of ", "\n"),
     Ends("dump LOG --behind", GOES_ON, in_its_digest, 0, ALL_BEHIND[25:] + TWO_COUNTED + NO_FRONT, "\n"),
     Ends("dump LOG --behind --json --limit 0", GOES_ON, in_its_body, 0, '{"behind":', '"}}\n'),
-    Ends("check LOG", GOES_ON, in_its_body, 1, NO_FRONT, "\n" + ALL_COUNTED),
-    Ends("check LOG", GOES_ON, in_its_digest, 1, NO_FRONT, "\n" + TWO_COUNTED),
+    Ends("check LOG", GOES_ON, in_its_body, 1, NO_FRONT, "\n" + ALL_COUNTED + DAMAGED),
+    Ends("check LOG", GOES_ON, in_its_digest, 1, NO_FRONT, "\n" + TWO_COUNTED + DAMAGED),
     Ends("salvage LOG -", GOES_ON, in_its_body, 0, "# front ends behind 0 records, at 72 of 352 bytes, chain: ",
          "# 145 bytes at 72 fit nothing\n#217 commit 1\n#262 begin 2\n#307 abort 2\n"),
     Ends("salvage LOG -", GOES_ON, in_its_digest, 0, "# front ends behind 0 records, at 72 of 352 bytes, chain: ",
@@ -176,9 +176,10 @@ def after(rqlook: Program, rq: Program) -> Iterator[Question]:
             ("a false checkpoint", lied, same, (1, f"does not go on from the front of {same}: its link does, its checkpoint does not\n")),
     ):
         ask = functools.partial(rqlook.run, "check", new, "--after", before)
-        yield Question(f"rqlook check --after, {name}", ask, (want[0], (CARRIED + want[1]).encode(), b""))
+        printed = want[1] + CARRIED + WHOLE.replace("NAME", new)
+        yield Question(f"rqlook check --after, {name}", ask, (want[0], printed.encode(), b""))
     ask = functools.partial(rqlook.run, "check", same, "--after", same)
-    yield Question("rqlook check --after of a log", ask, (1, b"not carried: it goes on from no log\n", b""))
+    yield Question("rqlook check --after of a log", ask, (1, ("not carried: it goes on from no log\n" + WHOLE.replace("NAME", same)).encode(), b""))
 
 
 def queues_at(rq: Program, log: bytes | None, offset: int) -> list[bytes]:

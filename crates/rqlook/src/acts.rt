@@ -247,11 +247,11 @@ where
     if let Some(to) = words.get_str("OUT") {
         return make_file(rt, &asked, to);
     }
-    let fine = match print_shown(rt, &asked, watch) {
-        Ok(fine) => fine,
-        Err(trouble) => return Err(of_file(rt, file, FileTrouble::Refused(trouble))),
-    };
-    Ok(check_after(rt, &asked, watch)? && fine)
+    let joins = check_after(rt, &asked, watch)?;
+    match print_shown(rt, &asked, watch) {
+        Ok(fine) => Ok(fine && joins),
+        Err(trouble) => Err(of_file(rt, file, FileTrouble::Refused(trouble))),
+    }
 }
 
 // The file that the log is in.
