@@ -7,7 +7,6 @@ use rq_found::ShownLog;
 use rq_journal::{carried, carried_again, read_as_log};
 use rq_record::Fault;
 use std::alloc::Global;
-use std::marker::Sync;
 use std::thread::Threads;
 
 /// In what a carried file goes on from the front of a log.
