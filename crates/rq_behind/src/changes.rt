@@ -65,7 +65,7 @@ fn put_one(
 }
 
 /// Puts these bytes at an offset, and tells of each that is another than the one that stood there.
-pub(crate) fn put<const N: usize>(
+pub(crate) fn put_back<const N: usize>(
     bytes: &mut Vec<u8>,
     changes: &mut Vec<Change>,
     offset: usize,

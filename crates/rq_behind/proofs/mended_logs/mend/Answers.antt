@@ -7,22 +7,22 @@ use Rattle.rq_behind.proofs.mended_logs.mend.Goals as goal
 pub returns-clause-changed : goal.returns-clause-changed
 returns-clause-changed g c =
     (all_mended c.args.bytes.items c.args.from c.in_ok-mending.mending c.mend_places.new.self
-    c.in_ok-mending.ensures.begun c.in_ok-left_out.ensures).0
+    c.in_ok-mending.ensures.begun c.in_ok-untried.ensures).0
 
 pub returns-clause-told : goal.returns-clause-told
 returns-clause-told g c =
     (all_mended c.args.bytes.items c.args.from c.in_ok-mending.mending c.mend_places.new.self
-    c.in_ok-mending.ensures.begun c.in_ok-left_out.ensures).1
+    c.in_ok-mending.ensures.begun c.in_ok-untried.ensures).1
 
 pub returns-clause-proved : goal.returns-clause-proved
 returns-clause-proved g c =
     (all_mended c.args.bytes.items c.args.from c.in_ok-mending.mending c.mend_places.new.self
-    c.in_ok-mending.ensures.begun c.in_ok-left_out.ensures).2
+    c.in_ok-mending.ensures.begun c.in_ok-untried.ensures).2
 
 pub returns-clause-front : goal.returns-clause-front
 returns-clause-front g c = λ headed.
     (all_mended c.args.bytes.items c.args.from c.in_ok-mending.mending c.mend_places.new.self
-    c.in_ok-mending.ensures.begun c.in_ok-left_out.ensures).3 headed
+    c.in_ok-mending.ensures.begun c.in_ok-untried.ensures).3 headed
 
 pub returns-clause-right : goal.returns-clause-right
 returns-clause-right g c = (

@@ -5,7 +5,7 @@ use Rattle.std.proofs.lemmas.List.Elements.{All-append, All-nil}
 use Rattle.rq_behind.specs.Mending.{IsChanged}
 use Rattle.rq_behind.specs.declared.changes.Change.{Change}
 use Rattle.rq_behind.proofs.Changed.{paste_all, paste_next}
-use Rattle.rq_behind.proofs.changes.put.Goals as goal
+use Rattle.rq_behind.proofs.changes.put_back.Goals as goal
 
 pub places-init : goal.places-init
 places-init g c =
