@@ -12,7 +12,7 @@ use Rattle.rq_model.proofs.Runs.{length-sha256}
 use Rattle.rq_record.specs.declared.fault.Fault.{Fault}
 use Rattle.rq_front.specs.Chains.{IsHeaded}
 use Rattle.rq_behind.specs.Runs.{frame_end}
-use Rattle.rq_behind.specs.Mending.{AreProved, AreProvedBefore, AreTold, MendsOn, IsStarted, IsChanged, IsFrontEnd, IsMended, IsProvedBy, IsTried, Proves, with_changes, written}
+use Rattle.rq_behind.specs.Mending.{AreProved, AreProvedBefore, AreTold, MendsOn, IsToMend, IsChanged, IsFrontEnd, IsMended, IsProvedBy, IsTried, Proves, with_changes, written}
 use Rattle.rq_behind.specs.declared.changes.Change.{Change}
 use Rattle.rq_behind.specs.declared.mending.Mending.{Mending}
 use Rattle.rq_behind.proofs.Changed.{changed_later, told_before}
@@ -171,7 +171,7 @@ told_all log least m h = told_before log 0 least m.changes.items (omega arith) (
 -- a log that was not changed yet, up to its front's end, is begun
 pub begun_at : (r : Result Mending Fault) (log : List ℕ) (from : ℕ) → OneFrameRun → 40 ≤ from
     → IfOk r (λ m. IsMended log m.at m × (from ≤ m.at))
-    → IfOk r (λ m. (bodies : List (List ℕ)) × (rest : Rest) × IsFrameRun log from bodies m.at rest) → IfOk r (IsStarted log from)
+    → IfOk r (λ m. (bodies : List (List ℕ)) × (rest : Rest) × IsFrameRun log from bodies m.at rest) → IfOk r (IsToMend log from)
 begun_at (Ok m) log from one after mended run = record {
   least = m.at;
   mended = mended.0;
@@ -186,7 +186,7 @@ header_long One = omega (arith, length-append (magic One) (start One), length-sh
 header_long Two = omega (arith, length-append (magic Two) (start Two), length-sha256 (magic Two))
 
 -- what is said of a log that was mended
-pub all_mended : (log : List ℕ) (from : ℕ) (m n : Mending) → IsStarted log from m → MendsOn m n
+pub all_mended : (log : List ℕ) (from : ℕ) (m n : Mending) → IsToMend log from m → MendsOn m n
     → (n.bytes.items ≡ with_changes log n.changes.items) × AreTold log 0 n.changes.items
     × AreProved log n.bytes.items n.changes.items
     × (IsHeaded log → (end : ℕ) (rest : Rest) → IsFrontEnd log from end rest → AreTold log end n.changes.items)

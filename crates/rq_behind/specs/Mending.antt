@@ -88,7 +88,7 @@ pub record IsTried (m n : Mending) (found : Bool) : Type 0 where
 
 -- a log is to be mended whose frames begin at an offset: its header stands, and if it stood in the log
 -- no byte is changed before the end of the front
-pub record IsStarted (log : List ℕ) (from : ℕ) (m : Mending) : Type 0 where
+pub record IsToMend (log : List ℕ) (from : ℕ) (m : Mending) : Type 0 where
   pub least : ℕ
   pub mended : IsMended log least m
   pub after : 40 ≤ m.at

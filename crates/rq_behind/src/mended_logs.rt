@@ -4,7 +4,7 @@ ghost use Rattle.std.specs.Prelude.{◌≡◌, ◌≤◌, List, ℕ, length, IfE
 ghost use Rattle.rq_model.specs.Frames.{IsFrameRun, log_limit};
 ghost use Rattle.rq_model.specs.Frames as frames;
 ghost use Rattle.rq_front.specs.Chains.{IsHeaded, Refused, rest_of};
-ghost use Rattle.rq_behind.specs.Mending.{AreProved, AreTold, MendsOn, IsStarted, IsFrontEnd, IsMended, IsTried, with_changes};
+ghost use Rattle.rq_behind.specs.Mending.{AreProved, AreTold, MendsOn, IsToMend, IsFrontEnd, IsMended, IsTried, with_changes};
 
 use crate::changes::Change;
 use crate::efforts::{Effort, Untried};
@@ -162,7 +162,7 @@ fn begun<R: Threads + Sync>(
     requires grain { 1 ≤ grain }
     requires after { 40 ≤ from }
     requires within { 40 ≤ length bytes.items → from ≤ length bytes.items }
-    ensures begun { IfOk result (IsStarted bytes.items from) }
+    ensures begun { IfOk result (IsToMend bytes.items from) }
     ensures refused { IfErr result (Refused bytes.items) }
 {
     one_run();
