@@ -12,7 +12,7 @@ use Rattle.rq_model.proofs.Runs.{length-sha256}
 use Rattle.rq_record.specs.declared.fault.Fault.{Fault}
 use Rattle.rq_front.specs.Chains.{IsHeaded}
 use Rattle.rq_behind.specs.Runs.{frame_end}
-use Rattle.rq_behind.specs.Mending.{AreProved, AreProvedBefore, AreTold, GoesOn, IsBegun, IsChanged, IsFrontEnd, IsMended, IsProvedBy, IsTried, Proves, with_changes, written}
+use Rattle.rq_behind.specs.Mending.{AreProved, AreProvedBefore, AreTold, MendsOn, IsToMend, IsChanged, IsFrontEnd, IsMended, IsProvedBy, IsTried, Proves, with_changes, written}
 use Rattle.rq_behind.specs.declared.changes.Change.{Change}
 use Rattle.rq_behind.specs.declared.mending.Mending.{Mending}
 use Rattle.rq_behind.proofs.Changed.{changed_later, told_before}
@@ -20,7 +20,7 @@ use Rattle.rq_behind.proofs.Proved.{all_proved, all_still, are_proved, length_wr
 
 -- nothing is put back, and the place goes on
 pub goes_to : (m n : Mending) → n.bytes.items ≡ m.bytes.items → n.changes.items ≡ m.changes.items → m.at ≤ n.at
-    → (m.at ≤ length m.bytes.items → n.at ≤ length m.bytes.items) → GoesOn m n
+    → (m.at ≤ length m.bytes.items → n.at ≤ length m.bytes.items) → MendsOn m n
 goes_to m n bytes changes low within = record {
   mended = λ log from h.
       let size : length m.bytes.items ≡ length log = h.changed.size in
@@ -40,7 +40,7 @@ goes_to m n bytes changes low within = record {
 }
 
 -- a mending goes on, and on
-pub goes_twice : (m n k : Mending) → GoesOn m n → GoesOn n k → GoesOn m k
+pub goes_twice : (m n k : Mending) → MendsOn m n → MendsOn n k → MendsOn m k
 goes_twice m n k first second = record {
   mended = λ log from h. second.mended log from (first.mended log from h);
   size = second.size ∙ first.size;
@@ -178,7 +178,7 @@ told_all log least m h = told_before log 0 least m.changes.items (omega arith) (
 -- a log that was not changed yet, up to its front's end, is begun
 pub begun_at : (r : Result Mending Fault) (log : List ℕ) (from : ℕ) → OneFrameRun → 40 ≤ from
     → IfOk r (λ m. IsMended log m.at m × (from ≤ m.at))
-    → IfOk r (λ m. (bodies : List (List ℕ)) × (rest : Rest) × IsFrameRun log from bodies m.at rest) → IfOk r (IsBegun log from)
+    → IfOk r (λ m. (bodies : List (List ℕ)) × (rest : Rest) × IsFrameRun log from bodies m.at rest) → IfOk r (IsToMend log from)
 begun_at (Ok m) log from one after mended run = record {
   least = m.at;
   mended = mended.0;
@@ -193,7 +193,7 @@ header_long One = omega (arith, length-append (magic One) (start One), length-sh
 header_long Two = omega (arith, length-append (magic Two) (start Two), length-sha256 (magic Two))
 
 -- what is said of a log that was mended
-pub all_mended : (log : List ℕ) (from : ℕ) (m n : Mending) → IsBegun log from m → GoesOn m n
+pub all_mended : (log : List ℕ) (from : ℕ) (m n : Mending) → IsToMend log from m → MendsOn m n
     → (n.bytes.items ≡ with_changes log n.changes.items) × AreTold log 0 n.changes.items
     × AreProved log n.bytes.items n.changes.items
     × (IsHeaded log → (end : ℕ) (rest : Rest) → IsFrontEnd log from end rest → AreTold log end n.changes.items)

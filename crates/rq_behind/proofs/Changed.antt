@@ -1,7 +1,7 @@
 -- A log that is changed byte by byte.
-use Rattle.std.proofs.Common.{◌≡◌, ℕ, ◌+◌, ◌-◌, ◌<◌, ◌≤◌, List, [], ◌∷◌, ◌++◌, length, take, drop, get_or, refl, sym}
+use Rattle.std.proofs.Common.{◌≡◌, ℕ, suc, ◌+◌, ◌-◌, ◌<◌, ◌≤◌, List, [], ◌∷◌, ◌++◌, length, take, drop, get_or, refl, sym}
 use Rattle.std.proofs.Common.{ap, subst, ◌∙◌, arith}
-use Rattle.std.proofs.Math.Seq.{paste, paste-zero}
+use Rattle.std.proofs.Math.Seq.{paste, paste-suc}
 use Rattle.std.specs.Prelude.{slice_set}
 use Rattle.std.proofs.lemmas.List.{append_assoc, append-nil, length-set, length-take-le, drop-drop, drop-set-lt, get_or-drop}
 use Rattle.std.proofs.lemmas.List.{take_all, take-append-le, drop-append-le}
@@ -37,7 +37,7 @@ changed_later log from b cs at later low changed = record {
 }
 
 -- one byte is changed
-pub changed_more : (log : List ℕ) (from : ℕ) (b : List ℕ) (cs : List Change) (at : ℕ) (c : Change) → c.offset ≡ at
+changed_more : (log : List ℕ) (from : ℕ) (b : List ℕ) (cs : List Change) (at : ℕ) (c : Change) → c.offset ≡ at
     → at < length b → c.was ≡ get_or b at 0 → (c.was ≡ c.now → ⊥) → IsChanged log from b cs at
     → IsChanged log from (slice_set b at c.now) (cs ++ c ∷ []) (at + 1)
 changed_more log from b cs at c place low was other changed =
@@ -68,3 +68,20 @@ pub paste_all : (b : List ℕ) (offset n : ℕ) (now : List ℕ) → length now 
 paste_all b offset n now size =
     ap (λ (k : ℕ). paste b offset now k) (sym size)
     ∙ ap (λ (x : List ℕ). take offset b ++ x ++ drop (offset + length now) b) (take_all (length now) now (omega arith))
+
+-- one byte more is put in its place
+pub paste_next : (b mid new : List ℕ) (offset k v : ℕ) (now : List ℕ) → v ≡ get_or now k 0 → mid ≡ paste b offset now k
+    → new ≡ slice_set mid (offset + k) v → offset + k < length b → k < length now → new ≡ paste b offset now (k + 1)
+paste_next b mid new offset k v now value before set within low =
+    let next : suc k ≡ k + 1 = omega arith in
+    set ∙ ap (λ (x : List ℕ). slice_set x (offset + k) v) before ∙ ap (slice_set (paste b offset now k) (offset + k)) value
+    ∙ paste-suc b offset now k 0 within low ∙ ap (paste b offset now) next
+
+-- one byte is changed, and told
+pub changed_one : (b new : List ℕ) (cs told : List Change) (c : Change) → new ≡ slice_set b c.offset c.now
+    → told ≡ cs ++ c ∷ [] → c.was ≡ get_or b c.offset 0 → c.offset < length b → (c.was ≡ c.now → ⊥)
+    → (log : List ℕ) (from : ℕ) → IsChanged log from b cs c.offset → IsChanged log from new told (c.offset + 1)
+changed_one b new cs told c set items was within other log from changed =
+    subst (λ (x : List ℕ). IsChanged log from x told (c.offset + 1)) (sym set)
+    (subst (λ (xs : List Change). IsChanged log from (slice_set b c.offset c.now) xs (c.offset + 1)) (sym items)
+    (changed_more log from b cs c.offset c refl within was other changed))

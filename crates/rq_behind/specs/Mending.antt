@@ -74,7 +74,7 @@ pub record IsMended (log : List ℕ) (from : ℕ) (m : Mending) : Type 0 where
   pub within : m.at ≤ length log
 
 -- what was mended stays so, and the place does not go back
-pub record GoesOn (m n : Mending) : Type 0 where
+pub record MendsOn (m n : Mending) : Type 0 where
   pub mended : (log : List ℕ) (from : ℕ) → IsMended log from m → IsMended log from n
   pub size : length n.bytes.items ≡ length m.bytes.items
   pub stays : m.at ≤ n.at
@@ -82,13 +82,13 @@ pub record GoesOn (m n : Mending) : Type 0 where
 
 -- something was put back, and the place goes on; or nothing, and it stays
 pub record IsTried (m n : Mending) (found : Bool) : Type 0 where
-  pub goes : GoesOn m n
+  pub goes : MendsOn m n
   pub on : found ≡ true → m.at < n.at
   pub off : found ≡ false → n.at ≡ m.at
 
 -- a log is to be mended whose frames begin at an offset: its header stands, and if it stood in the log
 -- no byte is changed before the end of the front
-pub record IsBegun (log : List ℕ) (from : ℕ) (m : Mending) : Type 0 where
+pub record IsToMend (log : List ℕ) (from : ℕ) (m : Mending) : Type 0 where
   pub least : ℕ
   pub mended : IsMended log least m
   pub after : 40 ≤ m.at

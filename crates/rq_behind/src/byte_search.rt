@@ -29,7 +29,7 @@ pub(crate) struct Candidate {
 
 // The bytes of a frame over which its digest is taken: from the 32 before it to the digest.
 #[derive(Clone, Copy, Debug)]
-struct Message {
+struct Digested {
     start: usize,
     end: usize,
 }
@@ -84,7 +84,7 @@ fn sought_at(
 }
 
 // The byte that makes the digest right in the place of one of a block, from an offset on.
-fn sought_in(bytes: &[u8], message: Message, block: usize, others: Others) -> Option<Candidate>
+fn sought_in(bytes: &[u8], message: Digested, block: usize, others: Others) -> Option<Candidate>
     requires low { message.start + 36 ≤ message.end }
     requires within { message.end + 32 ≤ length bytes.now }
     ensures { IfSome result (λ c. (message.start + 36 ≤ c.offset) × (c.offset < message.end)) }
@@ -119,7 +119,7 @@ pub(crate) fn sought_byte<R: Threads + Sync>(
     requires within { at + (36 + len) ≤ length bytes.now }
     ensures { IfSome result (λ c. (at + 4 ≤ c.offset) × (c.offset < at + 4 + len)) }
 {
-    let message = Message {
+    let message = Digested {
         start: at - 32,
         end: at + 4 + len,
     };

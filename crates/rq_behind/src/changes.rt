@@ -1,6 +1,6 @@
 //! Bytes of a log that were put back.
 
-ghost use Rattle.std.specs.Prelude.{◌≡◌, ◌≤◌, ◌<◌, ◌+◌, ◌++◌, ℕ, List, All, OnOk, length, slice_set};
+ghost use Rattle.std.specs.Prelude.{◌≡◌, ◌≤◌, ◌<◌, ◌+◌, ◌++◌, ℕ, List, All, OnOk, get_or, length, slice_set};
 ghost use Rattle.rq_behind.specs.Mending.{IsChanged, written};
 
 use std::alloc::AllocError;
@@ -16,6 +16,22 @@ pub struct Change {
     pub now: u8,
     /// The offset of the frame whose digest proves it.
     pub frame: usize,
+}
+
+// The byte at an offset.
+fn byte_at(bytes: &[u8], offset: usize) -> u8
+    requires { offset < length bytes.now }
+    ensures { result ≡ get_or bytes.now offset 0 }
+{
+    bytes[offset]
+}
+
+// Sets it.
+fn set_byte(bytes: &mut Vec<u8>, offset: usize, now: u8)
+    requires { offset < length bytes.old.items }
+    ensures { bytes.new.items ≡ slice_set bytes.old.items offset now }
+{
+    bytes[offset] = now;
 }
 
 // Puts a byte at an offset, and tells of it if it is another than the one that stood there.
@@ -34,7 +50,7 @@ fn put_one(
     ensures told { OnOk result ((more : List Change) × (changes.new.items ≡ changes.old.items ++ more)
         × All (λ c. (c.frame ≡ frame) × (c.offset ≡ offset)) more) }
 {
-    let was = bytes[offset];
+    let was = byte_at(bytes, offset);
     if was == now {
         return Ok(());
     }
@@ -44,12 +60,12 @@ fn put_one(
         now,
         frame,
     })?;
-    bytes[offset] = now;
+    set_byte(bytes, offset, now);
     Ok(())
 }
 
 /// Puts these bytes at an offset, and tells of each that is another than the one that stood there.
-pub(crate) fn put<const N: usize>(
+pub(crate) fn put_back<const N: usize>(
     bytes: &mut Vec<u8>,
     changes: &mut Vec<Change>,
     offset: usize,
@@ -65,7 +81,8 @@ pub(crate) fn put<const N: usize>(
         × All (λ c. (c.frame ≡ frame) × (offset ≤ c.offset) × (c.offset < offset + N)) more) }
 {
     'places: for k in 0..N {
-        put_one(bytes, changes, offset + k, now[k], frame)?;
+        let other = byte_at(now.as_slice(), k);
+        put_one(bytes, changes, offset + k, other, frame)?;
     }
     Ok(())
 }

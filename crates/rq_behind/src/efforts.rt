@@ -2,7 +2,7 @@
 
 /// What was not tried where the mending of a log ends.
 #[derive(Clone, Copy, Debug, PartialEq, Eq)]
-pub enum LeftOut {
+pub enum Untried {
     /// The bytes of a body, or all but their bits: it is too long.
     Long,
     /// What was left of all tries, which may be so many.
@@ -32,7 +32,7 @@ pub(crate) struct Effort {
     /// How many blocks of a body a thread takes, at least.
     pub(crate) least: usize,
     /// What was left out at the last place.
-    pub(crate) left_out: Option<LeftOut>,
+    pub(crate) untried: Option<Untried>,
 }
 
 impl Effort {
@@ -42,14 +42,14 @@ impl Effort {
             blocks: BLOCKS,
             search: len.saturating_mul(TIMES).saturating_add(MORE),
             least: grain as usize / GRAIN + 1,
-            left_out: None,
+            untried: None,
         }
     }
 
     /// Takes the cost of a try, in blocks; answers whether there is enough for it.
     pub(crate) fn take(&mut self, cost: usize) -> bool {
         if self.blocks < cost {
-            self.left_out = Some(LeftOut::Spent);
+            self.untried = Some(Untried::Spent);
             return false;
         }
         self.blocks -= cost;

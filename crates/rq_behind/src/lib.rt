@@ -17,7 +17,7 @@ mod tries;
 mod witness;
 
 pub use changes::Change;
-pub use efforts::LeftOut;
+pub use efforts::Untried;
 pub use mended_logs::{Mended, mend};
 pub use scan::{SCANNED_LEN, Scan, first_record};
 pub use search::{Found, behind};

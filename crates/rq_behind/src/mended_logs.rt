@@ -4,10 +4,10 @@ ghost use Rattle.std.specs.Prelude.{◌≡◌, ◌≤◌, List, ℕ, length, IfE
 ghost use Rattle.rq_model.specs.Frames.{IsFrameRun, log_limit};
 ghost use Rattle.rq_model.specs.Frames as frames;
 ghost use Rattle.rq_front.specs.Chains.{IsHeaded, Refused, rest_of};
-ghost use Rattle.rq_behind.specs.Mending.{AreProved, AreTold, GoesOn, IsBegun, IsFrontEnd, IsMended, IsTried, with_changes};
+ghost use Rattle.rq_behind.specs.Mending.{AreProved, AreTold, MendsOn, IsToMend, IsFrontEnd, IsMended, IsTried, with_changes};
 
 use crate::changes::Change;
-use crate::efforts::{Effort, LeftOut};
+use crate::efforts::{Effort, Untried};
 use crate::mending::Mending;
 use rq_front::{HEADER_LEN, LOG_LIMIT, Rest, chain, header_of, version};
 use rq_model::one_run;
@@ -31,7 +31,7 @@ pub struct Mended {
     /// What follows there.
     pub rest: Rest,
     /// What was not tried there, if something was not.
-    pub left_out: Option<LeftOut>,
+    pub untried: Option<Untried>,
 }
 
 impl Mending {
@@ -72,7 +72,7 @@ impl Mending {
         requires grain { 1 ≤ grain }
         requires after { 40 ≤ self.old.at }
         requires within { self.old.at ≤ length self.old.bytes.items }
-        ensures { IfOk result (λ end. GoesOn self.old self.new) }
+        ensures { IfOk result (λ end. MendsOn self.old self.new) }
     {
         // The log has a header: memory alone is refused.
         let Ok(found) = chain(rt, alloc, &self.bytes, self.at, grain) else {
@@ -88,11 +88,11 @@ impl Mending {
         rt: &R,
         alloc: Global,
         grain: u32,
-    ) -> Result<Option<LeftOut>, AllocError>
+    ) -> Result<Option<Untried>, AllocError>
         requires grain { 1 ≤ grain }
         requires after { 40 ≤ self.old.at }
         requires within { self.old.at ≤ length self.old.bytes.items }
-        ensures { IfOk result (λ left. GoesOn self.old self.new) }
+        ensures { IfOk result (λ left. MendsOn self.old self.new) }
     {
         let version = version(&self.bytes).unwrap_or(Version::Two);
         let mut effort = Effort::for_log(self.bytes.len(), grain);
@@ -102,7 +102,7 @@ impl Mending {
             }
             let walked = (self.bytes.len() - self.at) / WALKED;
             if !effort.take(walked) || !self.mend_place(rt, version, &mut effort)? {
-                return Ok(effort.left_out);
+                return Ok(effort.untried);
             }
         }
     }
@@ -162,7 +162,7 @@ fn begun<R: Threads + Sync>(
     requires grain { 1 ≤ grain }
     requires after { 40 ≤ from }
     requires within { 40 ≤ length bytes.items → from ≤ length bytes.items }
-    ensures begun { IfOk result (IsBegun bytes.items from) }
+    ensures begun { IfOk result (IsToMend bytes.items from) }
     ensures refused { IfErr result (Refused bytes.items) }
 {
     one_run();
@@ -204,7 +204,7 @@ pub fn mend<R: Threads + Sync>(
     ensures refused { IfErr result (Refused bytes.items) }
 {
     let mut mending = begun(rt, alloc, bytes, from, grain)?;
-    let left_out = mending.mend_places(rt, alloc, grain)?;
+    let untried = mending.mend_places(rt, alloc, grain)?;
     // The log has a header: memory alone is refused.
     let Ok(found) = chain(rt, alloc, &mending.bytes, from, grain) else {
         return Err(Fault::Resources);
@@ -214,6 +214,6 @@ pub fn mend<R: Threads + Sync>(
         changes: mending.changes,
         end: found.end,
         rest: found.rest,
-        left_out,
+        untried,
     })
 }

@@ -3,7 +3,7 @@
 ghost use Rattle.std.specs.Prelude.{◌≡◌, ◌≤◌, ◌<◌, ◌+◌, IfOk, IsTrue, length};
 ghost use Rattle.rq_behind.specs.Mending.{IsTried};
 
-use crate::changes::{Change, put};
+use crate::changes::{Change, put_back};
 use crate::witness::proved_end;
 use std::alloc::AllocError;
 
@@ -34,7 +34,7 @@ impl Mending {
         let Some(end) = proved_end(&mut self.bytes, frame, offset, now) else {
             return Ok(false);
         };
-        put(&mut self.bytes, &mut self.changes, offset, now, frame)?;
+        put_back(&mut self.bytes, &mut self.changes, offset, now, frame)?;
         self.at = end;
         Ok(true)
     }

@@ -4,7 +4,7 @@ ghost use Rattle.std.specs.Prelude.{◌≡◌, ◌≤◌, ◌+◌, IfOk, length}
 ghost use Rattle.rq_behind.specs.Mending.{IsTried};
 
 use crate::byte_search::{Others, sought_byte};
-use crate::efforts::{Effort, LeftOut};
+use crate::efforts::{Effort, Untried};
 use crate::mending::Mending;
 use crate::places::{SearchEnd, next_place};
 use crate::runs::{judge, length_at};
@@ -179,7 +179,7 @@ impl Mending {
             return Ok(false);
         };
         if len > BITS_LIMIT {
-            effort.left_out = Some(LeftOut::Long);
+            effort.untried = Some(Untried::Long);
             return Ok(false);
         }
         if !effort.take(cost_of(len, 8)) {
@@ -189,7 +189,7 @@ impl Mending {
             return Ok(true);
         }
         if len > BYTES_LIMIT {
-            effort.left_out = Some(LeftOut::Long);
+            effort.untried = Some(Untried::Long);
             return Ok(false);
         }
         if !effort.take(cost_of(len, 255)) {

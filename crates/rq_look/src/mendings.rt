@@ -2,9 +2,9 @@
 
 ghost use Rattle.std.specs.Prelude.{◌≡◌, ◌++◌, IfOk, OnOk, string_bytes};
 ghost use Rattle.std.specs.List.{flat_map};
-ghost use Rattle.rq_look.specs.Mendings.{change_text, left_out_text, mended_text};
+ghost use Rattle.rq_look.specs.Mendings.{change_text, untried_text, mended_text};
 
-use rq_behind::{Change, LeftOut, Mended};
+use rq_behind::{Change, Mended, Untried};
 use rq_found::Put;
 use std::alloc::{AllocError, Global};
 use std::fmt::Write;
@@ -32,15 +32,15 @@ fn put_changes(text: &mut String, changes: &[Change]) -> Put
 }
 
 // Puts what was not tried, if something was not, as a line.
-fn put_left_out(text: &mut String, left_out: Option<LeftOut>) -> Put
-    ensures { OnOk result (string_bytes text.new ≡ string_bytes text.old ++ left_out_text left_out) }
+fn put_untried(text: &mut String, untried: Option<Untried>) -> Put
+    ensures { OnOk result (string_bytes text.new ≡ string_bytes text.old ++ untried_text untried) }
 {
-    match left_out {
+    match untried {
         None => Ok(()),
-        Some(LeftOut::Long) => text.push_str(
+        Some(Untried::Long) => text.push_str(
             "not tried: each byte of the body there, which is too long\n",
         ),
-        Some(LeftOut::Spent) => text.push_str("not tried: more, since so much was tried in vain\n"),
+        Some(Untried::Spent) => text.push_str("not tried: more, since so much was tried in vain\n"),
     }
 }
 
@@ -53,6 +53,6 @@ pub fn mended_text(alloc: Global, mended: &Mended) -> Result<String, AllocError>
     put_changes(&mut text, &mended.changes)?;
     let count = mended.changes.len();
     write!(text, "{count} bytes were put back\n")?;
-    put_left_out(&mut text, mended.left_out)?;
+    put_untried(&mut text, mended.untried)?;
     Ok(text)
 }

@@ -3,7 +3,7 @@ use Rattle.std.specs.Prelude.{All}
 use Rattle.std.proofs.Math.Seq.{paste}
 use Rattle.rq_behind.specs.Mending.{IsChanged}
 use Rattle.rq_behind.specs.declared.changes.Change.{Change}
-use Rattle.rq_behind.proofs.changes.put.Given as goal
+use Rattle.rq_behind.proofs.changes.put_back.Given as goal
 
 abbrev pub invariant-places : goal.invariant-places
 invariant-places g l = record {

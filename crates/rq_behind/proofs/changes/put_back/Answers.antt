@@ -1,12 +1,11 @@
-use Rattle.std.proofs.Common.{◌≡◌, ℕ, ◌+◌, ◌<◌, ◌≤◌, List, [], ◌++◌, length, refl, sym, ap, subst, ◌∙◌, arith}
-use Rattle.std.proofs.Math.Seq.{paste, paste-zero, paste-suc}
-use Rattle.std.specs.Prelude.{slice_set}
+use Rattle.std.proofs.Common.{◌≡◌, ℕ, ◌+◌, ◌<◌, ◌≤◌, List, [], ◌++◌, length, refl, sym, ap, subst, ◌∙◌, arith, rules}
+use Rattle.std.proofs.Math.Seq.{paste, paste-zero}
 use Rattle.std.proofs.lemmas.List.{append_assoc, append-nil, length-set}
 use Rattle.std.proofs.lemmas.List.Elements.{All-append, All-nil}
 use Rattle.rq_behind.specs.Mending.{IsChanged}
 use Rattle.rq_behind.specs.declared.changes.Change.{Change}
-use Rattle.rq_behind.proofs.Changed.{paste_all}
-use Rattle.rq_behind.proofs.changes.put.Goals as goal
+use Rattle.rq_behind.proofs.Changed.{paste_all, paste_next}
+use Rattle.rq_behind.proofs.changes.put_back.Goals as goal
 
 pub places-init : goal.places-init
 places-init g c =
@@ -30,14 +29,13 @@ places-preserved g c =
     let cs = c.args.changes.now.items in
     let offset = c.args.offset in
     let k = c.places.k in
-    let set : c.put_one.new.bytes.items ≡ slice_set c.places.bytes.items (offset + k) _ = c.in_ok-put_one.ensures.written in
+    let set = c.in_ok-put_one.ensures.written in
     let t = c.places.invariant.told in
     let u = c.in_ok-put_one.ensures.told in
     record {
       size = ap length set ∙ length-set c.places.bytes.items (offset + k) _ ∙ c.places.invariant.size;
-      written = set ∙ ap (λ (x : List ℕ). slice_set x (offset + k) _) c.places.invariant.written
-          ∙ paste-suc b offset c.args.now.now k 0 (omega (arith, c.requires.within)) (omega arith)
-          ∙ ap (paste b offset c.args.now.now) (omega arith);
+      written = paste_next b c.places.bytes.items c.put_one.new.bytes.items offset k _ c.args.now.now (search rules)
+          c.places.invariant.written set (omega (arith, c.requires.within)) (omega arith);
       changed = λ log from h. subst (λ (n : ℕ). IsChanged log from c.put_one.new.bytes.items c.put_one.new.changes.items n)
           (omega arith) (c.in_ok-put_one.ensures.changed log from (c.places.invariant.changed log from h));
       told = (
