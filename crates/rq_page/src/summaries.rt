@@ -128,10 +128,15 @@ pub(crate) fn put_summary(
 
 // What stands before the parts of a page: the log's name, the verdict and what to do next, whether it is
 // whole, who made the page, and the numbers that are seen first.
-const HEADER: &str = "<header>
+const NAME: &str = "<header>
 <h1><bdi>{}</bdi></h1>
-<p class=\"{}\">{}</p>
-<p class=\"by\"><span class=\"badge {}</span> The log of a recoverable queue manager, shown by rqlook {}.</p>
+";
+
+const DIAGNOSED: &str = "<p class=\"{}\">{}</p>
+";
+
+const HEADER: &str =
+    "<p class=\"by\"><span class=\"badge {}</span> The log of a recoverable queue manager, shown by rqlook {}.</p>
 <dl class=\"tiles\">
 <div><dt>bytes</dt><dd>{}</dd></div>
 <div><dt>records</dt><dd>{}</dd></div>
@@ -141,6 +146,17 @@ const HEADER: &str = "<header>
 </dl>
 </header>
 ";
+
+// Puts the verdict on a log, and what to do next, where this stands for it in a line that is typed.
+fn put_diagnosed(alloc: Global, text: &mut String, typed: &str, diagnosis: Diagnosis) -> Put {
+    let mut said = String::new(alloc);
+    put_diagnosis(&mut said, diagnosis, typed)?;
+    let class = match diagnosis {
+        Diagnosis::Whole => "whole",
+        _ => "bad",
+    };
+    put_html(text, DIAGNOSED, &[Tag(class), Text(said.as_str())])
+}
 
 /// Puts the log's name, the verdict on it, whether it is whole, who made the page, and the numbers that
 /// are seen first.
@@ -152,12 +168,8 @@ pub(crate) fn put_header(
     end: &End,
     diagnosis: Diagnosis,
 ) -> Put {
-    let mut said = String::new(alloc);
-    put_diagnosis(&mut said, diagnosis, asked.typed)?;
-    let class = match diagnosis {
-        Diagnosis::Whole => "whole",
-        _ => "bad",
-    };
+    put_html(text, NAME, &[Text(asked.name)])?;
+    put_diagnosed(alloc, text, asked.typed, diagnosis)?;
     let badge = if is_whole(end.why) {
         "good\">whole"
     } else {
@@ -168,9 +180,6 @@ pub(crate) fn put_header(
         text,
         HEADER,
         &[
-            Text(asked.name),
-            Tag(class),
-            Text(said.as_str()),
             Tag(badge),
             Text(asked.version),
             Count(end.total),

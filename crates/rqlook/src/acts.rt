@@ -44,9 +44,10 @@ fn print_found<W: Write>(text: &str, output: &mut W) -> Result<(), Trouble> {
     }
 }
 
-// The last line of a check: its diagnosis, and what to type next.
+// The last line of a check: its verdict, and what to type next.
 fn verdict_line(alloc: Global, file: &str, diagnosis: Diagnosis) -> Result<String, AllocError> {
-    let name = format!(in alloc; "{}", Seen(typed_name(file)))?;
+    let seen = Seen(typed_name(file));
+    let name = format!(in alloc; "{seen}")?;
     let mut line = String::new(alloc);
     put_diagnosis(&mut line, diagnosis, name.as_str())?;
     line.push_str("\n")?;
