@@ -84,7 +84,7 @@ fn not_made<R: AllocGlobal>(rt: &R, to: &str, error: io::Error) -> Failure {
 }
 
 /// Refuses what stands where the file is to be made, unless that gives way.
-pub(crate) fn expect_free<R>(rt: &R, to: &str, rule: &Replaces<'_>) -> Result<(), Failure>
+pub(crate) fn expect_place<R>(rt: &R, to: &str, rule: &Replaces<'_>) -> Result<(), Failure>
 where
     R: Files + AllocGlobal,
 {
@@ -126,7 +126,7 @@ where
         return Err(Failure::Same);
     }
     let rule = replaced_by(asked);
-    expect_free(rt, to, &rule)?;
+    expect_place(rt, to, &rule)?;
     let mut made = Vec::new(rt.alloc());
     match put_made(rt, asked, &mut made) {
         Ok(()) => write_made(rt, to, &made, &rule),

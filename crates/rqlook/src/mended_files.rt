@@ -2,7 +2,7 @@
 
 use crate::failures::{Failure, FileTrouble, of_file};
 use crate::log_files::read_log_file;
-use crate::made_files::{expect_free, write_made};
+use crate::made_files::{expect_place, write_made};
 use crate::progress::Watch;
 use rq_behind::{Mended, mend};
 use rq_file::Replaces;
@@ -73,7 +73,7 @@ where
     R: Files + Input + Print + Eprint + Clock + AllocGlobal + Threads + Sync,
     R::File: AsFd,
 {
-    expect_free(rt, to, &Replaces::Nothing)?;
+    expect_place(rt, to, &Replaces::Nothing)?;
     let mut bytes = read_log_file(rt, file, watch)?;
     watch.begins(rt, &bytes);
     if begins_at(&mut bytes).is_some() {
