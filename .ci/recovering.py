@@ -151,7 +151,7 @@ def is_recovered(log: str, bytes_: bytes, at: int = HEADER, units: list[int] | N
     if cut is not None:
         os.remove(kept)
     if not made.is_torn():
-        return ended[0] == 1 and ended[2].startswith(b"rqlog: LOG: its front ends by ") and (left, cut) == (bytes_, None)
+        return ended[0] == 1 and ended[2].startswith(f"rqlog: {log}: its front ends by ".encode()) and (left, cut) == (bytes_, None)
     return ended == (0, told_of(log, made), b"") and left == made.log() and cut == (made.cut or None)
 
 
@@ -209,7 +209,7 @@ def keeps() -> None:
     for other in (b"", made.cut[:-1], made.cut + b"\0", bytes(len(made.cut))):
         put(kept, other)
         put(log, bytes_)
-        want = says("LOG.cut-OFFSET: other bytes stand there: move it away", 3)
+        want = says(f"{kept}: other bytes stand there: move it away", 3)
         check(f"kept: {other!r}", (rqlog("recover", log), content(log), content(kept)), (want, bytes_, other))
     put(kept, made.cut)
     check("kept already", (rqlog("recover", log), content(log)), ((0, told_of(log, made), b""), made.log()))
@@ -217,7 +217,7 @@ def keeps() -> None:
     os.mkdir(kept)
     put(log, bytes_)
     ended = rqlog("recover", log)
-    check("kept: a folder", (ended[0], ended[2].startswith(b"rqlog: LOG.cut-OFFSET: "), content(log)), (3, True, bytes_))
+    check("kept: a folder", (ended[0], ended[2].startswith(f"rqlog: {kept}: ".encode()), content(log)), (3, True, bytes_))
     os.rmdir(kept)
 
 
@@ -284,7 +284,7 @@ def refuses() -> None:
     """Each kind of damage, and each command that writes behind a front: the log stays as it was."""
     for name, (bytes_, why, told) in damages().items():
         made = whole_before(bytes_, why)
-        want = f"rqlog: LOG: its front ends by {why} at {len(made.front)} of {len(bytes_)} bytes, and {told}{USE}\n".encode()
+        want = f"rqlog: damaged.log: its front ends by {why} at {len(made.front)} of {len(bytes_)} bytes, and {told}{USE}\n".encode()
         for line in ("recover LOG", "append LOG", "append LOG --each", "checkpoint LOG", "checkpoint LOG --close", "carry LOG new.log",
                      "close LOG LOG"):
             line = line.replace("LOG", "damaged.log")
@@ -334,7 +334,7 @@ def torn_ends() -> None:
     good = content(plain("torn"))
     for name, rest in {"zeros": bytes(9), "garbage": b"\xff" * 50, "most": bytes(TORN), "a torn frame": (1).to_bytes(4, "big") + bytes(33)}.items():
         made = whole_of(good + rest)
-        want = (f"rqlog: LOG: its front ends by {made.why} at {len(good)} of {len(good + rest)} bytes, and no right frame stands behind it: "
+        want = (f"rqlog: damaged.log: its front ends by {made.why} at {len(good)} of {len(good + rest)} bytes, and no right frame stands behind it: "
                 "use rqlog recover\n").encode()
         for line in ("append damaged.log", "checkpoint damaged.log", "carry damaged.log new.log", "close damaged.log damaged.log"):
             check(f"{line}, {name}", is_refused(line, good + rest, want), True)
@@ -353,9 +353,9 @@ def no_logs() -> None:
     """What is no log, or not there."""
     for what, bytes_ in {"empty": b"", "script": START, "header": header_of(1)[:39]}.items():
         put("none.log", bytes_)
-        check(f"recover, {what}", (rqlog("recover", "none.log"), content("none.log")), (says("not a log: rq make makes one"), bytes_))
+        check(f"recover, {what}", (rqlog("recover", "none.log"), content("none.log")), (says("none.log: not a log: rq make makes one"), bytes_))
     ended = rqlog("recover", "missing.log")
-    check("recover, missing", (ended[0], ended[1], ended[2].startswith(b"rqlog: LOG: ")), (3, b"", True))
+    check("recover, missing", (ended[0], ended[1], ended[2].startswith(b"rqlog: missing.log: ")), (3, b"", True))
     check("recover, no words", rqlog("recover")[0], 2)
 
 
