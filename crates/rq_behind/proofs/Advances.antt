@@ -1,8 +1,7 @@
 -- A mending that goes on, step by step.
 use Rattle.std.proofs.Common.{◌≡◌, ℕ, ◌+◌, ◌-◌, ◌<◌, ◌≤◌, Bool, true, false, List, [], ◌++◌, length, take, drop, refl, sym}
-use Rattle.std.proofs.Common.{ap, subst, ◌∙◌, arith, tt}
+use Rattle.std.proofs.Common.{ap, subst, ◌∙◌, arith}
 use Rattle.std.specs.Prelude.{All, Result, Ok, Err, IfOk}
-use Rattle.std.specs.Alloc.{AllocError}
 use Rattle.std.proofs.lemmas.List.{append-nil, length-append, length-drop}
 use Rattle.std.proofs.lemmas.List.Elements.{All-append, All-nil}
 use Rattle.rq_model.specs.Records.{Version, One, Two}
@@ -66,7 +65,7 @@ tried_twice m n k none found vain first second =
       off = λ e. second.off e ∙ same;
     }
 
-pub tried_then : (r : Result Bool AllocError) (m n k : Mending) (none : Bool) → none ≡ false → IsTried m n none
+pub tried_then : {E : Type 0} (r : Result Bool E) (m n k : Mending) (none : Bool) → none ≡ false → IsTried m n none
     → IfOk r (IsTried n k) → IfOk r (IsTried m k)
 tried_then (Ok found) m n k none vain first second = tried_twice m n k none found vain first second
 tried_then (Err e) m n k none vain first second = tt

@@ -1,9 +1,9 @@
 -- What a digest proves: it stays so, whatever is changed behind its frame.
-use Rattle.std.proofs.Common.{◌≡◌, ◌⊎◌, ℕ, ◌+◌, ◌-◌, ◌<◌, ◌≤◌, List, ◌++◌, length, take, drop, Option, Some, None, refl, sym, inl, inr}
+use Rattle.std.proofs.Common.{◌≡◌, ◌⊎◌, ℕ, ◌+◌, ◌-◌, ◌<◌, ◌≤◌, List, ◌++◌, length, take, drop, get_or, Option, Some, None, refl, sym, inl, inr}
 use Rattle.std.proofs.Common.{ap, subst, ◌∙◌, arith}
 use Rattle.std.specs.Prelude.{All, MatchOption}
-use Rattle.std.proofs.Math.Seq.{length-paste, take_at}
-use Rattle.std.proofs.lemmas.List.{append_assoc, length-drop, length-take-le, drop-drop, drop-take, take-take, take_all}
+use Rattle.std.proofs.Math.Seq.{paste, drop-paste, length-paste, take_at, take-add}
+use Rattle.std.proofs.lemmas.List.{append_assoc, length-drop, length-take-le, drop-drop, drop-take, take-take, take_all, take-append-drop}
 use Rattle.byteorder.specs.Numbers.{big_from-take}
 use Rattle.rq_model.specs.Frames.{IsBodyLength, before, body_in, digest, digest_in, stated}
 use Rattle.rq_front.specs.Chains.{IsHeaded}
@@ -118,8 +118,9 @@ pub all_proved : (log b : List ℕ) (cs : List Change) (p offset n end : ℕ) �
     → All (λ c. (c.frame ≡ p) × (offset ≤ c.offset) × (c.offset < offset + n)) cs → AreProvedBefore log b cs end
 all_proved log b cs p offset n end behind proves told = λ k d lt.
     let c = told k d lt in
-    subst (λ (q : ℕ). IsProvedBy log b q _ × (frame_end b q ≤ end)) (sym c.0)
-    (proved_each log b p offset n end _ behind proves c.1 c.2)
+    let o = (get_or cs k d).offset in
+    subst (λ (q : ℕ). IsProvedBy log b q o × (frame_end b q ≤ end)) (sym c.0)
+    (proved_each log b p offset n end o behind proves c.1 c.2)
 
 -- what is proved before an offset is proved
 pub are_proved : (log b : List ℕ) (cs : List Change) (at : ℕ) → AreProvedBefore log b cs at → AreProved log b cs
@@ -137,3 +138,22 @@ proved_of b c p offset n now (Some end) same within it = (
   subst (λ (x : List ℕ). Proves x p offset n end) same it.0,
   omega (arith, it.1, ap length same, length_written b offset now within),
 )
+
+-- bytes that are written over others, and those again, leave all as it was
+pub written_back : (b : List ℕ) (offset n : ℕ) (now was : List ℕ) → length now ≡ n → length was ≡ n → offset + n ≤ length b
+    → was ≡ take n (drop offset b) → written (written b offset now) offset was ≡ b
+written_back b offset n now was long wide within stood =
+    let c = written b offset now in
+    let front : take offset c ≡ take offset b = sym (written_before b offset offset now (omega arith) (omega (arith, within))) in
+    let all : drop (offset + n) c ≡ drop (offset + n) b =
+    ap (λ (x : List ℕ). drop (offset + n) (take offset b ++ x ++ drop (offset + length now) b))
+    (sym (take_all (length now) now (omega arith)))
+    ∙ ap (λ (k : ℕ). drop (offset + k) (paste b offset now (length now))) (sym long)
+    ∙ drop-paste b offset now (length now) (omega (arith, within)) (omega arith)
+    ∙ ap (λ (k : ℕ). drop (offset + k) b) long in
+    ap (λ (k : ℕ). take offset c ++ was ++ drop (offset + k) c) wide
+    ∙ ap (λ (x : List ℕ). x ++ was ++ drop (offset + n) c) front
+    ∙ ap (λ (x : List ℕ). take offset b ++ x ++ drop (offset + n) c) stood
+    ∙ ap (λ (x : List ℕ). take offset b ++ take n (drop offset b) ++ x) all
+    ∙ ap (λ (x : List ℕ). x ++ drop (offset + n) b) (sym (take-add offset n b))
+    ∙ take-append-drop (offset + n) b

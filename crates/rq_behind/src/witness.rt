@@ -59,6 +59,6 @@ pub(crate) fn proved_end<const N: usize>(
     was.copy_from_slice(&bytes[offset..offset + N]);
     write(bytes, offset, now);
     let end = proof_end(bytes, frame, offset, N);
-    bytes[offset..offset + N].copy_from_slice(&was);
+    write(bytes, offset, &was);
     end
 }
