@@ -9,7 +9,7 @@ use crate::progress::{Watch, Watched};
 use crate::words::{columns_asked, records_asked, subject_asked};
 use clap::ArgMatches;
 use rq_found::{Diagnosis, Fault, Plan, Seen, ShownLog, Trouble, begins_at, put_diagnosis};
-use rq_look::Joins;
+use rq_look::Join;
 use std::alloc::{AllocError, Global};
 use std::io::{self, ErrorKind, Write};
 use std::os::fd::AsFd;
@@ -100,12 +100,7 @@ fn check<R: AllocGlobal + Threads + Sync, W: Write>(
 }
 
 // What is said of a carried log and the one before it, of this name.
-fn join_text(
-    alloc: Global,
-    log: &ShownLog<'_>,
-    joins: Joins,
-    old: &str,
-) -> Result<String, Trouble> {
+fn join_text(alloc: Global, log: &ShownLog<'_>, joins: Join, old: &str) -> Result<String, Trouble> {
     let name = Seen(shown_name(old));
     let text = if log.at.is_none() {
         format!(in alloc; "not carried: it goes on from no log\n")

@@ -1,6 +1,6 @@
 use Rattle.std.proofs.Common.{arith, ap, length}
 use Rattle.std.proofs.lemmas.List.{length-take}
-use Rattle.rq_look.proofs.joins.begins_with.Goals as goal
+use Rattle.rq_look.proofs.links.begins_with.Goals as goal
 
 pub returns-in-None : goal.returns-in-None
 returns-in-None c = (

@@ -1,7 +1,7 @@
 //! Whether a carried file goes on from the end of the log before it.
 
 ghost use Rattle.std.specs.Prelude.{◌≡◌, ◌↔◌, IsTrue, IfOk, IfErr, length, take};
-ghost use Rattle.rq_look.specs.Joining.{IsCarriedFrom, StaysFrom, TellsJoins};
+ghost use Rattle.rq_look.specs.Joining.{IsCarriedFrom, StaysFrom, TellsJoin};
 
 use rq_found::ShownLog;
 use rq_journal::{carried, carried_again, read_as_log};
@@ -11,7 +11,7 @@ use std::thread::Threads;
 
 /// In what a carried file goes on from the front of a log.
 #[derive(Clone, Copy, Debug, PartialEq, Eq)]
-pub struct Joins {
+pub struct Join {
     /// Its link is the last 32 bytes of that front.
     pub link: bool,
     /// So it is, and it begins with a checkpoint of the state there.
@@ -62,9 +62,9 @@ pub fn joins<R: Threads + Sync>(
     alloc: Global,
     log: &ShownLog<'_>,
     old: &ShownLog<'_>,
-) -> Result<Joins, Fault>
+) -> Result<Join, Fault>
     ensures told { IfOk result
-        (TellsJoins old.now.at old.now.bytes.now log.now.bytes.now) }
+        (TellsJoin old.now.at old.now.bytes.now log.now.bytes.now) }
     ensures refused { IfErr result (StaysFrom old.now.at old.now.bytes.now) }
 {
     rq_model::carried_headers();
@@ -72,5 +72,5 @@ pub fn joins<R: Threads + Sync>(
     read_as_log(&mut made);
     let link = links_alike(log.bytes, &made);
     let checkpoint = begins_with(log.bytes, &made);
-    Ok(Joins { link, checkpoint })
+    Ok(Join { link, checkpoint })
 }
