@@ -1,3 +1,2 @@
-pub mod Continued
 pub mod Puts
 pub mod Scripts
