@@ -1,5 +1,4 @@
 pub mod Findings
-pub mod Joining
 pub mod Looks
 pub mod Mendings
 pub mod Scripts

@@ -11,7 +11,7 @@ use std::fmt::Write;
 
 // Puts a byte that was put back, as a line.
 fn put_change(text: &mut String, change: &Change) -> Put
-    ensures { OnOk result (string_bytes text.new ≡ string_bytes text.old ++ change_text change.now) }
+    ensures { OnOk result (string_bytes text.new ≡ string_bytes text.old ++ change_text change.entry.now) }
 {
     let (offset, was, now, frame) = (change.offset, change.was, change.now, change.frame);
     write!(

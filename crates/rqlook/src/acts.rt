@@ -1,7 +1,7 @@
 //! What the program does for each of its commands.
 
 use crate::failures::{Failure, FileTrouble, of_file};
-use crate::log_files::{read_log_file, shown_name, typed_name};
+use crate::log_files::{read_log_file, typed_name};
 use crate::made_files::make_file;
 use crate::mended_files::mend_file;
 use crate::narrow_lines::Narrow;
@@ -9,7 +9,6 @@ use crate::progress::{Watch, Watched};
 use crate::words::{columns_asked, records_asked, subject_asked};
 use clap::ArgMatches;
 use rq_found::{Diagnosis, Fault, Plan, Seen, ShownLog, Trouble, begins_at, put_diagnosis};
-use rq_look::Joins;
 use std::alloc::{AllocError, Global};
 use std::io::{self, ErrorKind, Write};
 use std::os::fd::AsFd;
@@ -99,68 +98,6 @@ fn check<R: AllocGlobal + Threads + Sync, W: Write>(
     Ok(found.fine)
 }
 
-// What is said of a carried log and the one before it, of this name.
-fn join_text(
-    alloc: Global,
-    log: &ShownLog<'_>,
-    joins: Joins,
-    old: &str,
-) -> Result<String, Trouble> {
-    let name = Seen(shown_name(old));
-    let text = if log.at.is_none() {
-        format!(in alloc; "not carried: it goes on from no log\n")
-    } else if joins.checkpoint {
-        format!(in alloc; "goes on from the front of {name}\n")
-    } else if joins.link {
-        format!(in alloc;
-            "does not go on from the front of {name}: its link does, its checkpoint does not\n"
-        )
-    } else {
-        format!(in alloc; "does not go on from the front of {name}: its link is of another\n")
-    };
-    Ok(text?)
-}
-
-// Tells whether a carried log goes on from the front of the one before it, if the words name that, and
-// answers whether it does.
-fn check_after<R>(rt: &R, asked: &Request<'_, '_>, watch: Watch) -> Result<bool, Failure>
-where
-    R: Files + Input + Print + Eprint + Clock + AllocGlobal + Threads + Sync,
-{
-    let Some(file) = asked.words.get_str("after") else {
-        return Ok(true);
-    };
-    let mut bytes = read_log_file(rt, file, watch)?;
-    let at = begins_at(&mut bytes);
-    let old = ShownLog {
-        bytes: &bytes,
-        at,
-        plan: asked.log.plan,
-    };
-    match tell_joins(rt, asked, &old, file) {
-        Ok(joins) => Ok(joins),
-        Err(trouble) => Err(of_file(rt, file, FileTrouble::Refused(trouble))),
-    }
-}
-
-// Tells whether it goes on from the front of this one.
-fn tell_joins<R>(
-    rt: &R,
-    asked: &Request<'_, '_>,
-    old: &ShownLog<'_>,
-    file: &str,
-) -> Result<bool, Trouble>
-where
-    R: Print + AllocGlobal + Threads + Sync,
-{
-    let joins = rq_look::joins(rt, rt.alloc(), &asked.log, old)?;
-    if !asked.words.get_flag("quiet") {
-        let text = join_text(rt.alloc(), &asked.log, joins, file)?;
-        print_found(text.as_str(), &mut io::writer(rt))?;
-    }
-    Ok(joins.checkpoint && asked.log.at.is_some())
-}
-
 // Tells how long a megabyte of the log took, if there is a clock.
 fn tell_time<R: Eprint + Clock>(rt: &R, bytes: &[u8], begun: Option<Instant>) {
     let Some(elapsed) = begun.and_then(|begun| begun.elapsed(rt).ok()) else {
@@ -248,9 +185,8 @@ where
     if let Some(to) = words.get_str("OUT") {
         return make_file(rt, &asked, to);
     }
-    let joins = check_after(rt, &asked, watch)?;
     match print_shown(rt, &asked, watch) {
-        Ok(fine) => Ok(fine && joins),
+        Ok(fine) => Ok(fine),
         Err(trouble) => Err(of_file(rt, file, FileTrouble::Refused(trouble))),
     }
 }

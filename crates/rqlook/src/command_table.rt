@@ -89,11 +89,6 @@ static COMMANDS: [Subcommand; 10] = [
                 something",
         words: &[
             LOG,
-            Word(
-                "after",
-                With("OLD", TEXT),
-                "Holds the checkpoint with which LOG begins, carried on, against the end of the log OLD",
-            ),
             Word("quiet", Letter('q'), "Says nothing"),
             WIDTH,
             WORKERS,
