@@ -120,6 +120,11 @@ def heads() -> None:
     said = "ghost use Rattle.low.specs.Sums.{two};\npub fn add ( n : u8 ) -> u8\n    ensures { result ≡ two n } ;\n"
     check("heads that are taken", not_taken(text, said), [])
     check("a clause that is not", "IsMore" in not_taken(text, said.replace("} ;", "}\n    ensures { IsMore result } ;")), True)
+    code = 'const MOST: usize = LEAST + 1;\nconst TOP: &str = "<p>\n<q>\\\n    \\"r\\"\n";\nfn put() {\n    one();\n}\n'
+    built = '# [ read_as = "0a" ] const MOST : usize = ( 8_usize ) ;\nconst TOP : & str = "<p>\n<q>\\\n    \\"r\\"\n" ;\nfn put ( ) ;\n'
+    text = crates_of({"low": {"src/lib.rt": code}})["low"].files["src/lib.rt"]
+    check("a text of several lines, and what a number comes to", not_taken(text, built), [])
+    check("another text", not_taken(text, built.replace("<q>", "<s>")) != [], True)
 
 
 def main() -> int:

@@ -20,6 +20,8 @@ ATTRIBUTES = re.compile(r"\A(?:#\[[^\n]*\n(?:(?: [^\n]*|[)\]]+)\n)*)*")
 IMPL = re.compile(r"(?:unsafe )?impl\b[^{;]*\{")
 TYPE = re.compile(r"(?:pub(?:\([^)]*\))? )?(?:unsafe )?(struct|enum|trait|type|const|static|union)(?! fn| unsafe) (?:mut )?(\w+)")
 WORD = re.compile(r"[A-Za-z_]\w*")
+# What of a text of code may have a quotation mark though no string is open there.
+CLOSED = re.compile(r"'(?:\\.|[^'\\\n])'|\"(?:\\.|[^\"\\])*\"|//[^\n]*", re.S)
 
 
 class Item(NamedTuple):
@@ -54,11 +56,17 @@ def is_attribute(block: str) -> bool:
     return block.startswith("#[") and not block[ATTRIBUTES.match(block).end() :]  # type: ignore[union-attr]
 
 
+def is_open(text: str) -> bool:
+    """Whether a string of the code is not closed."""
+    return '"' in CLOSED.sub("", text)
+
+
 def blocks(text: str, goes_on: "re.Pattern[str]") -> List[str]:
     """The text in pieces: a line at the margin, with those behind it that go on with it. Attributes belong to what they stand over."""
     found: List[List[str]] = []
     for line in text.split("\n")[:-1]:
-        if found and (line.startswith(" ") or goes_on.match(line) or is_attribute("".join(found[-1]))):
+        last = "".join(found[-1]) if found else ""
+        if last and (line.startswith(" ") or goes_on.match(line) or is_attribute(last) or (goes_on is CODE_GOES_ON and is_open(last))):
             found[-1].append(line + "\n")
         else:
             found.append([line + "\n"])
@@ -186,11 +194,13 @@ def crates_of(texts: Dict[str, Texts]) -> Dict[str, Crate]:
     return {name: Crate(name, files, types) for name, files in bare.items()}
 
 
-# What the toolchain adds to the heads of a library: names of impls, what an impl was read as, and impls that macros write.
-ADDED = re.compile(r"^(?:# \[ read_as = \"\w+\" \] )?# \[ automatically_derived \] impl\b.*?^\}|# \[ read_as = \"\w+\" \]| as [A-Z]\w*(?= \{)", re.M | re.S)
+# What the toolchain adds to the heads of a library: names of impls, what an impl was read as, impls that macros write, and the
+# numbers that constants come to.
+ADDED = re.compile(r"^(?:# \[ read_as = \"\w+\" \] )?# \[ automatically_derived \] impl\b.*?^\}|# \[ read_as = \"\w+\" \]| as [A-Z]\w*(?= \{)"
+                   r"|(?<= = )\( \d+_\w+ \)(?= ;)", re.M | re.S)
 # What stands in no declaration: imports, names of modules, attributes of the whole, and what closes a list of types.
 IN_NONE = re.compile(r"^(?: *ghost )?(?:pub(?:\([^)]*\))? )?(?:use|mod) [^;]*;|^#!?\[.*|^>.*", re.M)
-PIECE = re.compile(r'"(?:\\.|[^"\\])*"|\w+|[^\s\w,;]')
+PIECE = re.compile(r'"(?:\\.|[^"\\])*"|\w+|[^\s\w,;]', re.S)
 
 
 def not_taken(text: Text, heads: str) -> List[str]:
