@@ -48,7 +48,7 @@ const TAG: Slot = Slot("TAG", Shape::Number(u64::MAX), ANY);
 
 const HEX: Slot = Slot("HEX", Shape::Hex(65_535), BYTES);
 
-static KINDS: [LineForm; 11] = [
+static KINDS: [LineForm; 10] = [
     LineForm(
         "define",
         &[
