@@ -1,6 +1,6 @@
 //! From the lines of a script to the frames of their records.
 
-use crate::expected::{Misfit, slot_missed};
+use crate::expected::{Misfit, field_missed};
 use crate::fronts::OpenLog;
 use crate::refusal::Refusal;
 use rq_journal::{NotTaken, Rule};
@@ -140,7 +140,7 @@ fn reason_unread(alloc: Global, log: &OpenLog, text: &[u8]) -> Reason {
     match read_line(alloc, Version::Two, text) {
         Ok(ScriptLine::Told(record)) => rule_of(alloc, log, &record),
         Err(Fault::Resources) => Reason::Memory,
-        _ => Reason::Misfit(slot_missed(text)),
+        _ => Reason::Misfit(field_missed(text)),
     }
 }
 
