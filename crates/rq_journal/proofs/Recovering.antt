@@ -11,10 +11,10 @@ use Rattle.rq_journal.specs.Recoveries.{CutsOff, MayGo, Recovers, RecoversAt, Re
 use Rattle.rq_journal.specs.declared.left_behind.Damage.{Damage}
 use Rattle.rq_journal.specs.declared.recoveries.NotRecovered.{NotRecovered}
 use Rattle.rq_journal.specs.declared.recoveries.NotRecovered.TheVariants.{Log, Damaged}
-use Rattle.rq_journal.specs.declared.recoveries.Recovered.{Recovered}
+use Rattle.rq_journal.specs.declared.recoveries.MadeWhole.{MadeWhole}
 
 -- what is handed back may go
-pub goes : (b : List ℕ) (e : Ending) (drops : Bool) (damage : Option Damage) (result : Result Recovered NotRecovered)
+pub goes : (b : List ℕ) (e : Ending) (drops : Bool) (damage : Option Damage) (result : Result MadeWhole NotRecovered)
     → CutsOff b e damage result → MayGo b e drops damage → RecoversFrom b e drops result
 goes b e drops damage (Ok r) cut may = (
   cut.0,
@@ -29,7 +29,7 @@ goes b e drops damage (Err (Damaged found other)) cut may = absurd cut
 
 -- where the front of all of it does
 pub from_start : (b : List ℕ) (e : Ending) (drops : Bool) → IsEnding b e → AreBytes b → ClosedStands
-    → (result : Result Recovered NotRecovered) → RecoversFrom b e drops result → Recovers b drops result
+    → (result : Result MadeWhole NotRecovered) → RecoversFrom b e drops result → Recovers b drops result
 from_start b e drops end bytes stands (Ok r) is =
     let same = sym is.0 in
     record {
@@ -47,7 +47,7 @@ from_start b e drops end bytes stands (Err (Damaged x damage)) is = (
 
 -- where the front from a checkpoint on does
 pub from_there : (b : List ℕ) (offset : ℕ) (e : Ending) (drops : Bool) → IsEndingAt b offset e
-    → (result : Result Recovered NotRecovered) → RecoversFrom b e drops result → RecoversAt b offset drops result
+    → (result : Result MadeWhole NotRecovered) → RecoversFrom b e drops result → RecoversAt b offset drops result
 from_there b offset e drops end (Ok r) is = (subst (IsEndingAt b offset) (sym is.0) end, is.1)
 from_there b offset e drops end (Err (Log fault)) is = subst (StaysOpenAt b offset) (sym is) tt
 from_there b offset e drops end (Err (Damaged x damage)) is = (

@@ -14,7 +14,7 @@ use std::thread::Threads;
 
 /// How a log goes on behind its front.
 #[derive(Drop)]
-pub struct Recovered {
+pub struct MadeWhole {
     /// Where the front ends, and what is to be written there: the tail.
     pub ending: Ending,
     /// What stood there before, and has to go.
@@ -49,12 +49,12 @@ fn cut_off(
     bytes: &[u8],
     ending: Ending,
     damage: Option<Damage>,
-) -> Result<Recovered, NotRecovered>
+) -> Result<MadeWhole, NotRecovered>
     requires { ending.used ≤ length bytes.now }
     ensures { CutsOff bytes.now ending damage result }
 {
     match cut_from(alloc, bytes, ending.used) {
-        Ok(cut) => Ok(Recovered {
+        Ok(cut) => Ok(MadeWhole {
             ending,
             cut,
             damage,
@@ -70,7 +70,7 @@ fn recovered_behind(
     bytes: &[u8],
     ending: Ending,
     drops: bool,
-) -> Result<Recovered, NotRecovered>
+) -> Result<MadeWhole, NotRecovered>
     requires after { 32 ≤ ending.used }
     requires within { ending.used ≤ length bytes.now }
     ensures { RecoversFrom bytes.now ending drops result }
@@ -101,7 +101,7 @@ pub fn recovered<R: Threads + Sync>(
     bytes: &[u8],
     plan: &Plan,
     drops: bool,
-) -> Result<Recovered, NotRecovered>
+) -> Result<MadeWhole, NotRecovered>
     ensures { Recovers bytes.now drops result }
 {
     are_octets(bytes);
@@ -122,7 +122,7 @@ pub fn recovered_at<R: Threads + Sync>(
     offset: u64,
     plan: &Plan,
     drops: bool,
-) -> Result<Recovered, NotRecovered>
+) -> Result<MadeWhole, NotRecovered>
     ensures { RecoversAt bytes.now offset drops result }
 {
     match ending_at(rt, alloc, bytes, offset, plan) {

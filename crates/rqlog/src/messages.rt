@@ -1,7 +1,7 @@
 //! What was done, as it is told.
 
 use crate::damage::LeftOut;
-use rq_journal::{Recovered, Truth};
+use rq_journal::{MadeWhole, Truth};
 use std::alloc::{AllocError, Global};
 use std::fmt::Write;
 use std::io;
@@ -59,7 +59,7 @@ pub(crate) fn tell_recovered<R: Print>(
     rt: &R,
     json: bool,
     kept: &Option<String>,
-    made: &Recovered,
+    made: &MadeWhole,
 ) -> io::Result<()> {
     let (offset, cut) = (made.ending.used, made.cut.len());
     let (units, bytes) = (

@@ -7,14 +7,14 @@ use crate::messages::{tell_left_out, tell_recovered};
 use crate::new_log::put_new;
 use crate::refusal::{Refusal, Stream, failed};
 use rq_file::{NamedFile, folder_within};
-use rq_journal::{CARRIED_AT, NotRecovered, Plan, Recovered, recovered, recovered_at};
+use rq_journal::{CARRIED_AT, MadeWhole, NotRecovered, Plan, recovered, recovered_at};
 use std::alloc::{AllocError, Global};
 use std::fs::{File, Files, OpenFile, OpenOptions};
 use std::io;
 use std::thread::Threads;
 
 // How a log goes on, plain or carried on; damage stays, unless it is to be dropped.
-fn recovered_log<R>(rt: &R, log: &ReadLog, plan: &Plan, drops: bool) -> Result<Recovered, Refusal>
+fn recovered_log<R>(rt: &R, log: &ReadLog, plan: &Plan, drops: bool) -> Result<MadeWhole, Refusal>
 where
     R: AllocGlobal + Threads + Sync,
 {
@@ -82,7 +82,7 @@ where
 }
 
 // Keeps what is cut off, if something is, and answers where.
-fn kept_cut<R>(rt: &R, path: &str, made: &Recovered) -> Result<Option<String>, Refusal>
+fn kept_cut<R>(rt: &R, path: &str, made: &MadeWhole) -> Result<Option<String>, Refusal>
 where
     R: Files<File = File> + AllocGlobal,
 {
@@ -95,7 +95,7 @@ where
 }
 
 // Whether the log is another once it is recovered.
-fn changes(made: &Recovered) -> bool {
+fn changes(made: &MadeWhole) -> bool {
     !made.cut.is_empty() || !made.ending.tail.is_empty()
 }
 
