@@ -327,7 +327,7 @@ def by_pipes() -> None:
     log = plain("piped", START + b"checkpoint\n")
     rqlog("carry", log, "piped.carried")
     for name in (log, "piped.carried"):
-        for line in ("restart {}", "audit {}", "close {} closed.log"):
+        for line in ("restart {}", "audit {}", "close --force {} closed.log"):
             ended = [(rqlog(*line.format(it).split(), script=content(name)), content("closed.log")) for it in (name, "/dev/stdin")]
             check(f"{line.format(name)}, by a pipe", ended[1], ended[0])
 
