@@ -6,7 +6,7 @@ use std::fmt;
 
 // A field of a line, or what stands in the place of one.
 #[derive(Clone, Copy)]
-enum Field {
+enum ScriptField {
     // The line's first word.
     Kind,
     Name,
@@ -41,77 +41,86 @@ fn is_number(most: u64, text: &[u8]) -> bool {
     decimal_number(most, text).is_some()
 }
 
-impl Field {
+impl ScriptField {
     // What it is called.
     fn name(self) -> &'static str {
         match self {
-            Field::Kind => "what the record is",
-            Field::Name => "NAME",
-            Field::Limit => "LIMIT",
-            Field::Error => "ERROR",
-            Field::Queue => "QUEUE",
-            Field::Unit => "UNIT",
-            Field::Priority => "PRIORITY",
-            Field::Who => "WHO",
-            Field::Tag => "TAG",
-            Field::Payload | Field::State => "HEX",
-            Field::Element => "ELEMENT",
-            Field::End => "behind the last",
-            Field::TagOfNobody => "TAG of nobody",
+            ScriptField::Kind => "what the record is",
+            ScriptField::Name => "NAME",
+            ScriptField::Limit => "LIMIT",
+            ScriptField::Error => "ERROR",
+            ScriptField::Queue => "QUEUE",
+            ScriptField::Unit => "UNIT",
+            ScriptField::Priority => "PRIORITY",
+            ScriptField::Who => "WHO",
+            ScriptField::Tag => "TAG",
+            ScriptField::Payload | ScriptField::State => "HEX",
+            ScriptField::Element => "ELEMENT",
+            ScriptField::End => "behind the last",
+            ScriptField::TagOfNobody => "TAG of nobody",
         }
     }
 
     // What is expected there.
     fn expected(self) -> &'static str {
         match self {
-            Field::Kind =>
+            ScriptField::Kind =>
                 "define, register, deregister, begin, enqueue, dequeue, commit, abort or kill",
-            Field::Name | Field::Who => NAMED,
-            Field::Limit => "a number up to 65535",
-            Field::Error => "a number up to 4294967294, or -,",
-            Field::Queue => "a number up to 4294967295",
-            Field::Unit | Field::Tag | Field::Element => ANY,
-            Field::Priority => "a number up to 255",
-            Field::Payload => "at most 65535 bytes, each as two of 0 to 9 and a to f, or -,",
-            Field::State => "at most 268435455 bytes, each as two of 0 to 9 and a to f, or -,",
-            Field::End => "the end of the line",
-            Field::TagOfNobody => "0",
+            ScriptField::Name | ScriptField::Who => NAMED,
+            ScriptField::Limit => "a number up to 65535",
+            ScriptField::Error => "a number up to 4294967294, or -,",
+            ScriptField::Queue => "a number up to 4294967295",
+            ScriptField::Unit | ScriptField::Tag | ScriptField::Element => ANY,
+            ScriptField::Priority => "a number up to 255",
+            ScriptField::Payload => "at most 65535 bytes, each as two of 0 to 9 and a to f, or -,",
+            ScriptField::State =>
+                "at most 268435455 bytes, each as two of 0 to 9 and a to f, or -,",
+            ScriptField::End => "the end of the line",
+            ScriptField::TagOfNobody => "0",
         }
     }
 
     // Whether this text may stand there, whatever stands in the others.
     fn fits(self, text: &[u8]) -> bool {
         match self {
-            Field::Name | Field::Who => Name::new(text).is_some(),
-            Field::Limit => is_number(65_535, text),
-            Field::Error => text == b"-".as_slice() || is_number(4_294_967_294, text),
-            Field::Queue => is_number(4_294_967_295, text),
-            Field::Unit | Field::Tag | Field::Element => is_number(u64::MAX, text),
-            Field::Priority => is_number(255, text),
-            Field::Payload => is_hex(65_535, text),
-            Field::State => is_hex(268_435_455, text),
-            Field::Kind | Field::End | Field::TagOfNobody => false,
+            ScriptField::Name | ScriptField::Who => Name::new(text).is_some(),
+            ScriptField::Limit => is_number(65_535, text),
+            ScriptField::Error => text == b"-".as_slice() || is_number(4_294_967_294, text),
+            ScriptField::Queue => is_number(4_294_967_295, text),
+            ScriptField::Unit | ScriptField::Tag | ScriptField::Element => is_number(
+                u64::MAX,
+                text,
+            ),
+            ScriptField::Priority => is_number(255, text),
+            ScriptField::Payload => is_hex(65_535, text),
+            ScriptField::State => is_hex(268_435_455, text),
+            ScriptField::Kind | ScriptField::End | ScriptField::TagOfNobody => false,
         }
     }
 }
 
 // The fields of a line behind its first word; none, if no line begins with that.
-fn fields_of(word: &[u8]) -> Option<&'static [Field]> {
-    let fields: &'static [Field] = match std::str::from_utf8(word).unwrap_or("") {
-        "define" => &[Field::Name, Field::Limit, Field::Error],
-        "register" | "deregister" => &[Field::Queue, Field::Name],
-        "begin" | "commit" | "abort" => &[Field::Unit],
+fn fields_of(word: &[u8]) -> Option<&'static [ScriptField]> {
+    let fields: &'static [ScriptField] = match std::str::from_utf8(word).unwrap_or("") {
+        "define" => &[ScriptField::Name, ScriptField::Limit, ScriptField::Error],
+        "register" | "deregister" => &[ScriptField::Queue, ScriptField::Name],
+        "begin" | "commit" | "abort" => &[ScriptField::Unit],
         "enqueue" => &[
-            Field::Unit,
-            Field::Queue,
-            Field::Priority,
-            Field::Who,
-            Field::Tag,
-            Field::Payload,
+            ScriptField::Unit,
+            ScriptField::Queue,
+            ScriptField::Priority,
+            ScriptField::Who,
+            ScriptField::Tag,
+            ScriptField::Payload,
         ],
-        "dequeue" => &[Field::Unit, Field::Queue, Field::Who, Field::Tag],
-        "checkpoint-hex" => &[Field::State],
-        "kill" => &[Field::Queue, Field::Element],
+        "dequeue" => &[
+            ScriptField::Unit,
+            ScriptField::Queue,
+            ScriptField::Who,
+            ScriptField::Tag,
+        ],
+        "checkpoint-hex" => &[ScriptField::State],
+        "kill" => &[ScriptField::Queue, ScriptField::Element],
         _ => return None,
     };
     Some(fields)
@@ -121,7 +130,7 @@ fn fields_of(word: &[u8]) -> Option<&'static [Field]> {
 #[derive(Clone, Copy)]
 pub(crate) struct Misfit {
     number: usize,
-    field: Field,
+    field: ScriptField,
 }
 
 impl fmt::Display for Misfit {
@@ -132,14 +141,14 @@ impl fmt::Display for Misfit {
 }
 
 // Each field is one for itself: only a tag that nobody has is none.
-fn nobody(fields: &[Field]) -> Misfit {
+fn nobody(fields: &[ScriptField]) -> Misfit {
     let before = fields
         .iter()
-        .take_while(|field| !matches!(field, Field::Tag))
+        .take_while(|field| !matches!(field, ScriptField::Tag))
         .count();
     Misfit {
         number: before.saturating_add(2),
-        field: Field::TagOfNobody,
+        field: ScriptField::TagOfNobody,
     }
 }
 
@@ -149,7 +158,7 @@ pub(crate) fn field_missed(line: &[u8]) -> Misfit {
     let Some(fields) = fields_of(texts.next().unwrap_or(b"".as_slice())) else {
         return Misfit {
             number: 1,
-            field: Field::Kind,
+            field: ScriptField::Kind,
         };
     };
     let mut number: usize = 1;
@@ -162,7 +171,7 @@ pub(crate) fn field_missed(line: &[u8]) -> Misfit {
     if texts.next().is_some() {
         return Misfit {
             number: number.saturating_add(1),
-            field: Field::End,
+            field: ScriptField::End,
         };
     }
     nobody(fields)
