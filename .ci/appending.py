@@ -39,7 +39,21 @@ UNLAWFUL = {
     b"enqueue 7 0 5 - 0 61": b"unit 7 is not open",
     b"dequeue 7 3 - 0": b"queue 3 is not defined",
 }
-NO_LINES = [b"begin 01\n", b"\n", b"begin 2", b"begin\n", b"enqueue 1 0 256 - 0 61\n", b"kill 0\n", b"\xff\xfe\n"]
+KIND = "field 1, what the record is: define, register, deregister, begin, enqueue, dequeue, commit, abort or kill"
+NUMBER = "a number up to 18446744073709551615"
+NAME = "a name of 1 to 64 of a to z, 0 to 9, - . and _"
+HEX = "at most 65535 bytes, each as two of 0 to 9 and a to f, or -,"
+LF = b"\n"
+# Each with what is expected in its place.
+NO_LINES = {
+    b"begin 01\n": f"field 2, UNIT: {NUMBER}", b"\n": KIND, b"begin 2": "a line feed", b"begin\n": f"field 2, UNIT: {NUMBER}", b"\xff\xfe\n": KIND,
+    b"enqueue 1 0 256 - 0 61\n": "field 4, PRIORITY: a number up to 255", b"kill 0\n": f"field 3, ELEMENT: {NUMBER}",
+    b"begin 1 2\n": "field 3, behind the last: the end of the line", b"begin  1\n": f"field 2, UNIT: {NUMBER}",
+    b"enqueue 1 0 5 - 7 61\n": "field 6, TAG of nobody: 0", b"register 4294967296 ann\n": "field 2, QUEUE: a number up to 4294967295",
+    b"register 0 Ann\n": f"field 3, NAME: {NAME}", b"define jobs 65536 -\n": "field 3, LIMIT: a number up to 65535",
+    b"define jobs 0 4294967295\n": "field 4, ERROR: a number up to 4294967294, or -,", b"enqueue 1 0 5 - 0 6A\n": f"field 7, HEX: {HEX}",
+    b"enqueue 1 0 5 - 0 " + b"61" * 65536 + b"\n": f"field 7, HEX: {HEX}", b"# begin 2\n": KIND,
+}
 # Words that are no line of the program.
 NO_WORDS = ["", "append", "carry a.log", "close a.log", "appends a.log", "restart", "restart a.log one", "audit a.log 1 1",
             "checkpoint", "append a.log --sometimes", "restart a.log 4294967296"]
@@ -123,8 +137,8 @@ def refuses() -> None:
         want = says(told + b"1 records before it were appended", printed=appended(1, begun)[1])
         check(f"append --each {line!r}", (rqlog("append", log, "--each", script=script), len(content(log))), (want, begun))
         put(log, before)
-    for line in NO_LINES:
-        want = says("script line 2: no line of a script; nothing was appended")
+    for line, why in NO_LINES.items():
+        want = says(f"script line 2: {why} is expected{'' if line.endswith(LF) else ' at its end'}; nothing was appended")
         check(f"append {line!r}", (rqlog("append", log, script=b"begin 5\n" + line), content(log)), (want, before))
     want = says("script line 1: checkpoint: use rqlog checkpoint; nothing was appended")
     check("append checkpoint", (rqlog("append", log, script=b"checkpoint\n"), content(log)), (want, before))
@@ -174,7 +188,7 @@ def kills() -> None:
     put("killed.log", chained(header_of(1), [*START_BODIES, kill(0, 3)]))
     before = content("killed.log")
     check("append behind a kill", (rqlog("append", "killed.log", script=MORE), content("killed.log")),
-          (says("LOG: its front ends by form: rqlook check tells where"), before))
+          (says("killed.log: its front ends by form: rqlook check tells where"), before))
 
 
 def damaged() -> None:
@@ -186,14 +200,14 @@ def damaged() -> None:
              [*START_BODIES, bytes(9)]), "law": chained(header_of(1), bodies)}
     for why, bytes_ in kinds.items():
         put(log, bytes_)
-        want = says(f"LOG: its front ends by {why}: rqlook check tells where")
+        want = says(f"{log}: its front ends by {why}: rqlook check tells where")
         for line in ("append damaged.log", "append damaged.log --each", "checkpoint damaged.log", "carry damaged.log new.log"):
             check(f"{line}, {why}", (rqlog(*line.split(), script=MORE), content(log)), (want, bytes_))
         check(f"no new file, {why}", os.path.exists("new.log"), False)
     for what, bytes_ in {"empty": b"", "script": START, "header": good[:39]}.items():
         put(log, bytes_)
         for line in ("append damaged.log", "checkpoint damaged.log", "carry damaged.log new.log", "close damaged.log out"):
-            check(f"{line}, {what}", (rqlog(*line.split(), script=MORE), content(log)), (says("not a log: rq make makes one"), bytes_))
+            check(f"{line}, {what}", (rqlog(*line.split(), script=MORE), content(log)), (says(f"{log}: not a log: rq make makes one"), bytes_))
 
 
 def cut_anywhere() -> None:
@@ -298,7 +312,7 @@ def without_a_beginning() -> None:
     """A file that begins as a carried log and has no checkpoint at 96, or one that spells no state: all lines refuse it."""
     rqlog("carry", plain("old"), "new.carried")
     good, link = content("new.carried"), content("old.log")[-32:]
-    none, bad = says("no checkpoint: rqlook check tells what the file is"), says("bad checkpoint: rqlook check tells what the file is")
+    none, bad = (says(f"wrong.carried: {it} checkpoint: rqlook check tells what the file is") for it in ("no", "bad"))
     kinds = {end: (good[:end], none) for end in (64, 80, 96, 99, len(good) - 1)}
     kinds |= {"turned": (good[:120] + bytes([good[120] ^ 1]) + good[121:], none),
               "no state": (carried_bytes(1, link, [checkpoint(b"")]), bad),
@@ -315,7 +329,7 @@ def by_pipes() -> None:
     log = plain("piped", START + b"checkpoint\n")
     rqlog("carry", log, "piped.carried")
     for name in (log, "piped.carried"):
-        for line in ("restart {}", "audit {}", "close {} closed.log"):
+        for line in ("restart {}", "audit {}", "close --force {} closed.log"):
             ended = [(rqlog(*line.format(it).split(), script=content(name)), content("closed.log")) for it in (name, "/dev/stdin")]
             check(f"{line.format(name)}, by a pipe", ended[1], ended[0])
 

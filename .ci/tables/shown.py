@@ -6,7 +6,7 @@ from typing import NamedTuple
 
 from .asking import Program, Question, changed, first, whole
 from .carried import carried, carried_one, with_points
-from .looking import Row, rows_of
+from .looking import DAMAGED, WHOLE, Row, rows_of
 from .scripts import CHECKPOINT, ONE_ELEMENT
 
 END = "front ends behind 4 records, at 237 of 237 bytes, whole: nothing follows\n"
@@ -46,12 +46,12 @@ ROWS = [
     Row("story LOG 2 --workers 2", ONE_ELEMENT, whole, 0, STORY),
     Row("report LOG --queue 0 --workers 2", ONE_ELEMENT, whole, 0, REPORT),
     Row("script LOG --workers 2", ONE_ELEMENT, whole, 0, ONE_ELEMENT),
-    Row("check LOG --workers 2", ONE_ELEMENT, whole, 0, ""),
+    Row("check LOG --workers 2", ONE_ELEMENT, whole, 0, WHOLE),
     Row("stats LOG --workers 2", ONE_ELEMENT, whole, 0, NUMBERS),
     Row("dump LOG --limit 0 --workers 2", first(9, CHECKPOINT), whole, 0,
         "front ends behind 9 records, at 679 of 679 bytes, whole: nothing follows\n"),
     Row("story LOG 2 --workers 2", MARKED, carried_on, 0, CARRIED_STORY),
-    Row("check LOG --workers 2", MARKED, carried_on, 1, "carried: use rqlog\n" + CARRIED_END),
+    Row("check LOG --workers 2", MARKED, carried_on, 1, "carried: use rqlog\n" + CARRIED_END + WHOLE),
 ]
 
 
@@ -88,7 +88,7 @@ ENDS = [
     Ends("report LOG --json --queue 0", ONE_ELEMENT, whole, 0, "{\n", JSON_END),
     Ends("page LOG - --order depth --element 2", ONE_ELEMENT, whole, 0, "<!DOCTYPE html>\n", "</html>\n"),
     Ends("page LOG - --order depth --element 2", MARKED, carried_on, 0, "<!DOCTYPE html>\n", "</html>\n"),
-    Ends("check LOG", ONE_ELEMENT, damaged, 1, "front ends behind 1 records, at 87 of 237 bytes, chain: ", "\n" + FINDINGS),
+    Ends("check LOG", ONE_ELEMENT, damaged, 1, "front ends behind 1 records, at 87 of 237 bytes, chain: ", "\n" + FINDINGS + DAMAGED),
     Ends("dump LOG --from 87 --behind", ONE_ELEMENT, damaged, 0, BEHIND, "\n"),
     Ends("salvage LOG -", ONE_ELEMENT, damaged, 0, "define jobs 0 -\n# front ends ", CHOICE),
 ]
@@ -103,7 +103,7 @@ def ends(rqlook: Program, rq: Program) -> Iterator[Question]:
     for row in ENDS:
         log = rq.file(row.damage(rq.log_of(row.script)))
         words = [log if word == "LOG" else word for word in row.line.split()]
-        begins, ends = row.begins.encode(), row.ends.encode()
+        begins, ends = row.begins.encode(), row.ends.replace("NAME", log).encode()
         ask = functools.partial(ends_of, rqlook, words, begins, ends)
         yield Question(f"rqlook {row.line}, its ends", ask, (row.status, begins, ends, b""))
 

@@ -14,7 +14,7 @@ units on many queues with checkpoints. Each log with a true checkpoint is carrie
 it must be what is shown of the whole log from there on, at its offsets. The last line is `N passed, M failed`, by answers.
 """
 from __future__ import annotations
-import argparse, glob, json, os, pty, random, resource, shutil, subprocess, sys, tty
+import argparse, glob, json, os, pty, random, re, resource, shutil, subprocess, sys, tty
 
 sys.path.insert(0, os.path.dirname(os.path.dirname(os.path.abspath(__file__))))
 from common import (COMPARED, HEADER, HERE, NO_RECORD, UNLAWFUL, best, bodies_of, built_peer, chained, check, checkpoints_script, counted, header_of,
@@ -146,6 +146,10 @@ def same_check(rq: str, look: str, log: str) -> None:
     check(f"{log}'s findings", (status, text.count("the checkpoint at"), text.count("front ends")),
           (0 if whole and not false else 1, len(false), 0 if whole else 1))
     check(f"{log}'s findings, not said", told(look, "check", log, "-q"), (status, ""))
+    behind = "\nbehind it no frame is right in itself; " in text and "\nthe search gave up" not in text
+    is_torn = behind and not re.search(r" bytes, (form|law): ", text) and os.path.getsize(log) - int(text.split(" at ", 1)[1].split()[0]) <= 1 << 20
+    word = ("whole, but not" if false else "whole, each") if whole else "a torn end" if is_torn else "damaged"
+    check(f"{log}'s verdict", text.split("\n")[-2].startswith(f"verdict: {word}"), True)
 
 
 def same_stories(look: str, log: str, records: list[dict], count: int, draw: random.Random) -> None:
@@ -524,7 +528,7 @@ def carried(rq: str, look: str, log: str, folder: str, draw: random.Random) -> N
     front = {"carried_at": CARRIED_AT, "records": len(records), "used": size, "total": size, "why": "whole", "reason": "nothing follows"}
     for words, wanted in [([], shown_here)] + wanted_by(draw, shown_here):
         same_lines(look, path, words, wanted, ("\n".join(end), {"front": front}))
-    check(f"{path}'s findings", told(look, "check", path), (1, f"carried: use rqlog\n{end[1]}\n"))
+    check(f"{path}'s findings", told(look, "check", path), (1, f"carried: use rqlog\n{end[1]}\nverdict: whole, each checkpoint is true. Next: rqlog append {path}\n"))
     _, want = told(rq, "restart-at", path, str(CARRIED_AT), "4", "1000")
     check(f"{path} as text", told(look, "report", path), (0, f"{end[0]}\n{want}"))
     report = json.loads(told(look, "report", path, "--json")[1])

@@ -70,7 +70,7 @@ broken_off (Nothing subject) h = h
 -- what is put behind a choice belongs to it
 pub choice_goes_on : (text put : List ℕ) → IsChoice false text → IsChoice false (text ++ put)
 choice_goes_on text put h =
-    (h.0 ++ put, ap (λ (t : List ℕ). t ++ put) h.1 ∙ append_assoc (codes "# ") h.0 put)
+    (h.0 ++ put, ap (λ (t : List ℕ). t ++ put) h.1 ∙ append_assoc (codes "# front ends behind ") h.0 put)
 
 -- what holds once a call is done
 pub then_ok : {A E : Type 0} (P Q : Type 0) → (P → Q) → (r : Result A E) → OnOk r P → OnOk r Q

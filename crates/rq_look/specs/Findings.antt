@@ -1,6 +1,6 @@
 -- What stands behind the front of a log, and what a check of it finds.
 use Rattle.std.specs.Prelude.{◌≡◌, ℕ, ◌+◌, ◌-◌, ◌&&◌, Bool, false, List, [], ◌∷◌, ◌++◌, length, map}
-use Rattle.std.specs.Prelude.{codes, Option, Some, None, if◌then◌else◌}
+use Rattle.std.specs.Prelude.{codes, Option, Some, None, if◌then◌else◌, not, ◌||◌, ◌==◌, true, is_some}
 use Rattle.std.specs.List.{flat_map, list_all}
 use Rattle.std.specs.Fmt.{decimal}
 use Rattle.rq_model.specs.Records.{Version}
@@ -14,6 +14,8 @@ use Rattle.rq_judged.specs.FrontEnds.{IsEndOf}
 use Rattle.rq_restart.specs.Audits.{audited_of}
 use Rattle.rq_found.specs.Ends.{IsRestartFrom, end_line, end_text, front_end_of, is_whole}
 use Rattle.rq_found.specs.declared.ends.End.{End}
+use Rattle.rq_found.specs.declared.diagnoses.Diagnosis.{Diagnosis}
+use Rattle.rq_found.specs.Diagnoses.{diagnosis_of}
 
 -- a front of b ends there, that of its restart or that of one from a checkpoint
 abbrev pub EndsFrontOf : List ℕ → End → Type 0
@@ -84,3 +86,18 @@ IsFindings (Some at) b fine text = (r : Restarted) × (behind : Found) × (reaso
     × IsRestartAt b at r × IsBehind b r.used behind × (fine ≡ false)
     × (text ≡ codes "carried: use rqlog\n" ++ end_line r reason
     ++ behind_finding r.why behind r.total)
+
+-- a frame behind a front may be right in itself: one was found, or the search gave up
+abbrev pub may_have_right : Found → Bool
+may_have_right found = is_some found.gave_up || not (length found.spans.items == 0)
+
+-- the verdict on b, by where its front ends, what stands behind that, and whether each checkpoint is
+-- true; the one with which b begins is taken at its word
+abbrev pub IsDiagnosis : Option ℕ → List ℕ → Diagnosis → Type 0
+IsDiagnosis None b diagnosis = (r : Restarted) × (found : List (ℕ × Bool)) × (behind : Found)
+    × IsRestart b r × IsAudit b (map audited_of found) × IsBehind b r.used behind
+    × (diagnosis ≡ diagnosis_of r.why (r.total - r.used) (may_have_right behind)
+    (list_all (λ x. x.1) found))
+IsDiagnosis (Some at) b diagnosis = (r : Restarted) × (behind : Found)
+    × IsRestartAt b at r × IsBehind b r.used behind
+    × (diagnosis ≡ diagnosis_of r.why (r.total - r.used) (may_have_right behind) true)

@@ -56,10 +56,10 @@ LeavesOut b old new (Untold number) = (version : Version) × (before : List Reco
 LeavesOut b old new _ = ⊤
 
 -- what a salvage has behind the script of the front: nothing if the front is whole, else a text that
--- begins with a sign with which no line of a script begins
+-- begins with a sign with which no line of a script begins, and says where the front ends
 abbrev pub IsChoice : Bool → List ℕ → Type 0
 IsChoice true text = text ≡ []
-IsChoice false text = (words : List ℕ) × (text ≡ codes "# " ++ words)
+IsChoice false text = (words : List ℕ) × (text ≡ codes "# front ends behind " ++ words)
 
 -- the script of the front of b is appended, and behind it such a text
 abbrev pub PutsSalvage : List ℕ → Option (List ℕ) → Option (List ℕ) → Type 0

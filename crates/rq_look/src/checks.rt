@@ -1,16 +1,17 @@
 //! Whether a log is whole, and each of its checkpoints true.
 
-ghost use Rattle.std.specs.Prelude.{◌≡◌, ◌++◌, IfOk, IfErr, OnOk, codes, string_bytes};
+ghost use Rattle.std.specs.Prelude.{◌≡◌, ◌++◌, ◌-◌, IfOk, IfErr, OnOk, codes, string_bytes};
 ghost use Rattle.std.specs.List.{list_all};
 ghost use Rattle.rq_judged.specs.Views.{why_of};
 ghost use Rattle.rq_found.specs.Ends.{end_text};
 ghost use Rattle.rq_found.specs.Refusals.{IsRefusal};
 ghost use Rattle.rq_look.specs.Findings.{IsFindings, findings_text, all_fine, checkpoint_finding};
-ghost use Rattle.rq_look.specs.Findings.{end_finding, behind_finding};
+ghost use Rattle.rq_look.specs.Findings.{end_finding, behind_finding, IsDiagnosis, may_have_right};
+ghost use Rattle.rq_found.specs.Diagnoses as diagnoses;
 
-use crate::behind_fronts::{put_rest, standing_behind};
+use crate::behind_fronts::{may_have_right, put_rest, standing_behind};
 use rq_behind::Found;
-use rq_found::{End, Put, ShownLog, Trouble, end_of, is_whole, put_end};
+use rq_found::{Diagnosis, End, Put, ShownLog, Trouble, diagnosis_of, end_of, is_whole, put_end};
 use rq_restart::audit;
 use std::alloc::{AllocError, Global};
 use std::fmt::Write;
@@ -24,6 +25,8 @@ pub struct Findings {
     /// What is wrong with it, a line each: that its front ends before it does, then what stands
     /// behind it; and each checkpoint of the front that is not true.
     pub text: String,
+    /// What the log is by this.
+    pub diagnosis: Diagnosis,
 }
 
 fn are_true(found: &[(u64, bool)]) -> bool
@@ -75,6 +78,9 @@ fn whole_findings(
     ensures text { IfOk result (λ found. string_bytes found.text
         ≡ findings_text end.now.records end.now.used end.now.total (why_of end.now.why)
         (string_bytes end.now.reason) behind.now checkpoints.now) }
+    ensures diagnosis { IfOk result (λ found. found.diagnosis ≡ diagnoses.diagnosis_of (why_of end.now.why)
+        (end.now.total - end.now.used) (may_have_right behind.now)
+        (list_all (λ x. x.1) checkpoints.now)) }
 {
     let mut text = front_text(alloc, end)?;
     put_rest(&mut text, end, behind)?;
@@ -84,6 +90,7 @@ fn whole_findings(
     Ok(Findings {
         fine: is_fine(end, checkpoints),
         text,
+        diagnosis: diagnosis_of(end, may_have_right(behind), are_true(checkpoints)),
     })
 }
 
@@ -114,6 +121,8 @@ pub fn check<R: Threads + Sync>(
 ) -> Result<Findings, Trouble>
     ensures checked { IfOk result
         (λ found. IsFindings log.now.at log.now.bytes.now found.fine (string_bytes found.text)) }
+    ensures diagnosis { IfOk result
+        (λ found. IsDiagnosis log.now.at log.now.bytes.now found.diagnosis) }
     ensures refused { IfErr result (IsRefusal log.now.at log.now.bytes.now) }
 {
     let end = end_of(rt, alloc, log)?;
@@ -127,7 +136,11 @@ pub fn check<R: Threads + Sync>(
         // Its file alone does not tell whether the checkpoint is true.
         Some(_) => {
             let text = carried_text(alloc, &end, &behind)?;
-            Ok(Findings { fine: false, text })
+            Ok(Findings {
+                fine: false,
+                text,
+                diagnosis: diagnosis_of(&end, may_have_right(&behind), true),
+            })
         }
     }
 }

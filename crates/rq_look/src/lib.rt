@@ -17,10 +17,11 @@ mod shown_records;
 mod stories;
 mod wanted;
 
+pub use behind_fronts::{may_have_right, put_behind, standing_behind};
 pub use checks::{Findings, check};
 pub use dumps::dump;
 pub use log_script::script;
 pub use reports::report;
-pub use salvages::salvage;
+pub use salvages::{REMARK, salvage};
 pub use stories::story;
 pub use wanted::Wanted;

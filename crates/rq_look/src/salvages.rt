@@ -24,6 +24,9 @@ use std::fmt::Write;
 use std::io;
 use std::thread::Threads;
 
+/// With this the first line begins that a salvage has behind the script of the front.
+pub const REMARK: &str = "# front ends behind ";
+
 // What a salvaged script says of itself behind the line of where the front ends.
 const WORDS: &str = "\
 # The proofs end here: what stands above is the front of the log. Of what follows is known only that each

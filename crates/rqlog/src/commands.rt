@@ -7,9 +7,9 @@ use crate::inputs::{begun_log, log_from, opened, rest_of_log, script_in};
 use crate::lines::append_script;
 use crate::messages::{audit_text, tell_appended, tell_carried, tell_marked, warn_of_end};
 use crate::new_log::{expect_free, put_new};
-use crate::refusal::{Refusal, Stream};
+use crate::refusal::{Refusal, Stream, failed};
 use clap::ArgMatches;
-use rq_file::{Patient, name_one_file};
+use rq_file::{Patient, Replaces, expect_replaceable, name_one_file, put_over};
 use rq_journal::{CARRIED_AT, Fault, Plan, audit_carried, carried, carried_again, is_carried};
 use rq_restart::closed;
 use rq_tool::{Open, OverRead, OverWrite, Work, through};
@@ -171,16 +171,28 @@ where
     put_whole(rt, path, Stream::Out, &made)
 }
 
-fn close<R>(rt: &R, path: &str, plan: &Plan, out: &str) -> Result<(), Refusal>
+// What of the files that are there gives way to a closed log.
+fn replaced_by(words: &ArgMatches<'_>) -> Replaces<'static> {
+    if words.get_flag("force") {
+        Replaces::Anything
+    } else {
+        Replaces::Nothing
+    }
+}
+
+fn close<R>(rt: &R, path: &str, plan: &Plan, words: &ArgMatches<'_>) -> Result<(), Refusal>
 where
     R: Files<File = File> + AllocGlobal + Threads + Sync,
 {
+    let out = words.get_str("OUT").unwrap_or("-");
     if name_one_file(rt, path, out) {
         return close_in_place(rt, out, plan);
     }
+    let rule = replaced_by(words);
+    expect_replaceable(rt, out, &rule).map_err(|error| failed(Stream::Out, error))?;
     let bytes = log_from(rt, opened(rt, path, Stream::Log)?)?;
     let made = closed_of(rt, bytes, plan)?;
-    put_whole(rt, out, Stream::Out, &made)
+    put_over(rt, out, &made, &rule).map_err(|error| failed(Stream::Out, error))
 }
 
 // Tells which checkpoints of a log are true that was carried on.
@@ -221,7 +233,7 @@ where
         "checkpoint" => checkpoint(rt, path, &plan, words),
         "carry" => carry(rt, path, &plan, words),
         "restart" => restart(rt, path, &plan),
-        "close" => close(rt, path, &plan, words.get_str("OUT").unwrap_or("-")),
+        "close" => close(rt, path, &plan, words),
         _ => audit(rt, path, &plan),
     }
 }

@@ -22,7 +22,7 @@ const PIECE: usize = 1_048_576;
 // The bytes that were read, if they are not too many.
 fn within(read: io::Result<Vec<u8>>, stream: Stream) -> Result<Vec<u8>, Refusal> {
     match read {
-        Ok(bytes) if bytes.len() as u64 >= LIMIT => Err(Refusal::Refused(Fault::TooLong)),
+        Ok(bytes) if bytes.len() as u64 >= LIMIT => Err(Refusal::Refused(stream, Fault::TooLong)),
         Ok(bytes) => Ok(bytes),
         Err(error) => Err(failed(stream, error)),
     }
@@ -74,7 +74,7 @@ fn read_piece(file: &mut File, piece: &mut [u8]) -> Result<usize, Refusal>
             Err(error) => return Err(Refusal::Failed(Stream::Log, error)),
         }
     }
-    Err(Refusal::Refused(Fault::ReadFailed))
+    Err(Refusal::Refused(Stream::Log, Fault::ReadFailed))
 }
 
 // Room for what is read at a time. (A function of its own, since the check of one that knows its

@@ -87,6 +87,7 @@ static COMMANDS: [Subcommand; 6] = [
                 Value(TEXT),
                 "The file of the closed log, which may be LOG",
             ),
+            Word("force", Flag, "Replaces OUT if it is there"),
             COUNT,
         ],
     },

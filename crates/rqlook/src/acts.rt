@@ -1,13 +1,14 @@
 //! What the program does for each of its commands.
 
 use crate::failures::{Failure, FileTrouble, of_file};
-use crate::log_files::read_log_file;
+use crate::log_files::{read_log_file, typed_name};
 use crate::made_files::make_file;
 use crate::narrow_lines::Narrow;
 use crate::progress::{Watch, Watched};
 use crate::words::{columns_asked, records_asked, subject_asked};
 use clap::ArgMatches;
-use rq_found::{Plan, ShownLog, Trouble, begins_at};
+use rq_found::{Diagnosis, Plan, Seen, ShownLog, Trouble, begins_at, put_diagnosis};
+use std::alloc::{AllocError, Global};
 use std::io::{self, ErrorKind, Write};
 use std::os::fd::AsFd;
 use std::rt::{Clock, Files};
@@ -41,6 +42,16 @@ fn print_found<W: Write>(text: &str, output: &mut W) -> Result<(), Trouble> {
     }
 }
 
+// The last line of a check: its verdict, and what to type next.
+fn verdict_line(alloc: Global, file: &str, diagnosis: Diagnosis) -> Result<String, AllocError> {
+    let seen = Seen(typed_name(file));
+    let name = format!(in alloc; "{seen}")?;
+    let mut line = String::new(alloc);
+    put_diagnosis(&mut line, diagnosis, name.as_str())?;
+    line.push_str("\n")?;
+    Ok(line)
+}
+
 // Prints what a check finds, unless it is to say nothing. Answers whether it finds nothing.
 fn check<R: AllocGlobal + Threads + Sync, W: Write>(
     rt: &R,
@@ -49,7 +60,9 @@ fn check<R: AllocGlobal + Threads + Sync, W: Write>(
 ) -> Result<bool, Trouble> {
     let found = rq_look::check(rt, rt.alloc(), &asked.log)?;
     if !asked.words.get_flag("quiet") {
+        let verdict = verdict_line(rt.alloc(), asked.file, found.diagnosis)?;
         print_found(found.text.as_str(), output)?;
+        print_found(verdict.as_str(), output)?;
     }
     Ok(found.fine)
 }

@@ -36,6 +36,12 @@ const WIDTH: Word = Word(
     "Cuts lines to so many columns, 0 for none; those of the terminal if the output is one",
 );
 
+const FORCE: Word = Word(
+    "force",
+    Flag,
+    "Replaces OUT though it is no earlier file of the kind; a log is never replaced",
+);
+
 /// The commands of the program, as its help shows them. (A function of its own, since the check of
 /// one grows with the statics that it names.)
 pub(crate) fn subcommands() -> &'static [Subcommand] {
@@ -116,6 +122,7 @@ static COMMANDS: [Subcommand; 9] = [
                 Value(TEXT),
                 "The file of the script, or - for standard output",
             ),
+            FORCE,
             WORKERS,
         ],
     },
@@ -183,6 +190,7 @@ static COMMANDS: [Subcommand; 9] = [
                 Several("UNIT", NUMBER),
                 "Shows what this unit did also if the log is long; may be given several times",
             ),
+            FORCE,
             WORKERS,
         ],
     },

@@ -2,12 +2,13 @@
 
 use crate::acts::Request;
 use crate::failures::{Failure, FileTrouble, of_file};
-use crate::log_files::{is_over_log, shown_name};
+use crate::log_files::{is_over_log, shown_name, typed_name};
 use crate::words::{numbers_asked, order_asked};
-use rq_file::VERSION;
+use rq_file::{Replaces, VERSION, expect_replaceable, put_over};
 use rq_found::{Fault, Trouble};
-use rq_page::Asked;
-use std::io::ErrorKind;
+use rq_look::REMARK;
+use rq_page::{Asked, BEGINNING};
+use std::io::{self, ErrorKind};
 use std::os::fd::AsFd;
 use std::rt::Files;
 use std::thread::Threads;
@@ -22,6 +23,7 @@ fn put_page<R: AllocGlobal + Threads + Sync>(
     let units = numbers_asked(rt.alloc(), asked.words, "unit")?;
     let page = Asked {
         name: shown_name(asked.file),
+        typed: typed_name(asked.file),
         version: VERSION,
         order: order_asked(asked.words),
         elements: elements.as_slice(),
@@ -47,8 +49,38 @@ fn put_made<R: AllocGlobal + Threads + Sync>(
     }
 }
 
+// What of the files that are there gives way to what is asked for.
+fn replaced_by(asked: &Request<'_, '_>) -> Replaces<'static> {
+    if asked.words.get_flag("force") {
+        return Replaces::NoLog;
+    }
+    match asked.name {
+        "page" => Replaces::Beginning(BEGINNING.as_bytes()),
+        _ => Replaces::Remark(REMARK.as_bytes()),
+    }
+}
+
+// Why a file was not made.
+fn not_made<R: AllocGlobal>(rt: &R, to: &str, error: io::Error) -> Failure {
+    if error.kind() == ErrorKind::OutOfMemory {
+        return Failure::Memory;
+    }
+    of_file(rt, to, FileTrouble::Stream(error))
+}
+
+// Refuses what stands where the file is to be made, unless that gives way.
+fn expect_free<R>(rt: &R, to: &str, rule: &Replaces<'_>) -> Result<(), Failure>
+where
+    R: Files + AllocGlobal,
+{
+    if to == "-" {
+        return Ok(());
+    }
+    expect_replaceable(rt, to, rule).map_err(|error| not_made(rt, to, error))
+}
+
 // Writes what was made to the file of this name, or to standard output for `-`.
-fn write_made<R>(rt: &R, to: &str, made: &[u8]) -> Result<bool, Failure>
+fn write_made<R>(rt: &R, to: &str, made: &[u8], rule: &Replaces<'_>) -> Result<bool, Failure>
 where
     R: Files + Print + AllocGlobal,
     R::File: AsFd,
@@ -57,14 +89,14 @@ where
         rt.write_all(made)?;
         return Ok(true);
     }
-    match rq_file::put_file(rt, to, made) {
+    match put_over(rt, to, made, rule) {
         Ok(()) => Ok(true),
-        Err(error) if error.kind() == ErrorKind::OutOfMemory => Err(Failure::Memory),
-        Err(error) => Err(of_file(rt, to, FileTrouble::Stream(error))),
+        Err(error) => Err(not_made(rt, to, error)),
     }
 }
 
-/// Makes the page of a log, or its salvage. The file is whole or as it was, and never the log.
+/// Makes the page of a log, or its salvage. The file is whole or as it was, and never a log. It takes
+/// the place of an earlier one, of another file only if that is asked for.
 pub(crate) fn make_file<R>(rt: &R, asked: &Request<'_, '_>, to: &str) -> Result<bool, Failure>
 where
     R: Files + Print + AllocGlobal + Threads + Sync,
@@ -73,9 +105,11 @@ where
     if is_over_log(rt, asked.file, to) {
         return Err(Failure::Same);
     }
+    let rule = replaced_by(asked);
+    expect_free(rt, to, &rule)?;
     let mut made = Vec::new(rt.alloc());
     match put_made(rt, asked, &mut made) {
-        Ok(()) => write_made(rt, to, &made),
+        Ok(()) => write_made(rt, to, &made, &rule),
         Err(trouble) => Err(of_file(rt, asked.file, FileTrouble::Refused(trouble))),
     }
 }
