@@ -5,14 +5,14 @@ usage: harmless.py RQ RQLOOK RQLOG
 The last line is `N passed, M failed`.
 """
 from __future__ import annotations
-import os, shutil, subprocess, sys, tempfile
+import os, shutil, subprocess, sys
 from itertools import combinations
 from typing import NamedTuple
 
-import counting
 from counting import check
+from trying import RQ, content, put, run_all
 
-RQ, RQLOOK, RQLOG = (os.path.abspath(it) for it in sys.argv[1:4])
+RQLOOK, RQLOG = map(os.path.abspath, sys.argv[2:4])
 START = b"define jobs 0 -\nregister 0 ann\nbegin 1\nenqueue 1 0 5 - 0 61\ncommit 1\n"
 MORE = b"begin 2\nenqueue 2 0 8 - 0 62\ncommit 2\n"
 # All sets of standard descriptors.
@@ -51,20 +51,6 @@ LINES = [
 def name_of(program: str) -> str:
     """What the program calls itself: its file may be named by its processor too."""
     return os.path.basename(program).partition("-")[0]
-
-
-def put(path: str, content: bytes) -> bytes:
-    with open(path, "wb") as file:
-        file.write(content)
-    return content
-
-
-def content(path: str) -> bytes | None:
-    try:
-        with open(path, "rb") as file:
-            return file.read()
-    except FileNotFoundError:
-        return None
 
 
 def done(program: str, *words: str, given: bytes = b"", closed: set[int] = frozenset()) -> tuple[int, bytes, bytes]:
@@ -177,7 +163,7 @@ def replaced() -> None:
             made = done(program, *words.replace("OUT", "new").split())
             check(f"{kind} into a new file", (made, content("new") is not None), ((0, b"", b""), True))
             for is_forced, out in ((False, "out"), (True, "out"), (False, "link"), (True, "link")):
-                before = put("out", there(what))
+                before = content(put("out", there(what)))
                 if not os.path.lexists("link"):
                     os.symlink("out", "link")
                 ended = done(program, *asked(words, out, is_forced))
@@ -216,21 +202,5 @@ def onto_itself() -> None:
 PARTS = [closed_ones, done_all_the_same, replaced, many_logs, onto_itself]
 
 
-def main() -> None:
-    folder = tempfile.mkdtemp()
-    os.chdir(folder)
-    try:
-        for part in PARTS:
-            try:
-                part()
-            except Exception as fault:
-                check(part.__name__, repr(fault), "")
-    finally:
-        os.chdir("/")
-        shutil.rmtree(folder)
-    print(counting.told())
-    sys.exit(counting.failed != 0)
-
-
 if __name__ == "__main__":
-    main()
+    run_all(PARTS)

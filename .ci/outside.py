@@ -5,13 +5,13 @@ usage: outside.py RQ
 Prints a line for each thing that is not as it must be, and at last `N passed, M failed`.
 """
 from __future__ import annotations
-import itertools, os, resource, shutil, signal, stat, subprocess, sys, tempfile, threading
+import itertools, os, resource, shutil, signal, stat, subprocess, threading
 from collections.abc import Callable, Iterable, Iterator
 
-import counting, folders, large, refusing
+import folders, large, refusing
 from tables import scripts
 from trying import (DONE, EXAMPLES, READ_FAULT, RESOURCES, RQ, USAGE, WRITE_FAULT, Ended, Words, built, check, check_each,
-                    content, lines_of, log_of, making, put, refused, run, run_into, run_told, run_within)
+                    content, lines_of, log_of, making, put, refused, run, run_all, run_into, run_told, run_within)
 
 ONE_ELEMENT, CHECKPOINT = scripts.ONE_ELEMENT.encode(), scripts.CHECKPOINT.encode()
 ONE_ELEMENT_REPORT = b"""front 4 records, 237 of 237 bytes, whole
@@ -554,21 +554,5 @@ PARTS = [commands, usage, no_logs, no_checkpoints, no_scripts, no_files, permiss
 PARTS += [files, plans, words, addresses, threads, too_large, *folders.PARTS, *refusing.PARTS, *large.PARTS]
 
 
-def main() -> None:
-    folder = tempfile.mkdtemp()
-    os.chdir(folder)
-    try:
-        for part in PARTS:
-            try:
-                part()
-            except Exception as fault:
-                check(part.__name__, repr(fault), "")
-    finally:
-        os.chdir("/")
-        shutil.rmtree(folder)
-    print(counting.told())
-    sys.exit(counting.failed != 0)
-
-
 if __name__ == "__main__":
-    main()
+    run_all(PARTS)

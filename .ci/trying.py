@@ -1,8 +1,9 @@
 """What the tests from outside share: how the program is run, what it answers, and how both are compared."""
 from __future__ import annotations
-import os, shutil, subprocess, sys
+import os, shutil, subprocess, sys, tempfile
 from collections.abc import Callable, Iterable
 
+import counting
 from counting import check
 
 RQ = os.path.abspath(sys.argv[1])
@@ -81,6 +82,23 @@ def log_of(script: bytes, name: str, word: str = "make") -> str:
 def making(path: str, *words: object, **options: object) -> tuple[Ended, bytes | None]:
     """How a command that makes a file ends, and what stands in the file then."""
     return run(*words, **options), content(path)
+
+
+def run_all(parts: Iterable[Callable[[], None]]) -> None:
+    """Runs the parts of a test in a folder of their own, and ends with what they counted. A part that breaks off has failed."""
+    folder = tempfile.mkdtemp()
+    os.chdir(folder)
+    try:
+        for part in parts:
+            try:
+                part()
+            except Exception as fault:
+                check(part.__name__, repr(fault), "")
+    finally:
+        os.chdir("/")
+        shutil.rmtree(folder)
+    print(counting.told())
+    sys.exit(counting.failed != 0)
 
 
 def built(name: str, *libraries: str) -> str | None:
