@@ -26,6 +26,8 @@ LINE, PROOF_LINE, COMPILED_LINE = 0.12, 0.005, 0.012
 WAITED_FOR = 0.65
 # So many seconds of the estimate count as seen, so that the first crates do not move it far.
 EXPECTED = 120.0
+# Bytes of memory that the build of a program takes.
+MEMORY = 3_500_000_000
 
 
 def lines_by_crate() -> dict[str, str]:
@@ -60,6 +62,13 @@ def copy(place: str, lines: dict[str, str], libraries: list[str], programs: list
         shutil.copytree(os.path.join("crates", it), os.path.join(top, "crates", it), ignore=LEFT_OUT)
     for it in programs:
         shutil.copytree(os.path.join("crates", it), os.path.join(place, "programs", it), ignore=LEFT_OUT)
+
+
+def side_by_side(builds: int) -> int:
+    """How many programs are built side by side: one on each processor, if their memory is free."""
+    with open("/proc/meminfo", encoding="ascii") as told:
+        free = next(int(line.split()[1]) << 10 for line in told if line.startswith("MemAvailable:"))
+    return max(1, min(builds, len(os.sched_getaffinity(0)), free // MEMORY))
 
 
 def count(name: str, ending: str) -> int:
@@ -212,8 +221,8 @@ class Builds:
     def library(self, name: str) -> str:
         return os.path.join(self.place, "libraries", "crates", name, "out", "rlib", name + ".rlib")
 
-    def words(self, build: str) -> list[str]:
-        """What makes the object file of a program."""
+    def words(self, build: str, jobs: int) -> list[str]:
+        """What makes the object file of a program, by so many jobs."""
         program, kit = self.builds[build], self.kit
         words = [f"{kit}/bin/rattle", "build", "--crate-name", program, "src/main.rt"]
         for it in ["std", *named(self.lines, program)]:
@@ -221,14 +230,16 @@ class Builds:
         for at in [f"{kit}/rlibs", *(os.path.dirname(self.library(it)) for it in below(self.lines, program))]:
             words += ["-L", f"dependency={at}"]
         words += ["--antt-project", f"{kit}/rattle/logic/antt-project.json", "--logic-built", f"{kit}/logic_built"]
-        jobs = max(1, len(os.sched_getaffinity(0)) // len(self.builds))
         words += ["--links", f"{program}=", "--toolchain", f"{kit}/toolchain", "--backend", "llvm", "--jobs", str(jobs)]
         return [*words, f"--cpu={build[len(program) + 1:]}", "-o", os.path.join(self.place, build + ".o")]
 
     def compile(self) -> bool:
         """Whether the programs, over the libraries, are proved and made object files of."""
         inside = {it: os.path.join(self.place, "programs", program) for it, program in self.builds.items()}
-        return self.follow({it: self.start(self.words(it), inside[it]) for it in self.builds})
+        builds, width = list(self.builds), side_by_side(len(self.builds))
+        jobs = len(os.sched_getaffinity(0)) // width
+        batches = (builds[at:at + width] for at in range(0, len(builds), width))
+        return all(self.follow({it: self.start(self.words(it, jobs), inside[it]) for it in batch}) for batch in batches)
 
     def link(self, build: str) -> bool:
         """Links a program, and puts it into the folder whole."""
