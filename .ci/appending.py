@@ -11,10 +11,10 @@ from collections.abc import Callable
 
 import carrying, counting, ordering, unharmed
 from tables.asking import MAKE
-from tables.carried import CARRIED_AT, GAP
+from tables.carried import CARRIED_AT, carried_header
 from tables.lawful import TABLES, cases
-from trying import DONE, check, content, put, run
-from writing import MORE, START, START_BODIES, appended, plain, rqlog, says
+from trying import DONE, Ended, check, content, put, run
+from writing import MORE, START, START_BODIES, appended, plain, read_as_log, rqlog, says
 
 from common import HEADER, chained, header_of, pieces_of
 from records import begin, checkpoint, commit, kill, spelled
@@ -39,7 +39,21 @@ UNLAWFUL = {
     b"enqueue 7 0 5 - 0 61": b"unit 7 is not open",
     b"dequeue 7 3 - 0": b"queue 3 is not defined",
 }
-NO_LINES = [b"begin 01\n", b"\n", b"begin 2", b"begin\n", b"enqueue 1 0 256 - 0 61\n", b"kill 0\n", b"\xff\xfe\n"]
+KIND = "field 1, what the record is: define, register, deregister, begin, enqueue, dequeue, commit, abort or kill"
+NUMBER = "a number up to 18446744073709551615"
+NAME = "a name of 1 to 64 of a to z, 0 to 9, - . and _"
+HEX = "at most 65535 bytes, each as two of 0 to 9 and a to f, or -,"
+LF = b"\n"
+# Each with what is expected in its place.
+NO_LINES = {
+    b"begin 01\n": f"field 2, UNIT: {NUMBER}", b"\n": KIND, b"begin 2": "a line feed", b"begin\n": f"field 2, UNIT: {NUMBER}", b"\xff\xfe\n": KIND,
+    b"enqueue 1 0 256 - 0 61\n": "field 4, PRIORITY: a number up to 255", b"kill 0\n": f"field 3, ELEMENT: {NUMBER}",
+    b"begin 1 2\n": "field 3, behind the last: the end of the line", b"begin  1\n": f"field 2, UNIT: {NUMBER}",
+    b"enqueue 1 0 5 - 7 61\n": "field 6, TAG of nobody: 0", b"register 4294967296 ann\n": "field 2, QUEUE: a number up to 4294967295",
+    b"register 0 Ann\n": f"field 3, NAME: {NAME}", b"define jobs 65536 -\n": "field 3, LIMIT: a number up to 65535",
+    b"define jobs 0 4294967295\n": "field 4, ERROR: a number up to 4294967294, or -,", b"enqueue 1 0 5 - 0 6A\n": f"field 7, HEX: {HEX}",
+    b"enqueue 1 0 5 - 0 " + b"61" * 65536 + b"\n": f"field 7, HEX: {HEX}", b"# begin 2\n": KIND,
+}
 # Words that are no line of the program.
 NO_WORDS = ["", "append", "carry a.log", "close a.log", "appends a.log", "restart", "restart a.log one", "audit a.log 1 1",
             "checkpoint", "append a.log --sometimes", "restart a.log 4294967296"]
@@ -47,14 +61,10 @@ NO_PLANS = ["restart a.log 0", "restart a.log 65", "restart a.log 1 0", "restart
             "checkpoint a.log --workers 65", "audit a.log 0", "close a.log out 65"]
 
 
-def carried_header(version: int, link: bytes) -> bytes:
-    return header_of(version) + GAP + link
-
-
 def carried_bytes(version: int, link: bytes, bodies: list[bytes]) -> bytes:
     """A carried file of these bodies, each chained to what stands before it."""
     frames = b"".join(pieces_of(header_of(version)[:8] + link, bodies))[HEADER:]
-    return carried_header(version, link) + frames
+    return carried_header(version) + link + frames
 
 
 def queues_of(report: bytes) -> bytes:
@@ -123,8 +133,8 @@ def refuses() -> None:
         want = says(told + b"1 records before it were appended", printed=appended(1, begun)[1])
         check(f"append --each {line!r}", (rqlog("append", log, "--each", script=script), len(content(log))), (want, begun))
         put(log, before)
-    for line in NO_LINES:
-        want = says("script line 2: no line of a script; nothing was appended")
+    for line, why in NO_LINES.items():
+        want = says(f"script line 2: {why} is expected{'' if line.endswith(LF) else ' at its end'}; nothing was appended")
         check(f"append {line!r}", (rqlog("append", log, script=b"begin 5\n" + line), content(log)), (want, before))
     want = says("script line 1: checkpoint: use rqlog checkpoint; nothing was appended")
     check("append checkpoint", (rqlog("append", log, script=b"checkpoint\n"), content(log)), (want, before))
@@ -173,8 +183,13 @@ def kills() -> None:
     check("append a kill in version 1", (rqlog("append", one, script=b"kill 0 3\n"), content(one)), (want, before))
     put("killed.log", chained(header_of(1), [*START_BODIES, kill(0, 3)]))
     before = content("killed.log")
-    check("append behind a kill", (rqlog("append", "killed.log", script=MORE), content("killed.log")),
-          (says("LOG: its front ends by form: rqlook check tells where"), before))
+    ended = rqlog("append", "killed.log", script=MORE)
+    check("append behind a kill", (is_damage(ended, "killed.log", "form"), content("killed.log")), (True, before))
+
+
+def is_damage(ended: Ended, log: str, why: str) -> bool:
+    """Whether nothing was written, since the front ends so. What else is said of it, recovering.py asks."""
+    return ended[:2] == (1, b"") and ended[2].startswith(f"rqlog: {log}: its front ends by {why} at ".encode())
 
 
 def damaged() -> None:
@@ -186,14 +201,13 @@ def damaged() -> None:
              [*START_BODIES, bytes(9)]), "law": chained(header_of(1), bodies)}
     for why, bytes_ in kinds.items():
         put(log, bytes_)
-        want = says(f"LOG: its front ends by {why}: rqlook check tells where")
         for line in ("append damaged.log", "append damaged.log --each", "checkpoint damaged.log", "carry damaged.log new.log"):
-            check(f"{line}, {why}", (rqlog(*line.split(), script=MORE), content(log)), (want, bytes_))
+            check(f"{line}, {why}", (is_damage(rqlog(*line.split(), script=MORE), log, why), content(log)), (True, bytes_))
         check(f"no new file, {why}", os.path.exists("new.log"), False)
     for what, bytes_ in {"empty": b"", "script": START, "header": good[:39]}.items():
         put(log, bytes_)
         for line in ("append damaged.log", "checkpoint damaged.log", "carry damaged.log new.log", "close damaged.log out"):
-            check(f"{line}, {what}", (rqlog(*line.split(), script=MORE), content(log)), (says("not a log: rq make makes one"), bytes_))
+            check(f"{line}, {what}", (rqlog(*line.split(), script=MORE), content(log)), (says(f"{log}: not a log: rq make makes one"), bytes_))
 
 
 def cut_anywhere() -> None:
@@ -212,7 +226,7 @@ def cut_behind_a_carry() -> None:
     start = content("new.carried")
     check("carry a cut log", content("cut.carried"), start)
     check("append to be cut, carried", rqlog("append", "new.carried", script=MORE)[0], 0)
-    for name, by in {"rqlog": lambda: rqlog("restart", "new.carried")[1], "rq": lambda: restarted_at("new.carried", CARRIED_AT)}.items():
+    for name, by in {"rqlog": lambda: rqlog("restart", "new.carried")[1], "rq": lambda: restarted_at(read_as_log("new.carried"), CARRIED_AT)}.items():
         put("new.carried", start)
         rqlog("append", "new.carried", script=MORE)
         check(f"beginnings behind a carry, {name}", wrong_beginnings("new.carried", start, 6, by, every=7), [])
@@ -263,17 +277,15 @@ def carries() -> None:
     ended = rqlog("carry", log, "new.carried")
     want = carried_bytes(1, link, [checkpoint(spelling)])
     check("carry", (ended, content("new.carried")), ((0, b"carried on behind 5 records, %d bytes\n" % len(want), b""), want))
-    check("restart of it by rq", run("restart", "new.carried", 1, 1)[1], b"front 0 records, 40 of %d bytes, length\n"
-          b"units 0 committed, 0 aborted, 0 cut off\n" % len(want))
     check("append to it", rqlog("append", "new.carried", script=MORE.removesuffix(b"commit 2\n"))[0], 0)
     told = rqlog("carry", "new.carried", "third.carried", "--json")
     check("carry twice", json.loads(told[1]), {"next": 9, "offset": CARRIED_AT, "bytes": os.path.getsize("third.carried")})
-    check("link of the third", content("third.carried")[64:96], content("new.carried")[-32:])
+    check("link of the third", content("third.carried")[40:72], content("new.carried")[-32:])
     check("append to the third", rqlog("append", "third.carried", script=b"commit 2\nbegin 3\n")[0], 0)
     one = plain("one", START + b"checkpoint\n" + MORE.replace(b"commit 2", b"checkpoint\ncommit 2") + b"begin 3\n")
-    for name, by in {"restart-at": restarted_at("third.carried", CARRIED_AT), "rqlog": rqlog("restart", "third.carried")[1]}.items():
+    for name, by in {"restart-at": restarted_at(read_as_log("third.carried"), CARRIED_AT), "rqlog": rqlog("restart", "third.carried")[1]}.items():
         check(f"carried, {name}", but_for_bytes(by), but_for_bytes(restarted(one)))
-    check("restarts agree", rqlog("restart", "third.carried", 2, 10)[1], restarted_at("third.carried", CARRIED_AT))
+    check("restarts agree", rqlog("restart", "third.carried", 2, 10)[1], restarted_at(read_as_log("third.carried"), CARRIED_AT))
     check("restart of a plain log", rqlog("restart", one), (0, restarted(one), b""))
     marks_carried(one)
 
@@ -282,8 +294,8 @@ def marks_carried(one: str) -> None:
     """A carried file is marked, audited and closed."""
     before = os.path.getsize("third.carried")
     check("checkpoint of it", rqlog("checkpoint", "third.carried"), (0, b"%d\n" % before, b""))
-    check("audit of it", rqlog("audit", "third.carried"), (0, b"checkpoint 96 carried\ncheckpoint %d true\n" % before, b""))
-    check("restart-at there", restarted_at("third.carried", before), restarted_at("third.carried", CARRIED_AT))
+    check("audit of it", rqlog("audit", "third.carried"), (0, b"checkpoint 72 carried\ncheckpoint %d true\n" % before, b""))
+    check("restart-at there", restarted_at(read_as_log("third.carried"), before), restarted_at(read_as_log("third.carried"), CARRIED_AT))
     check("close of it", rqlog("close", "third.carried", "closed.carried", 1), DONE)
     run("close", one, "one.closed", 1)
     check("its report", queues_of(rqlog("restart", "closed.carried")[1]), queues_of(restarted("one.closed")))
@@ -295,11 +307,11 @@ def marks_carried(one: str) -> None:
 
 
 def without_a_beginning() -> None:
-    """A file that begins as a carried log and has no checkpoint at 96, or one that spells no state: all lines refuse it."""
+    """A file that begins as a carried log and has no checkpoint at 72, or one that spells no state: all lines refuse it."""
     rqlog("carry", plain("old"), "new.carried")
     good, link = content("new.carried"), content("old.log")[-32:]
-    none, bad = says("no checkpoint: rqlook check tells what the file is"), says("bad checkpoint: rqlook check tells what the file is")
-    kinds = {end: (good[:end], none) for end in (64, 80, 96, 99, len(good) - 1)}
+    none, bad = (says(f"wrong.carried: {it} checkpoint: rqlook check tells what the file is") for it in ("no", "bad"))
+    kinds = {end: (good[:end], none) for end in (40, 60, 72, 75, len(good) - 1)}
     kinds |= {"turned": (good[:120] + bytes([good[120] ^ 1]) + good[121:], none),
               "no state": (carried_bytes(1, link, [checkpoint(b"")]), bad),
               "another record": (carried_bytes(1, link, [begin(2), *[checkpoint(b"")] * 2]), none)}
@@ -315,7 +327,7 @@ def by_pipes() -> None:
     log = plain("piped", START + b"checkpoint\n")
     rqlog("carry", log, "piped.carried")
     for name in (log, "piped.carried"):
-        for line in ("restart {}", "audit {}", "close {} closed.log"):
+        for line in ("restart {}", "audit {}", "close --force {} closed.log"):
             ended = [(rqlog(*line.format(it).split(), script=content(name)), content("closed.log")) for it in (name, "/dev/stdin")]
             check(f"{line.format(name)}, by a pipe", ended[1], ended[0])
 

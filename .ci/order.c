@@ -2,13 +2,15 @@
 // of what it concerns on its file system. r reads a file, w writes to it, t cuts it, s syncs it, d syncs a folder, l and n give a file
 // a name in a folder by a link or by a rename, x looks at a file or a name, c is any other; o is what is written to standard output,
 // e to standard error. Before the call with the number in ORDER_AT, counted from 1, somebody else does to the file ORDER_LOG what
-// ORDER_DOES says: `grows` writes the bytes of the file ORDER_MORE behind it, `replaces` gives its name to that file. The write
+// ORDER_DOES says: `grows` writes the bytes of the file ORDER_MORE behind it, `replaces` gives its name to that file. If it says
+// `dies`, the program itself is killed there. The write
 // with the number in ORDER_FAILS, of those to files, writes half of what it is to write, and every later one finds no room.
 // `ordering.py` loads this before the C library.
 #define _GNU_SOURCE
 #include <dlfcn.h>
 #include <errno.h>
 #include <fcntl.h>
+#include <signal.h>
 #include <stdarg.h>
 #include <stdatomic.h>
 #include <stdio.h>
@@ -46,7 +48,8 @@ static void grow(const char *log, const char *more) {
 static void act_of_another(void) {
   const char *does = getenv("ORDER_DOES");
   if (atomic_fetch_add(&calls, 1) + 1 != number_in("ORDER_AT") || !does) return;
-  if (strcmp(does, "grows") == 0) grow(getenv("ORDER_LOG"), getenv("ORDER_MORE"));
+  if (strcmp(does, "dies") == 0) raise(SIGKILL);
+  else if (strcmp(does, "grows") == 0) grow(getenv("ORDER_LOG"), getenv("ORDER_MORE"));
   else if (syscall(SYS_rename, getenv("ORDER_MORE"), getenv("ORDER_LOG")) != 0) abort();
 }
 

@@ -13,7 +13,7 @@ CUT = (1000).to_bytes(4, "big") + b"\x05" * 296
 # The lines that change a file, with their log in place of LOG.
 APPENDING = ["append LOG more.script", "append LOG more.script --json", "append LOG half.script --each", "checkpoint LOG",
              "checkpoint LOG --close"]
-MAKING = ["carry LOG made", "carry LOG made --json", "close LOG made", "close LOG LOG"]
+MAKING = ["carry LOG made", "carry LOG made --json", "close LOG made", "close LOG LOG", "recover LOG"]
 
 
 class Call(NamedTuple):
@@ -55,8 +55,9 @@ def noted(shim: str, line: str, log: str, **given: str) -> tuple[Ended, list[Cal
 
 def anew(log: str, before: bytes) -> None:
     put(log, before)
-    if os.path.exists("made"):
-        os.remove("made")
+    for name in os.listdir("."):
+        if name == "made" or name.startswith(f"{log}.cut-"):
+            os.remove(name)
 
 
 def order() -> None:
@@ -137,7 +138,7 @@ def another_writer() -> None:
     put("half.script", b"register 0 bob\ncommit 9\n")
     before = content(plain("other", OPENED))
     grown = content(plain("grown", OPENED + b"commit 2\n"))
-    for line in (*APPENDING, "close LOG LOG"):
+    for line in (*APPENDING, "close LOG LOG", "recover LOG"):
         check(f"{line}, and the log grows", others(shim, line, "grows", before, grown[len(before):]), [])
         check(f"{line}, and another log comes", others(shim, line, "replaces", before, grown), [])
 
@@ -149,7 +150,7 @@ def read_by_another() -> None:
     put("more.script", b"register 0 bob\n")
     with open(log, "rb") as other:
         fcntl.flock(other, fcntl.LOCK_SH)
-        for line in ("append LOG more.script", "checkpoint LOG", "close LOG LOG"):
+        for line in ("append LOG more.script", "checkpoint LOG", "close LOG LOG", "recover LOG"):
             ended = rqlog(*line.replace("LOG", log).split())
             said = ended[0], ended[1], b"another program" in ended[2]
             check(f"{line}, read by another", (said, content(log)), ((3, b"", True), before))

@@ -14,7 +14,7 @@ from concurrent.futures import ThreadPoolExecutor
 # A run leaves nothing in the clone.
 sys.dont_write_bytecode = True
 
-from tables import checkpoints, closing, damages, digests, lawful, lengths, lines, looking, many, reports, shown, upgrading  # noqa: E402
+from tables import checkpoints, closing, damages, digests, lawful, lengths, lines, looking, many, paging, reports, shown, upgrading  # noqa: E402
 from tables.asking import Program, Question  # noqa: E402
 
 Theme = Callable[[Program], Iterator[Question]]
@@ -25,7 +25,8 @@ THEMES: dict[str, Theme] = {
     "lines": lines.questions, "many": many.questions, "lengths": lengths.questions,
 }
 # What `rqlook` shows of logs that `rq` makes.
-OF_LOOK: dict[str, Callable[[Program], Theme]] = {"looking": looking.questions_of, "shown": shown.questions_of}
+OF_LOOK: dict[str, Callable[[Program], Theme]] = {"looking": looking.questions_of, "shown": shown.questions_of,
+                                                "paging": paging.questions_of}
 # So many questions are asked side by side.
 AT_A_TIME = 2 * (os.cpu_count() or 1)
 

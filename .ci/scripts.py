@@ -228,7 +228,10 @@ def files_below(folder: str) -> List[str]:
 
 def installing(clone: Clone) -> None:
     prefix = os.path.join(os.path.dirname(clone.folder), "it's here")
-    check("no folder", clone.run("tools/install", prefix)[0], 1)
+    check("nothing to take away, and no folder", (clone.run("tools/install", "--uninstall", prefix)[0], os.path.exists(prefix)), (1, False))
+    new = os.path.join(os.path.dirname(prefix), "not", "there")
+    check("folders that are not there", (clone.run("tools/install", new)[0], files_below(new)), (0, INSTALLED))
+    no_names(clone, prefix)
     check("no words", (clone.run("tools/install")[0], clone.run("tools/install", "--uninstall")[0]), (2, 2))
     os.mkdir(prefix)
     check("nothing to take away", clone.run("tools/install", "--uninstall", prefix)[0], 1)
@@ -244,6 +247,18 @@ def installing(clone: Clone) -> None:
     check("beside a file of another", (clone.run("tools/install", prefix)[0], files_below(prefix)), (1, ["bin/rq"]))
     other_names(clone, prefix)
     links(clone, prefix)
+
+
+def no_names(clone: Clone, prefix: str) -> None:
+    """Folders whose names no list can hold, or by which no program would run: nothing is left there."""
+    for what, name in (("a line feed", f"{prefix}\nfolder"), ("bytes that are no text", f"{prefix}\udcff")):
+        for made in (False, True):
+            if made:
+                os.mkdir(name)
+            told = clone.run("tools/install", name)[0], os.path.exists(name) and files_below(name)
+            check(f"a folder with {what}, {'there' if made else 'not there'}", told, (1, [] if made else False))
+        told = clone.run("tools/install", "/usr", DESTDIR=name)[0], files_below(name)
+        check(f"below a folder with {what}", told, (1, []))
 
 
 def other_names(clone: Clone, prefix: str) -> None:
@@ -276,12 +291,13 @@ def links(clone: Clone, prefix: str) -> None:
     os.symlink(aim, name)
     status = clone.run("tools/install", prefix)[0]
     check("over a link", (status, content(aim), files_below(prefix)), (1, "as it was", ["aim", "bin/rq"]))
-    below = os.path.join(prefix, "below")
-    os.mkdir(below)
+    below = os.path.join(prefix, "below", "that")
     usr = os.path.join(below, "usr")
     check("below DESTDIR", (clone.run("tools/install", "/usr", DESTDIR=below)[0], files_below(usr)), (0, INSTALLED))
     check("its program", "exec '/usr/libexec/rq/rq'" in content(os.path.join(usr, "bin", "rq")), True)
     check("away from there", (clone.run("tools/install", "--uninstall", "/usr", DESTDIR=below)[0], files_below(below)), (0, []))
+    told = clone.run("tools/install", "usr", DESTDIR=below)
+    check("below DESTDIR, a name that does not begin with /", (told[0], os.path.exists(f"{below}usr")), (1, False))
 
 
 # The steps of a release that are commands: the file of each, which says its words, and fails if it is to.

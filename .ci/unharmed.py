@@ -12,8 +12,6 @@ from common import chained, header_of
 from records import begin, commit, enqueue
 from refused import Outcome, Sweep
 
-IS_THERE = says("NEW: it is there already: name a file that is not", 3)
-IS_HELD = says("LOG: another program writes it: try again", 3)
 LINE_REFUSED = re.compile(rb"\Arqlog: script line [1-4]: resources; nothing was appended\n\Z")
 FRONT = re.compile(rb"front (\d+) records, \d+ of \d+ bytes, (\w+)\n")
 # Lines that write, with their log, and lines that read alone.
@@ -27,6 +25,16 @@ def asked(line: str, log: str, **options: object) -> Ended:
     return rqlog(*line.replace("LOG", log).split(), script=MORE, **options)
 
 
+def is_there(new: str) -> Ended:
+    """The refusal of a new log under a name that something has."""
+    return says(f"{new}: it is there already: name a file that is not", 3)
+
+
+def is_held(log: str) -> Ended:
+    """The refusal of a log that another program writes."""
+    return says(f"{log}: another program writes it: try again", 3)
+
+
 def front_of(log: str) -> tuple[bytes, ...]:
     """How many records `rq restart` finds, and why the front ends."""
     return FRONT.match(run("restart", log, 1, 1)[1]).groups()
@@ -38,13 +46,13 @@ def faults() -> None:
     os.mkfifo("pipe")
     for name, lines in {"none.log": [*WRITING, *READING], "folder": [*WRITING, *READING], "pipe": WRITING, "/dev/null": WRITING}.items():
         for line in lines:
-            check(f"{line}, {name}", faulty(asked(line, name), "LOG"), True)
+            check(f"{line}, {name}", faulty(asked(line, name), name), True)
     log = plain("fault")
-    check("no script", faulty(rqlog("append", log, "none.script"), "SCRIPT"), True)
+    check("no script", faulty(rqlog("append", log, "none.script"), "none.script"), True)
     for name in ("missing/new", "fault.log/new"):
-        check(f"carry into {name}", faulty(rqlog("carry", log, name), "NEW"), True)
-        check(f"close into {name}", faulty(rqlog("close", log, name), "OUT"), True)
-    check("close into a folder", faulty(rqlog("close", log, "folder"), "OUT"), True)
+        check(f"carry into {name}", faulty(rqlog("carry", log, name), name), True)
+        check(f"close into {name}", faulty(rqlog("close", log, name), name), True)
+    check("close into a folder", faulty(rqlog("close", log, "folder"), "folder"), True)
     check("no new file", (os.path.exists("new"), os.path.exists("out"), os.listdir("folder")), (False, False, []))
 
 
@@ -58,7 +66,7 @@ def not_over() -> None:
     os.mkfifo("pipe")
     for new in (log, other, "link", "loose", "folder", "pipe", "/dev/null", "/dev/stdout"):
         ended = rqlog("carry", log, new), content(log), content(other)
-        check(f"carry onto {new}", ended, (IS_THERE, before, kept))
+        check(f"carry onto {new}", ended, (is_there(new), before, kept))
     check("what links lead to", (os.path.islink("link"), os.path.lexists("nowhere"), os.listdir("folder")), (True, False, []))
     check("what stays", sorted(it for it in os.listdir(".") if not it.endswith((".log", ".script"))), ["folder", "link", "loose", "pipe"])
 
@@ -70,8 +78,8 @@ def links() -> None:
     ended = rqlog("append", "link.log", script=MORE)
     check("append by a link", (ended[0], os.path.islink("link.log"), content(log)), (0, True, content(plain("whole", START + MORE))))
     os.symlink("ring.log", "ring.log")
-    check("append by a ring", faulty(rqlog("append", "ring.log", script=MORE), "LOG"), True)
-    told = says("OUT: filesystem loop or indirection limit (e.g. symlink loop)", 3)
+    check("append by a ring", faulty(rqlog("append", "ring.log", script=MORE), "ring.log"), True)
+    told = says("ring.log: filesystem loop or indirection limit (e.g. symlink loop)", 3)
     check("close by a ring", (rqlog("close", log, "ring.log"), os.readlink("ring.log")), (told, "ring.log"))
     check("close by a link", (rqlog("close", log, "link.log"), os.path.islink("link.log")), ((0, b"", b""), True))
     for path in ("/dev/null", "new.log"):
@@ -97,8 +105,8 @@ def read_only() -> None:
         print("nobody may run no program here: permissions are not tried")
         return
     for line in ("append kept.log", "checkpoint kept.log"):
-        check(f"{line}, read-only", (faulty(asked(line, log, executable=program, **nobody), "LOG"), content(log)), (True, before))
-    for line, which in {"carry kept.log shut/new": "NEW", "close kept.log shut/out": "OUT"}.items():
+        check(f"{line}, read-only", (faulty(asked(line, log, executable=program, **nobody), log), content(log)), (True, before))
+    for line, which in {"carry kept.log shut/new": "shut/new", "close kept.log shut/out": "shut/out"}.items():
         check(line, faulty(asked(line, log, executable=program, **nobody), which), True)
     check("what was not made", os.listdir("shut"), [])
 
@@ -110,12 +118,12 @@ def two_writers() -> None:
     with open(log, "rb") as other:
         fcntl.flock(other, fcntl.LOCK_EX)
         for line in WRITING:
-            check(f"{line}, held", (asked(line, log), content(log)), (IS_HELD, before))
+            check(f"{line}, held", (asked(line, log), content(log)), (is_held(log), before))
         for line in READING:
             check(f"{line}, held", asked(line, log)[0], 0)
-        check("close over itself, held", (rqlog("close", log, log), content(log)), (IS_HELD, before))
+        check("close over itself, held", (rqlog("close", log, log), content(log)), (is_held(log), before))
         fcntl.flock(other, fcntl.LOCK_SH)
-        for line, want in zip(WRITING, (IS_HELD[0], IS_HELD[0], 0)):
+        for line, want in zip(WRITING, (3, 3, 0)):
             check(f"{line}, read by another", asked(line, log)[0], want)
     check("append, free again", rqlog("append", log, script=MORE)[0], 0)
     race()
@@ -129,7 +137,7 @@ def race() -> None:
     ends = [it.communicate(b"register 0 r%d\n" % at)[1] for at, it in enumerate(units)]
     done = sum(it.returncode == 0 for it in units)
     others = {(it.returncode, b"", end) for it, end in zip(units, ends) if it.returncode}
-    check("a race", (front_of(log), others <= {IS_HELD}, done > 0), ((b"%d" % (5 + done), b"whole"), True, True))
+    check("a race", (front_of(log), others <= {is_held(log)}, done > 0), ((b"%d" % (5 + done), b"whole"), True, True))
 
 
 def small_files() -> None:
@@ -144,12 +152,12 @@ def on_a_full_disk() -> None:
     before = content(log)
     script = b"begin 2\n" + b"enqueue 2 0 5 - 0 61\n" * 20
     ended = rqlog("append", log, script=script, preexec_fn=small_files)
-    told = faulty(ended, "LOG"), ended[2].endswith(b": nothing was appended\n")
+    told = faulty(ended, log), ended[2].endswith(b": nothing was appended\n")
     check("append on a full disk", (told, content(log)), ((True, True), before))
     big = plain("big", START + b"begin 2\n" + b"enqueue 2 0 5 - 0 61\n" * 40)
     ended = rqlog("carry", big, "big.carried", preexec_fn=small_files)
     left = [it for it in os.listdir(".") if it.startswith("big.carried")]
-    check("carry on a full disk", (faulty(ended, "NEW"), left), (True, []))
+    check("carry on a full disk", (faulty(ended, "big.carried"), left), (True, []))
 
 
 def nobody_listens() -> None:
@@ -270,7 +278,7 @@ def attacks() -> None:
 
     def making() -> bool:
         ended = rqlog("carry", log, "theirs/out")
-        return faulty(ended, "NEW") or ended[0] == 0 and is_made(carried)
+        return faulty(ended, "theirs/out") or ended[0] == 0 and is_made(carried)
 
     attack("carries", ATTACKS, making)
 

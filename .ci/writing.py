@@ -2,6 +2,7 @@
 from __future__ import annotations
 import os, subprocess, sys
 
+from tables.carried import as_log
 from trying import Ended, log_of
 
 BENCH = os.path.join(os.path.dirname(os.path.abspath(__file__)), "..", "bench")
@@ -34,6 +35,15 @@ def appended(count: int, length: int) -> Ended:
 def faulty(ended: Ended, which: str) -> bool:
     """Whether a run ended since this file can't be opened, read or written."""
     return ended[0] == 3 and ended[1] == b"" and ended[2].startswith(f"rqlog: {which}: ".encode())
+
+
+def read_as_log(path: str) -> str:
+    """A file of the log as which a carried file is read: `rq` takes it, from the checkpoint on."""
+    with open(path, "rb") as file:
+        log = as_log(file.read())
+    with open(path + ".log", "wb") as file:
+        file.write(log)
+    return path + ".log"
 
 
 def plain(name: str, script: bytes = START, word: str = "make") -> str:

@@ -93,6 +93,11 @@ def header_of(version: int) -> bytes:
     return magic + hashlib.sha256(magic).digest()
 
 
+def carried_header_of(version: int) -> bytes:
+    magic = b"RQLOG\1\0" + bytes([version])
+    return magic + hashlib.sha256(magic).digest()
+
+
 def bodies_of(log: bytes) -> list[bytes]:
     """The bodies of a log that is whole."""
     bodies, at = [], HEADER

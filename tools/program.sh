@@ -44,7 +44,7 @@ may_be_line() {
         ;;
     rqlog)
         case $1 in
-        append | checkpoint | restart | audit) [ $# -gt 1 ] ;;
+        append | recover | checkpoint | restart | audit) [ $# -gt 1 ] ;;
         carry | close) [ $# -gt 2 ] ;;
         *) return 1 ;;
         esac

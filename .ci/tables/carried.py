@@ -1,12 +1,12 @@
 """Logs that were carried on, made of others byte by byte."""
 from __future__ import annotations
+import hashlib
 
-from .asking import Program, framed
+from .asking import Program, framed, header
 from .scripts import ONE_ELEMENT
 
-# What stands behind the header of such a log, and where its checkpoint stands.
-GAP = b"\xff\xff\xff\xffrq carried log at 96"
-CARRIED_AT = 96
+# Where the checkpoint of such a file stands.
+CARRIED_AT = 72
 # Where the front of the log of `ONE_ELEMENT` ends.
 ONE_ELEMENT_ENDS = 237
 # Behind its checkpoint: the bytes of the record number and of the count of committed units that a checkpoint has, how many bytes
@@ -14,9 +14,20 @@ ONE_ELEMENT_ENDS = 237
 POINTS = [(5, 1, None, True), (5, 1, None, False), (7, 2, None, False), (8, 1, 8, False), (9, 1, None, True)]
 
 
+def carried_header(version: int) -> bytes:
+    """The header of a carried file, of whatever version."""
+    begins = b"RQLOG\1\0" + bytes([version])
+    return begins + hashlib.sha256(begins).digest()
+
+
 def carried(log: bytes, at: int) -> bytes:
     """The log from its checkpoint at an offset on, in a file of its own."""
-    return log[:40] + GAP + log[at - 32:]
+    return carried_header(log[7]) + log[at - 32:]
+
+
+def as_log(file: bytes) -> bytes:
+    """The log as which a carried file is read: `rq` takes it, from the checkpoint on."""
+    return header(file[7]) + file[40:]
 
 
 def carried_one(rq: Program) -> bytes:

@@ -117,8 +117,20 @@ OBJECTS_BEHIND = """\
 """
 
 
+# What a check says of so many zeros behind a front.
+ZEROS = """\
+front ends behind 1 records, at 87 of {1} bytes, length: a body of 0 bytes is stated, and one has 1 to 268435456
+behind it no frame is right in itself; {0} bytes fit nothing
+"""
+# The last line of a check.
+WHOLE = "verdict: whole, each checkpoint is true. Next: rqlog append NAME\n"
+UNTRUE = "verdict: whole, but not each checkpoint is true. Next: rqlog restart NAME\n"
+TORN = "verdict: a torn end, as a crash leaves it. Next: rqlog recover NAME\n"
+DAMAGED = "verdict: damaged. Next: rqlook mend NAME NEW, or rqlook salvage NAME SCRIPT\n"
+
+
 class Row(NamedTuple):
-    # The words of the line; LOG stands for the file.
+    # The words of the line; LOG stands for the file, and NAME in what is printed for its name.
     line: str
     script: str
     # What becomes of the script's log.
@@ -142,12 +154,15 @@ ROWS = [
     Row("dump LOG --queue 1", TWO_UNITS, whole, 0, DEFINE + REGISTER + ENQUEUE + END),
     Row("dump LOG --registrant ann", TWO_UNITS, whole, 0, REGISTER + ENQUEUE + END),
     # what stands behind the front
-    Row("check LOG", ONE_ELEMENT, lambda log: log[:-1], 1, CUT + NOTHING_BEHIND),
-    Row("check LOG", "define jobs 0 -\ncommit 1\n", whole, 1, LAW + ONE_BEHIND),
+    Row("check LOG", ONE_ELEMENT, lambda log: log[:-1], 1, CUT + NOTHING_BEHIND + TORN),
+    Row("check LOG", "define jobs 0 -\ncommit 1\n", whole, 1, LAW + ONE_BEHIND + DAMAGED),
     # what a check finds
-    Row("check LOG", "define jobs 0 -\ncheckpoint\n", whole, 0, ""),
+    Row("check LOG", "define jobs 0 -\ncheckpoint\n", whole, 0, WHOLE),
     Row("check LOG", "define jobs 0 -\ncheckpoint-hex 00\n", whole, 1,
-        "the checkpoint at 87 does not spell the state before it\n"),
+        "the checkpoint at 87 does not spell the state before it\n" + UNTRUE),
+    # where a torn end becomes damage: one byte more than a crash leaves
+    Row("check LOG", "define jobs 0 -\n", lambda log: log + bytes(1048576), 1, ZEROS.format(1048576, 1048663) + TORN),
+    Row("check LOG", "define jobs 0 -\n", lambda log: log + bytes(1048577), 1, ZEROS.format(1048577, 1048664) + DAMAGED),
     # reports, scripts and stories
     Row("report LOG --queue 0", SECOND_ABORT, whole, 0, OF_ONE_QUEUE),
     Row("report LOG --queue 2", SECOND_ABORT, whole, 1, "", "no queue 2"),
@@ -185,7 +200,8 @@ def rows_of(rows: list[Row], rqlook: Program, rq: Program) -> Iterator[Question]
         log = rq.file(row.damage(rq.log_of(row.script)))
         words = [log if word == "LOG" else word for word in row.line.split()]
         said = f"rqlook: {log}: {row.said}\n".encode() if row.said else b""
-        yield Question(f"rqlook {row.line}", functools.partial(rqlook.run, *words), (row.status, row.output.encode(), said))
+        output = row.output.replace("NAME", log).encode()
+        yield Question(f"rqlook {row.line}", functools.partial(rqlook.run, *words), (row.status, output, said))
 
 
 def fronts_of_windows(rqlook: Program, rq: Program) -> Iterator[Question]:

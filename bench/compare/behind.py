@@ -361,7 +361,7 @@ def hostile(rq: str, rqlook: str, folder: str, mib: int) -> None:
                 file.write(chained(header_of(1), [define(b"jobs")])[:-1] + b"\0" + made(size << 20))
             look, restart = timed(rq, rqlook, path)
             lines = run(rqlook, "check", path).splitlines()
-            answer = "gave up" if lines[-1:] and lines[-1].startswith(b"the search") else "searched"
+            answer = "gave up" if any(it.startswith(b"the search") for it in lines) else "searched"
             print(f"| {name} | {size} | {look:.2f} s | {restart:.2f} s | {wholes[size]:.2f} s | {look / wholes[size]:.1f} | {answer} |", flush=True)
     os.remove(path)
 

@@ -14,11 +14,11 @@ units on many queues with checkpoints. Each log with a true checkpoint is carrie
 it must be what is shown of the whole log from there on, at its offsets. The last line is `N passed, M failed`, by answers.
 """
 from __future__ import annotations
-import argparse, glob, json, os, pty, random, resource, shutil, subprocess, sys, tty
+import argparse, glob, json, os, pty, random, re, resource, shutil, subprocess, sys, tty
 
 sys.path.insert(0, os.path.dirname(os.path.dirname(os.path.abspath(__file__))))
-from common import (COMPARED, HEADER, HERE, NO_RECORD, UNLAWFUL, best, bodies_of, built_peer, chained, check, checkpoints_script, counted, header_of,
-                    log_of, parsed, parser, write_log)
+from common import (COMPARED, HEADER, HERE, NO_RECORD, UNLAWFUL, best, bodies_of, built_peer, carried_header_of, chained, check, checkpoints_script,
+                    counted, header_of, log_of, parsed, parser, write_log)
 from fronted import checkpoint_rows, marks_of, told_of, wanted_marks, wanted_of
 from looked import Stories, columns_of, compact, cut_to, is_hidden, line_of, records_of
 from paged import ALL, SHOWN, TAGS, WORDS, Page, Told, payload
@@ -146,6 +146,10 @@ def same_check(rq: str, look: str, log: str) -> None:
     check(f"{log}'s findings", (status, text.count("the checkpoint at"), text.count("front ends")),
           (0 if whole and not false else 1, len(false), 0 if whole else 1))
     check(f"{log}'s findings, not said", told(look, "check", log, "-q"), (status, ""))
+    behind = "\nbehind it no frame is right in itself; " in text and "\nthe search gave up" not in text
+    is_torn = behind and not re.search(r" bytes, (form|law): ", text) and os.path.getsize(log) - int(text.split(" at ", 1)[1].split()[0]) <= 1 << 20
+    word = ("whole, but not" if false else "whole, each") if whole else "a torn end" if is_torn else "damaged"
+    check(f"{log}'s verdict", text.split("\n")[-2].startswith(f"verdict: {word}"), True)
 
 
 def same_stories(look: str, log: str, records: list[dict], count: int, draw: random.Random) -> None:
@@ -468,9 +472,8 @@ def more_scripts(rq: str, look: str, peer: str, folder: str, count: int) -> None
         same_script(rq, look, path, folder)
 
 
-# Behind the header of a log that was carried on, and where its checkpoint stands.
-GAP = b"\xff\xff\xff\xffrq carried log at 96"
-CARRIED_AT = 96
+# Where the checkpoint of a carried file stands.
+CARRIED_AT = 72
 
 
 def moved(line: str, by: int) -> str:
@@ -499,7 +502,7 @@ def carried_stories(look: str, path: str, stories: Stories, at: int, end: list[s
 def carried_page(look: str, path: str, records: list[dict], stories: Stories, first: int) -> None:
     """The page of a log that was carried on against the lives of the whole log from this record on; again without an order."""
     names, page = same_queues(look, path)
-    begun = ["carried", "begins with the checkpoint at 96, which is taken at its word"]
+    begun = ["carried", "begins with the checkpoint at 72, which is taken at its word"]
     check(f"where {path}'s page begins", begun in [cells for _, cells in page.rows], True)
     rows = dict(page.rows)
     if f"r{first}" not in rows and len(records) - first > ALL:
@@ -517,15 +520,18 @@ def carried(rq: str, look: str, log: str, folder: str, draw: random.Random) -> N
     with open(log, "rb") as source:
         whole = source.read()
     with open(path, "wb") as to:
-        to.write(whole[:HEADER] + GAP + whole[at - 32:])
+        to.write(carried_header_of(whole[7]) + whole[at - 32:])
     records, size = records_of(bodies_of(whole)), len(whole) + CARRIED_AT - at
     shown_here = [it | {"offset": it["offset"] + CARRIED_AT - at} for it in records if it["offset"] >= at]
-    end = ["carried: begins with the checkpoint at 96", f"front ends behind {len(records)} records, at {size} of {size} bytes, whole: nothing follows"]
+    end = ["carried: begins with the checkpoint at 72", f"front ends behind {len(records)} records, at {size} of {size} bytes, whole: nothing follows"]
     front = {"carried_at": CARRIED_AT, "records": len(records), "used": size, "total": size, "why": "whole", "reason": "nothing follows"}
     for words, wanted in [([], shown_here)] + wanted_by(draw, shown_here):
         same_lines(look, path, words, wanted, ("\n".join(end), {"front": front}))
-    check(f"{path}'s findings", told(look, "check", path), (1, f"carried: use rqlog\n{end[1]}\n"))
-    _, want = told(rq, "restart-at", path, str(CARRIED_AT), "4", "1000")
+    check(f"{path}'s findings", told(look, "check", path), (0, f"{end[0]}\nverdict: whole, each checkpoint is true. Next: rqlog append {path}\n"))
+    as_log = path + ".log"
+    with open(as_log, "wb") as to:
+        to.write(whole[:HEADER] + whole[at - 32:])
+    _, want = told(rq, "restart-at", as_log, str(CARRIED_AT), "4", "1000")
     check(f"{path} as text", told(look, "report", path), (0, f"{end[0]}\n{want}"))
     report = json.loads(told(look, "report", path, "--json")[1])
     check(f"{path} as JSON", (text_of(report), report["front"]), (want, front))
@@ -533,7 +539,8 @@ def carried(rq: str, look: str, log: str, folder: str, draw: random.Random) -> N
     carried_stories(look, path, Stories(records, len(whole)), at, end, draw)
     placed_here = [it | {"offset": it["offset"] + CARRIED_AT - at} for it in records]
     carried_page(look, path, placed_here, Stories(records, len(whole)), shown_here[0]["record"])
-    check(f"{path}'s script", said(look, "script", path), (1, f"rqlook: {path}: carried: use rqlog restart\n"))
+    status, script = told(look, "script", path)
+    check(f"{path}'s script", (status, script.startswith("checkpoint-hex ")), (0, True))
 
 
 def speeds(rq: str, look: str, peer: str, folder: str, mib: int) -> None:

@@ -120,7 +120,6 @@ class Pieces:
         self.script: list[str] = []
         self.log = self.path("0.log")
         self.make([], self.log)
-        self.offset = 96
         # bytes that were appended to the last file
         self.tail = 0
 

@@ -196,12 +196,12 @@ def rooms(program: str, look: str | None, write: str | None, folder: str) -> lis
     works = [(program, Work(line[0], line, made(program, line, out))) for line in lines]
     again = [(its, Work(f"{work.name} over itself", [work.name, "{log}", "{log}", "2"], work.new)) for its, work in works[1:]]
     if look is not None:
-        page = ["page", opened, "{log}"]
+        page = ["page", "--force", opened, "{log}"]
         works.append((look, Work("page", page, made(look, page, out))))
     old = b"the file of before\n" * 200
     found = []
     if write is not None:
-        close, carry = ["close", opened, "{log}", "2"], ["carry", "--workers", "2", opened, "{log}"]
+        close, carry = ["close", "--force", opened, "{log}", "2"], ["carry", "--workers", "2", opened, "{log}"]
         works.append((write, Work("rqlog close", close, made(write, close, out))))
         again.append((write, Work("rqlog close over itself", ["close", "{log}", "{log}", "2"], works[-1][1].new)))
         found = [Room(write, folder, Work("rqlog carry", carry, made(write, carry, out), True), None, "log")]

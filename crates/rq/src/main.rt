@@ -3,11 +3,11 @@
 
 ghost use Rattle.std.specs.Prelude.{◌≡◌, IfOk};
 
-use rq_file::{Late, Names, Patient, in_place};
+use rq_file::{Late, Names, Patient, hold_standard, in_place};
 use rq_tool::{Command, Fault, Open, OverRead, OverWrite};
 use std::fs::File;
 use std::io::ErrorKind;
-use std::os::fd::AsFd;
+use std::os::fd::{AsFd, IntoRawFd};
 use std::process::ExitCode;
 use std::rt::{Clock, Env, Files};
 use std::thread::Threads;
@@ -41,8 +41,9 @@ fn main(rt: HostRuntime) -> ExitCode {
 fn start<R>(rt: &R) -> Result<(), Stop>
 where
     R: Files + Env + Print + Clock + AllocGlobal + Threads + Sync,
-    R::File: AsFd,
+    R::File: AsFd + IntoRawFd,
 {
+    hold_standard(rt).map_err(|error| Stop::By(unmade(&error)))?;
     let alloc = rt.alloc();
     let all: Vec<String> = env::args(rt)
         .map_err(|error| unread(&error))?

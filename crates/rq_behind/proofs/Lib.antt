@@ -1,2 +1,6 @@
+mod Advances
+mod Changed
 mod Ends
+mod Proved
+mod Scanned
 mod Sound

@@ -1,2 +1,4 @@
 pub mod Runs
 pub mod Behind
+pub mod Mending
+pub mod Scans

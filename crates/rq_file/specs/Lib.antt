@@ -1,2 +1,4 @@
 pub mod Beside
+pub mod Predecessors
+pub mod Standard
 pub mod Targets

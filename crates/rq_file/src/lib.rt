@@ -6,6 +6,8 @@ mod named;
 mod names;
 mod paths;
 mod patient;
+mod predecessors;
+mod standard;
 mod version;
 mod whole_files;
 
@@ -14,5 +16,7 @@ pub use named::NamedFile;
 pub use names::{Names, expect_under, name_one_file};
 pub use paths::folder_within;
 pub use patient::Patient;
+pub use predecessors::{Replaces, expect_replaceable};
+pub use standard::hold_standard;
 pub use version::VERSION;
-pub use whole_files::{LIMIT, put_file, read_limited};
+pub use whole_files::{LIMIT, put_file, put_over, read_limited};

@@ -6,6 +6,7 @@ ghost use Rattle.rq_file.specs.Beside.{IsBeside};
 ghost use Rattle.rq_file.specs.Targets.{new_of, old_of};
 
 use crate::paths::{folder_within, followed, free_name, is_of_process};
+use crate::predecessors::{Replaces, is_free};
 use std::fs::{File, Files, Metadata, OpenFile, OpenOptions, Permissions};
 use std::io::ErrorKind;
 use std::os::fd::AsFd;
@@ -20,9 +21,9 @@ const OWN_MODE: u32 = 0o600;
 // a program runs as its owner.
 const PERMISSIONS: u32 = 0o777;
 
-// What stands under a name: none where nothing does. Nothing but a file counts: what a path leads
-// to was looked for before, so a link or a folder was put there since.
-fn file_under<R: Files>(rt: &R, name: &str) -> io::Result<Option<Metadata>> {
+/// What stands under a name: none where nothing does. Nothing but a file counts: what a path leads
+/// to was looked for before, so a link or a folder was put there since.
+pub(crate) fn file_under<R: Files>(rt: &R, name: &str) -> io::Result<Option<Metadata>> {
     match fs::symlink_metadata(rt, name) {
         Ok(found) if found.is_file() => Ok(Some(found)),
         Ok(_) => Err(io::Error::from(ErrorKind::AlreadyExists)),
@@ -103,6 +104,13 @@ impl Names {
         Ok(Some(Names { old, new, folder }))
     }
 
+    /// The name of what is replaced.
+    pub(crate) fn old_name(&self) -> &str
+        ensures { result.now ≡ old_of self.now }
+    {
+        &self.old
+    }
+
     /// The name to write under.
     pub fn new_name(&self) -> &str
         ensures { result.now ≡ new_of self.now }
@@ -132,26 +140,44 @@ impl Names {
     ///
     /// Whoever else may write the folder can put something else under these names at any time: then
     /// it refuses with `NotFound` or `AlreadyExists`, and neither gives that away nor removes it.
-    pub fn settle<R: Files>(&self, rt: &R, made: Option<R::File>, is_done: bool) -> io::Result<()>
+    pub fn settle<R>(&self, rt: &R, made: Option<R::File>, is_done: bool) -> io::Result<()>
     where
+        R: Files + AllocGlobal,
+        R::File: AsFd,
+    {
+        self.settle_over(rt, made, is_done, &Replaces::Anything)
+    }
+
+    /// The same; but refuses with `AlreadyExists` if what is there may not be replaced, once all is
+    /// written.
+    pub fn settle_over<R>(
+        &self,
+        rt: &R,
+        made: Option<R::File>,
+        is_done: bool,
+        rule: &Replaces<'_>,
+    ) -> io::Result<()>
+    where
+        R: Files + AllocGlobal,
         R::File: AsFd,
     {
         let Some(file) = made else {
             return Ok(());
         };
         if is_done {
-            return self.keep(rt, &file);
+            return self.keep(rt, &file, rule);
         }
         self.discard(rt, &file);
         Ok(())
     }
 
     // Puts the new file in the place of the old one.
-    fn keep<R: Files>(&self, rt: &R, file: &R::File) -> io::Result<()>
+    fn keep<R>(&self, rt: &R, file: &R::File, rule: &Replaces<'_>) -> io::Result<()>
     where
+        R: Files + AllocGlobal,
         R::File: AsFd,
     {
-        match self.exchange(rt, file) {
+        match self.exchange(rt, file, rule) {
             Ok(folder) => OpenFile::sync_all(&folder),
             Err(error) => {
                 self.discard(rt, file);
@@ -162,8 +188,9 @@ impl Names {
 
     // Puts the new file in the place of the old one, and answers the folder, which was opened
     // before.
-    fn exchange<R: Files>(&self, rt: &R, file: &R::File) -> io::Result<R::File>
+    fn exchange<R>(&self, rt: &R, file: &R::File, rule: &Replaces<'_>) -> io::Result<R::File>
     where
+        R: Files + AllocGlobal,
         R::File: AsFd,
     {
         let folder = File::open(rt, self.folder.as_str())?;
@@ -172,9 +199,31 @@ impl Names {
         }
         OpenFile::sync_all(file)?;
         expect_under(rt, file, &self.new)?;
-        fs::rename(rt, self.new.as_str(), self.old.as_str())?;
+        self.take_place(rt, rule)?;
         expect_under(rt, file, &self.old)?;
         Ok(folder)
+    }
+
+    // Gives the new file the name of the old one, as soon as it was looked at what stands there.
+    fn take_place<R>(&self, rt: &R, rule: &Replaces<'_>) -> io::Result<()>
+    where
+        R: Files + AllocGlobal,
+    {
+        let is_free = is_free(rt, &self.old, rule)?;
+        if is_free && self.is_named_twice(rt)? {
+            return fs::remove_file(rt, self.new.as_str());
+        }
+        fs::rename(rt, self.new.as_str(), self.old.as_str())
+    }
+
+    // Gives the new file the name of the old one beside its own: a link takes nobody's place, as a
+    // rename would. False answers that the file system gives no file a second name.
+    fn is_named_twice<R: Files>(&self, rt: &R) -> io::Result<bool> {
+        match fs::hard_link(rt, self.new.as_str(), self.old.as_str()) {
+            Ok(()) => Ok(true),
+            Err(error) if error.kind() == ErrorKind::AlreadyExists => Err(error),
+            Err(_) => Ok(false),
+        }
     }
 
     // Takes the new file away.

@@ -29,11 +29,16 @@ abbrev pub front_end_of : End → FrontEnd
 front_end_of end =
     record { records = end.records; used = end.used; total = end.total; why = end.why }
 
--- the line of where a front ends: its records, its bytes, all bytes, why, and the reason
-abbrev pub end_text : ℕ → ℕ → ℕ → Why → List ℕ → List ℕ
-end_text records used total why reason = codes "front ends behind " ++ (decimal records
+-- its records, its bytes, all bytes, why it ends, and the reason
+abbrev pub end_numbers : ℕ → ℕ → ℕ → Why → List ℕ → List ℕ
+end_numbers records used total why reason = decimal records
     ++ (codes " records, at " ++ (decimal used ++ (codes " of " ++ (decimal total
-    ++ (codes " bytes, " ++ (why_text why ++ (codes ": " ++ (reason ++ codes "\n")))))))))
+    ++ (codes " bytes, " ++ (why_text why ++ (codes ": " ++ (reason ++ codes "\n"))))))))
+
+-- the line of where a front ends
+abbrev pub end_text : ℕ → ℕ → ℕ → Why → List ℕ → List ℕ
+end_text records used total why reason =
+    codes "front ends behind " ++ end_numbers records used total why reason
 
 -- this line for what a restart answers
 abbrev pub end_line : Restarted → List ℕ → List ℕ

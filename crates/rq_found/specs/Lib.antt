@@ -1,3 +1,4 @@
+pub mod Diagnoses
 pub mod Ends
 pub mod Records
 pub mod Refusals

@@ -3,6 +3,7 @@
 //! and `rq_page` show it.
 #![tactic(auto)]
 
+mod diagnoses;
 mod ends;
 mod events;
 mod followed_queues;
@@ -16,7 +17,10 @@ mod registrants;
 mod shown_log;
 mod trouble;
 
-pub use ends::{End, end_after, end_of, form_reason, is_whole, put_beginning, put_end};
+pub use diagnoses::{Diagnosis, diagnosis_of, put_diagnosis};
+pub use ends::{
+    End, end_after, end_of, end_without_front, form_reason, is_whole, put_beginning, put_end,
+};
 pub use events::{Effect, Event};
 pub use followed_queues::FollowedQueues;
 pub use frames::{Placed, PlacedFrames};

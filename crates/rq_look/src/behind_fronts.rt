@@ -1,10 +1,10 @@
 //! What stands behind the front of a log.
 
 ghost use Rattle.std.specs.Prelude.{◌≡◌, ◌++◌, IfOk, IfErr, OnOk, string_bytes};
-ghost use Rattle.rq_front.specs.Chains.{IsLog};
 ghost use Rattle.rq_record.specs.declared.fault.Fault.TheVariants.{Resources};
 ghost use Rattle.rq_judged.specs.Views.{why_of};
-ghost use Rattle.rq_look.specs.Findings.{EndsFrontOf, IsBehind, behind_finding, behind_text};
+ghost use Rattle.rq_look.specs.Findings.{EndsWithin, IsBehind, behind_finding, behind_text};
+ghost use Rattle.rq_look.specs.Findings as spec;
 ghost use Rattle.rq_look.specs.Findings.{count_text, frames_text, given_up_text};
 
 use rq_behind::{Found, behind};
@@ -14,10 +14,9 @@ use rq_record::Fault;
 use std::alloc::Global;
 use std::fmt::Write;
 
-/// What stands behind the front of a log of which the end is known.
-pub(crate) fn standing_behind(alloc: Global, bytes: &[u8], end: &End) -> Result<Found, Fault>
-    requires log { IsLog bytes.now }
-    requires end { EndsFrontOf bytes.now end.now }
+/// What stands behind the front of a log of which the end is known. Refuses if memory is refused.
+pub fn standing_behind(alloc: Global, bytes: &[u8], end: &End) -> Result<Found, Fault>
+    requires { EndsWithin bytes.now end.now }
     ensures found { IfOk result (IsBehind bytes.now end.now.used) }
     ensures refused { IfErr result (λ e. e ≡ Resources) }
 {
@@ -26,6 +25,13 @@ pub(crate) fn standing_behind(alloc: Global, bytes: &[u8], end: &End) -> Result<
         return Err(Fault::Resources);
     };
     Ok(behind(alloc, version, bytes, end.used as usize)?)
+}
+
+/// Whether a frame behind a front may be right in itself: one was found, or the search gave up.
+pub fn may_have_right(found: &Found) -> bool
+    ensures { result ≡ spec.may_have_right found.now }
+{
+    found.gave_up.is_some() || !found.spans.is_empty()
 }
 
 fn put_frames(text: &mut String, spans: &[Span]) -> Put
@@ -70,7 +76,8 @@ pub(crate) fn put_count(text: &mut String, found: &Found) -> Put
 }
 
 /// Puts what stands behind a front, of so many bytes: this line, and another if the search gave up.
-pub(crate) fn put_behind(text: &mut String, found: &Found, total: u64) -> Put
+/// Refuses if memory is refused, and then some of it may stand there.
+pub fn put_behind(text: &mut String, found: &Found, total: u64) -> Put
     ensures { OnOk result
         (string_bytes text.new ≡ string_bytes text.old ++ behind_text found.now total) }
 {

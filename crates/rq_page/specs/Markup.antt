@@ -22,6 +22,10 @@ escape c = if is_text c then c ∷ [] else entity c
 abbrev pub AppendsText : List ℕ → List ℕ → Type 0
 AppendsText old new = (shown : List ℕ) × (new ≡ old ++ encode_utf8_all (flat_map escape shown))
 
+-- what each page begins with
+abbrev pub page_head : List ℕ
+page_head = codes "<!DOCTYPE html>\n<html lang=\"en\">\n<head>\n<meta charset=\"utf-8\">\n<meta http-equiv=\"Content-Security-Policy\" content=\"default-src 'none'; style-src 'sha256-"
+
 -- what stands behind the last part of a page
 abbrev pub page_foot : List ℕ
 page_foot = codes "</body>\n</html>\n"

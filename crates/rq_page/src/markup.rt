@@ -178,13 +178,16 @@ pub(crate) fn put_rect(
     )
 }
 
-// What stands before the front's summary: up to the name of the log, and behind it. No part of the page
-// may be loaded from anywhere, no script runs, and no style but that of a sum.
-const HEAD: &str = "<!DOCTYPE html>
+/// With these bytes each page begins. No part of it may be loaded from anywhere, no script runs, and no
+/// style but that of a sum, which stands next.
+pub const BEGINNING: &str = "<!DOCTYPE html>
 <html lang=\"en\">
 <head>
 <meta charset=\"utf-8\">
-<meta http-equiv=\"Content-Security-Policy\" content=\"default-src 'none'; style-src 'sha256-{}'; base-uri 'none'; form-action 'none'\">
+<meta http-equiv=\"Content-Security-Policy\" content=\"default-src 'none'; style-src 'sha256-";
+
+// What stands between this and the front's summary: up to the name of the log, and behind it.
+const HEAD: &str = "{}'; base-uri 'none'; form-action 'none'\">
 <meta name=\"referrer\" content=\"no-referrer\">
 <meta name=\"color-scheme\" content=\"light dark\">
 <meta name=\"viewport\" content=\"width=device-width, initial-scale=1\">
@@ -196,7 +199,7 @@ const STYLED: &str = "{}</title>
 <body>
 ";
 
-/// Puts what stands before the front's summary of the log of this name.
+/// Puts what stands between the beginning and the front's summary of the log of this name.
 pub(crate) fn put_head(alloc: Global, text: &mut String, name: &str) -> Put {
     let sum = sum_of_style(alloc)?;
     put_html(text, HEAD, &[Text(sum.as_str())])?;

@@ -6,19 +6,21 @@ ghost use Rattle.rq_model.specs.Fronts as fronts;
 ghost use Rattle.rq_front.specs.Chains.{IsLog};
 ghost use Rattle.rq_found.specs.Ends.{IsRestartFrom};
 ghost use Rattle.rq_found.specs.Refusals.{IsBroken, IsRefusal, RefusedFrom, StaysUnshown};
-ghost use Rattle.rq_page.specs.Markup.{page_foot};
+ghost use Rattle.rq_page.specs.Markup.{page_foot, page_head};
 
 use crate::histories::put_histories;
 use crate::lives::{Lives, lives_of};
-use crate::markup::{put_foot, put_head};
+use crate::markup::{BEGINNING, put_foot, put_head};
 use crate::pictures::put_picture;
 use crate::records::put_record_rows;
 use crate::shown::Linked;
-use crate::summaries::{put_header, put_parts, put_summary};
+use crate::summaries::{put_header, put_left_out, put_parts, put_summary};
 use crate::surveys::{Survey, surveyed};
 use crate::tables::put_queue_table;
 use crate::units::put_open;
-use rq_found::{End, Put, ShownLog, Trouble, end_after, first_state, restarted_from};
+use rq_behind::Found;
+use rq_found::{End, Put, ShownLog, Trouble, diagnosis_of, end_after, first_state, restarted_from};
+use rq_look::{may_have_right, standing_behind};
 use rq_restart::{Fault, Restarted, audit, audit_at};
 use rq_state::State;
 use std::alloc::Global;
@@ -41,6 +43,8 @@ pub enum Order {
 pub struct Asked<'a> {
     /// The name of the log.
     pub name: &'a str,
+    /// What stands for the log in a line that is typed.
+    pub typed: &'a str,
     /// The version of the program that makes the page.
     pub version: &'a str,
     /// The order of the queues.
@@ -51,11 +55,13 @@ pub struct Asked<'a> {
     pub units: &'a [u64],
 }
 
-// What is found of a log: its restart, where its front ends, and which checkpoints are true.
+// What is found of a log: its restart, where its front ends, what stands behind that, and which
+// checkpoints are true.
 #[derive(Drop)]
 struct RestartedLog {
     restarted: Restarted,
     end: End,
+    behind: Found,
     checkpoints: Vec<(u64, bool)>,
 }
 
@@ -106,10 +112,12 @@ fn found_in<R: Threads + Sync>(
 {
     let restarted = restarted_from(rt, alloc, log)?;
     let end = end_after(rt, alloc, log, &restarted)?;
+    let behind = standing_behind(alloc, log.bytes, &end)?;
     let checkpoints = audited_from(rt, alloc, log)?;
     Ok(RestartedLog {
         restarted,
         end,
+        behind,
         checkpoints,
     })
 }
@@ -193,11 +201,21 @@ fn put_top(
     let found = &told.contents.found;
     let (restarted, end) = (&found.restarted, &found.end);
     put_head(alloc, text, asked.name)?;
-    put_header(text, asked, restarted, end)?;
-    put_parts(text, &told.lives)?;
-    text.push_str("<main>\n")?;
     let checkpoints = found.checkpoints.as_slice();
-    put_summary(alloc, text, bytes, restarted, end, checkpoints)
+    let is_sound = checkpoints.iter().all(|checkpoint| checkpoint.1);
+    let diagnosis = diagnosis_of(end, may_have_right(&found.behind), is_sound);
+    put_header(alloc, text, asked, restarted, end, diagnosis)?;
+    put_parts(text, &told.lives, told.all)?;
+    text.push_str("<main>\n")?;
+    put_summary(
+        alloc,
+        text,
+        bytes,
+        restarted,
+        end,
+        &found.behind,
+        checkpoints,
+    )
 }
 
 // Puts what the log's length, its units and its queues show.
@@ -215,8 +233,11 @@ fn put_middle(
     put_queue_table(alloc, text, shown, seen, state, end, order)
 }
 
-// Puts the lives that are shown.
-fn put_lives(text: &mut String, shown: &Linked<'_>, lives: &Lives) -> Put {
+// Puts the lives that are shown, and that others are left out, if they are.
+fn put_lives(text: &mut String, shown: &Linked<'_>, lives: &Lives, is_long: bool) -> Put {
+    if !shown.all {
+        put_left_out(text, is_long)?;
+    }
     put_histories(text, shown, lives)?;
     put_record_rows(text, lives.rows.as_str(), lives.count, lives.more)?;
     text.push_str("</main>\n")
@@ -233,12 +254,13 @@ fn put_all(
     ensures { OnOk result ((put : List ℕ) × (string_bytes text.new ≡ put ++ page_foot)) }
 {
     let mut shown = begun(&told.contents);
+    let is_long = !shown.all;
     let lives = Some(&told.lives);
     shown.all = told.all;
     shown.lives = lives;
     put_top(alloc, text, bytes, told, asked)?;
     put_middle(alloc, text, &shown, &told.contents, asked.order)?;
-    put_lives(text, &shown, &told.lives)?;
+    put_lives(text, &shown, &told.lives, is_long)?;
     put_foot(text)
 }
 
@@ -250,11 +272,13 @@ fn put_page<W: Write>(
     output: &mut W,
 ) -> Result<(), Trouble>
     ensures whole { OnOk result ((put : List ℕ)
-        × Appends (W.contents output.old) (W.contents output.new) (put ++ page_foot)) }
+        × Appends (W.contents output.old) (W.contents output.new)
+        (page_head ++ (put ++ page_foot))) }
     ensures refused { IfErr result IsBroken }
 {
     let mut text = String::new(alloc);
     put_all(alloc, &mut text, bytes, told, asked)?;
+    output.write_all(BEGINNING.as_bytes())?;
     output.write_all(text.as_bytes())?;
     Ok(())
 }
@@ -280,7 +304,8 @@ pub fn page<R: Threads + Sync, W: Write>(
     ensures restart { OnOk result
         ((r : fronts.Restarted) × IsRestartFrom log.now.at log.now.bytes.now r) }
     ensures whole { OnOk result ((put : List ℕ)
-        × Appends (W.contents output.old) (W.contents output.new) (put ++ page_foot)) }
+        × Appends (W.contents output.old) (W.contents output.new)
+        (page_head ++ (put ++ page_foot))) }
     ensures refused { IfErr result (StaysUnshown log.now.at log.now.bytes.now
         (W.contents output.old) (W.contents output.new)) }
 {

@@ -4,7 +4,9 @@ use crate::lives::Lives;
 use crate::markup::Html::{Count, Number, Tag, Text};
 use crate::markup::{Html, put_html, put_optional};
 use crate::pages::Asked;
-use rq_found::{End, Put, is_whole};
+use rq_behind::Found;
+use rq_found::{Diagnosis, End, Put, is_whole, put_diagnosis};
+use rq_look::put_behind;
 use rq_report::why_word;
 use rq_restart::Restarted;
 use std::alloc::Global;
@@ -62,6 +64,20 @@ fn put_digest(alloc: Global, text: &mut String, bytes: &[u8], end: &End) -> Put 
     put_html(text, DIGEST, &[Tag(head), Text(digest.as_str())])
 }
 
+// Puts what stands behind the front, if something does.
+fn put_found(alloc: Global, text: &mut String, end: &End, found: &Found) -> Put {
+    if is_whole(end.why) {
+        return Ok(());
+    }
+    let mut lines = String::new(alloc);
+    put_behind(&mut lines, found, end.total)?;
+    text.push_str("<tr><th scope=\"row\">found there</th><td>")?;
+    for line in lines.lines() {
+        put_html(text, "<small>{}</small>", &[Text(line)])?;
+    }
+    text.push_str("</td></tr>\n")
+}
+
 // How many queues, elements and registrants there are after the restart.
 fn members_of(r: &Restarted) -> [Html<'static>; 3] {
     let state = r.state();
@@ -85,14 +101,15 @@ fn put_checkpoints(text: &mut String, checkpoints: &[(u64, bool)]) -> Put {
     text.push_str("</td></tr>\n")
 }
 
-/// Puts the numbers of a report's first two lines, by what the log is known, how much there is after
-/// the restart, and the checkpoints, of each of which it is known whether it is true.
+/// Puts the numbers of a report's first two lines, what stands behind the front, by what the log is
+/// known, how much there is after the restart, and the checkpoints, of each of which it is known whether it is true.
 pub(crate) fn put_summary(
     alloc: Global,
     text: &mut String,
     bytes: &[u8],
     r: &Restarted,
     end: &End,
+    found: &Found,
     checkpoints: &[(u64, bool)],
 ) -> Put {
     text.push_str(TOP)?;
@@ -100,6 +117,7 @@ pub(crate) fn put_summary(
     let front = [Count(end.records), Count(end.used), Count(end.total)];
     put_html(text, FRONT, &front)?;
     put_reason(text, end)?;
+    put_found(alloc, text, end, found)?;
     put_digest(alloc, text, bytes, end)?;
     let units = [Count(r.committed()), Count(r.aborted()), Count(r.cut_off())];
     put_html(text, UNITS, &units)?;
@@ -108,11 +126,17 @@ pub(crate) fn put_summary(
     text.push_str("</table>\n</section>\n")
 }
 
-// What stands before the parts of a page: the log's name, whether it is whole, who made the page, and
-// the numbers that are seen first.
-const HEADER: &str = "<header>
+// What stands before the parts of a page: the log's name, the verdict and what to do next, whether it is
+// whole, who made the page, and the numbers that are seen first.
+const NAME: &str = "<header>
 <h1><bdi>{}</bdi></h1>
-<p class=\"by\"><span class=\"badge {}</span> The log of a recoverable queue manager, shown by rqlook {}.</p>
+";
+
+const DIAGNOSED: &str = "<p class=\"{}\">{}</p>
+";
+
+const HEADER: &str =
+    "<p class=\"by\"><span class=\"badge {}</span> The log of a recoverable queue manager, shown by rqlook {}.</p>
 <dl class=\"tiles\">
 <div><dt>bytes</dt><dd>{}</dd></div>
 <div><dt>records</dt><dd>{}</dd></div>
@@ -123,8 +147,29 @@ const HEADER: &str = "<header>
 </header>
 ";
 
-/// Puts the log's name, whether it is whole, who made the page, and the numbers that are seen first.
-pub(crate) fn put_header(text: &mut String, asked: &Asked<'_>, r: &Restarted, end: &End) -> Put {
+// Puts the verdict on a log, and what to do next, where this stands for it in a line that is typed.
+fn put_diagnosed(alloc: Global, text: &mut String, typed: &str, diagnosis: Diagnosis) -> Put {
+    let mut said = String::new(alloc);
+    put_diagnosis(&mut said, diagnosis, typed)?;
+    let class = match diagnosis {
+        Diagnosis::Whole => "whole",
+        _ => "bad",
+    };
+    put_html(text, DIAGNOSED, &[Tag(class), Text(said.as_str())])
+}
+
+/// Puts the log's name, the verdict on it, whether it is whole, who made the page, and the numbers that
+/// are seen first.
+pub(crate) fn put_header(
+    alloc: Global,
+    text: &mut String,
+    asked: &Asked<'_>,
+    r: &Restarted,
+    end: &End,
+    diagnosis: Diagnosis,
+) -> Put {
+    put_html(text, NAME, &[Text(asked.name)])?;
+    put_diagnosed(alloc, text, asked.typed, diagnosis)?;
     let badge = if is_whole(end.why) {
         "good\">whole"
     } else {
@@ -135,7 +180,6 @@ pub(crate) fn put_header(text: &mut String, asked: &Asked<'_>, r: &Restarted, en
         text,
         HEADER,
         &[
-            Text(asked.name),
             Tag(badge),
             Text(asked.version),
             Count(end.total),
@@ -148,7 +192,7 @@ pub(crate) fn put_header(text: &mut String, asked: &Asked<'_>, r: &Restarted, en
 }
 
 /// Puts links to the parts of the page, as far as they are there.
-pub(crate) fn put_parts(text: &mut String, lives: &Lives) -> Put {
+pub(crate) fn put_parts(text: &mut String, lives: &Lives, all: bool) -> Put {
     text.push_str(
         "<nav aria-label=\"Parts of the page\"><a href=\"#front\">Front</a> \
         <a href=\"#log\">Log</a> <a href=\"#open\">Open units</a> <a href=\"#queues\">Queues</a>",
@@ -165,5 +209,27 @@ pub(crate) fn put_parts(text: &mut String, lives: &Lives) -> Put {
     if lives.count > 0 {
         text.push_str(" <a href=\"#records\">Records</a>")?;
     }
+    if !all {
+        text.push_str(" <a href=\"#left-out\">Left out</a>")?;
+    }
     text.push_str("</nav>\n")
+}
+
+// What is said in the place of the lives of all.
+const LEFT_OUT: &str = "<section id=\"left-out\">
+<h2>Left out</h2>
+<p>The lives of all elements, units and registrants, and their records, do not stand here: {}. \
+    Those of some do if <code>rqlook page</code> is given <code>--element NUMBER</code> or \
+    <code>--unit NUMBER</code>, as often as you like.</p>
+</section>
+";
+
+/// Puts that the lives of all are left out: for want of room, or since there are too many records.
+pub(crate) fn put_left_out(text: &mut String, is_long: bool) -> Put {
+    let why = if is_long {
+        "there are more than 10,000 records"
+    } else {
+        "there is no room for them"
+    };
+    put_html(text, LEFT_OUT, &[Tag(why)])
 }

@@ -21,7 +21,7 @@ const TOP: &str = "<section id=\"open\">
 ";
 
 const BARS: &str =
-    "<div class=\"plot bars\"><svg viewBox=\"0 0 {} {}\" preserveAspectRatio=\"none\" role=\"img\">\
+    "<div class=\"plot bars\"><span class=\"scale\"></span><svg viewBox=\"0 0 {} {}\" preserveAspectRatio=\"none\" role=\"img\">\
     <title>The units that are open where the front ends</title>\n";
 
 // As many units are shown: those that have been open longest.

@@ -1,5 +1,6 @@
 //! From the lines of a script to the frames of their records.
 
+use crate::expected::{Misfit, field_missed};
 use crate::fronts::OpenLog;
 use crate::refusal::Refusal;
 use rq_journal::{NotTaken, Rule};
@@ -16,6 +17,10 @@ const TOLD: usize = 100;
 pub(crate) enum Reason {
     /// It is no line of a script.
     NoLine,
+    /// The same, by this field.
+    Misfit(Misfit),
+    /// It has no end.
+    NoEnd,
     /// It asks for a checkpoint of the state, which no window over the log tells.
     Checkpoint,
     /// Its record breaks a rule.
@@ -28,10 +33,22 @@ pub(crate) enum Reason {
     Memory,
 }
 
+impl Reason {
+    // Whether the line tells a record.
+    fn is_of_record(&self) -> bool {
+        !matches!(
+            self,
+            Reason::NoLine | Reason::Misfit(_) | Reason::NoEnd | Reason::Memory
+        )
+    }
+}
+
 impl fmt::Display for Reason {
     fn fmt<W: fmt::Write>(&self, f: &mut fmt::Formatter<W>) -> fmt::Result {
         match self {
             Reason::NoLine => f.write_str("no line of a script"),
+            Reason::Misfit(misfit) => fmt::Display::fmt(misfit, f),
+            Reason::NoEnd => f.write_str("a line feed is expected at its end"),
             Reason::Checkpoint => f.write_str("use rqlog checkpoint"),
             Reason::Breaks(rule) => fmt::Display::fmt(rule, f),
             Reason::Full => f.write_str("log is full: carry it on"),
@@ -123,7 +140,7 @@ fn reason_unread(alloc: Global, log: &OpenLog, text: &[u8]) -> Reason {
     match read_line(alloc, Version::Two, text) {
         Ok(ScriptLine::Told(record)) => rule_of(alloc, log, &record),
         Err(Fault::Resources) => Reason::Memory,
-        _ => Reason::NoLine,
+        _ => Reason::Misfit(field_missed(text)),
     }
 }
 
@@ -169,7 +186,7 @@ fn append_next<'a>(
 ) -> (&'a [u8], &'a [u8], Result<(), Reason>) {
     match line_at(line, rest) {
         Ok((text, after)) => (text, after, append_line(alloc, log, text)),
-        Err(_) => (rest, rest, Err(Reason::NoLine)),
+        Err(_) => (rest, rest, Err(Reason::NoEnd)),
     }
 }
 
@@ -205,9 +222,8 @@ fn refusal_of(
 ) -> Result<Option<LineRefused>, AllocError> {
     let (reason, shown): (Reason, &[u8]) = match done {
         Ok(()) => return Ok(None),
-        Err(Reason::NoLine) => (Reason::NoLine, &[]),
-        Err(Reason::Memory) => (Reason::Memory, &[]),
-        Err(reason) => (reason, text),
+        Err(reason) if reason.is_of_record() => (reason, text),
+        Err(reason) => (reason, &[]),
     };
     Ok(Some(LineRefused {
         line,

@@ -1,10 +1,11 @@
 //! Why the program ends before it is done.
 
+use crate::damage::BadEnd;
 use crate::lines::{LineRefused, Reason};
+use clap::ArgMatches;
 use clap::error::ErrorKind;
+use rq_found::Seen;
 use rq_journal::Fault;
-use rq_report::why_word;
-use rq_restart::Why;
 use std::alloc::AllocError;
 use std::io;
 
@@ -31,6 +32,10 @@ pub(crate) enum Stream {
     LogAsItWas,
     /// The log, where some of what was to be appended may stand.
     LogUnknown,
+    /// The log, which may be cut to its front already.
+    LogToRecover,
+    /// The file that keeps what is cut off at an offset.
+    Kept(usize),
     Output,
     /// The output that was to tell what is done all the same.
     Telling,
@@ -53,16 +58,18 @@ pub(crate) enum Refusal {
     There,
     /// Another file came into the log's place, or its bytes changed meanwhile.
     Changed,
-    /// The front of the log ends for a reason that hides records or a fault of its writer.
-    Damaged(Why),
+    /// The front of the log ends where nothing is written behind it.
+    Damaged(BadEnd),
+    /// What is to be kept of the log from an offset on has a name under which other bytes stand.
+    KeptOther(usize),
     /// A line is not appended.
     Line(LineRefused),
     /// There is no room behind the log.
     Full,
     /// So many records were numbered that no state behind one more can be spelled.
     Ended,
-    /// The log is refused, or its state.
-    Refused(Fault),
+    /// The log is refused, or its state, or the script.
+    Refused(Stream, Fault),
     /// Memory is refused.
     Memory,
 }
@@ -92,7 +99,8 @@ impl From<Fault> for Refusal {
     fn from(fault: Fault) -> Refusal {
         match fault {
             Fault::Resources => Refusal::Memory,
-            _ => Refusal::Refused(fault),
+            Fault::WriteFailed => Refusal::Refused(Stream::Output, fault),
+            _ => Refusal::Refused(Stream::Log, fault),
         }
     }
 }
@@ -106,14 +114,30 @@ pub(crate) fn failed(stream: Stream, error: io::Error) -> Refusal {
 }
 
 impl Stream {
-    // What it is called.
-    fn name(self) -> &'static str {
+    // The word of the command that names it, if one does.
+    fn word(self) -> Option<&'static str> {
         match self {
-            Stream::Log | Stream::LogAsItWas | Stream::LogUnknown => "LOG",
-            Stream::Script => "SCRIPT",
-            Stream::New => "NEW",
-            Stream::Out => "OUT",
-            Stream::Output | Stream::Telling => "standard output",
+            Stream::Log
+            | Stream::LogAsItWas
+            | Stream::LogUnknown
+            | Stream::LogToRecover
+            | Stream::Kept(_) => Some("LOG"),
+            Stream::Script => Some("SCRIPT"),
+            Stream::New => Some("NEW"),
+            Stream::Out => Some("OUT"),
+            Stream::Output | Stream::Telling => None,
+        }
+    }
+
+    // What it is called by these words.
+    fn name<'a>(self, words: Option<&'a ArgMatches<'_>>) -> Seen<'a> {
+        let Some(word) = self.word() else {
+            return Seen("standard output");
+        };
+        match words.and_then(|words| words.get_str(word)) {
+            Some("-") if matches!(self, Stream::Script) => Seen("standard input"),
+            Some(name) => Seen(name),
+            None => Seen(word),
         }
     }
 
@@ -122,6 +146,7 @@ impl Stream {
         match self {
             Stream::LogAsItWas => ": nothing was appended",
             Stream::LogUnknown => ": some records may stand there: rqlook check tells",
+            Stream::LogToRecover => ": use rqlog recover again",
             Stream::Telling => ": it is done all the same",
             _ => "",
         }
@@ -129,7 +154,7 @@ impl Stream {
 }
 
 // Prints the help or the version that was asked for, and answers the exit status.
-fn show_help(rt: &HostRuntime, help: &clap::Error) -> u8 {
+fn show_help<R: Print + Eprint>(rt: &R, help: &clap::Error) -> u8 {
     match print!(rt; "{help}") {
         Ok(()) => 0,
         Err(error) => {
@@ -149,14 +174,15 @@ fn advice(fault: Fault) -> &'static str {
 }
 
 impl Refusal {
-    // What is said if no name, number or error is told.
+    // What is said if no number or error is told.
     fn text(&self) -> &'static str {
         match self {
             Refusal::NoText => "a word is no text",
             Refusal::Plan => "workers are 1 to 64, and a grain is 1 to 1000000",
-            Refusal::Held => "LOG: another program writes it: try again",
-            Refusal::There => "NEW: it is there already: name a file that is not",
-            Refusal::Changed => "LOG: it changed meanwhile: try again",
+            Refusal::Held => "another program writes it: try again",
+            Refusal::There => "it is there already: name a file that is not",
+            Refusal::Changed => "it changed meanwhile: try again",
+            Refusal::KeptOther(_) => "other bytes stand there: move it away",
             Refusal::Full => "log is full: carry it on",
             Refusal::Ended => "numbers end at 4294967295: begin a new log",
             _ => "resources",
@@ -166,46 +192,77 @@ impl Refusal {
     fn exit(&self) -> u8 {
         match self {
             Refusal::Words(_) | Refusal::NoText | Refusal::Plan => USAGE,
-            Refusal::Failed(..) | Refusal::Held | Refusal::There | Refusal::Changed => STREAM,
+            Refusal::Failed(..)
+            | Refusal::Held
+            | Refusal::There
+            | Refusal::KeptOther(_)
+            | Refusal::Changed => STREAM,
             Refusal::Damaged(_) | Refusal::Full | Refusal::Ended => REFUSED,
             Refusal::Line(refused) if matches!(refused.reason, Reason::Memory) => MEMORY,
             Refusal::Line(_) => REFUSED,
-            Refusal::Refused(fault) => fault.exit(),
+            Refusal::Refused(_, fault) => fault.exit(),
             Refusal::Memory => MEMORY,
         }
     }
 
-    // Says why the program ends.
-    fn say(&self, rt: &HostRuntime) -> io::Result<()> {
+    // The file of which something is said, if it is one of those that the words name.
+    fn stream(&self) -> Option<Stream> {
+        match self {
+            Refusal::Failed(stream, _) | Refusal::Refused(stream, _) => Some(*stream),
+            Refusal::There => Some(Stream::New),
+            Refusal::KeptOther(offset) => Some(Stream::Kept(*offset)),
+            Refusal::Held | Refusal::Changed | Refusal::Damaged(_) => Some(Stream::Log),
+            _ => None,
+        }
+    }
+
+    // Says why the program ends, behind the name of the file.
+    fn say<R: Eprint>(&self, rt: &R) -> io::Result<()> {
         match self {
             Refusal::Words(error) => eprint!(rt; "{error}"),
             Refusal::Failed(stream, error) => {
-                let (name, left) = (stream.name(), stream.left());
-                eprintln!(rt; "rqlog: {name}: {error}{left}")
+                let left = stream.left();
+                eprintln!(rt; "{error}{left}")
             }
-            Refusal::Damaged(why) => {
-                let why = why_word(*why);
-                eprintln!(rt; "rqlog: LOG: its front ends by {why}: rqlook check tells where")
-            }
-            Refusal::Line(refused) => eprintln!(rt; "rqlog: {refused}"),
-            Refusal::Refused(fault) => {
+            Refusal::Damaged(bad) => eprintln!(rt; "{bad}"),
+            Refusal::Line(refused) => eprintln!(rt; "{refused}"),
+            Refusal::Refused(_, fault) => {
                 let advice = advice(*fault);
-                eprintln!(rt; "rqlog: {fault}{advice}")
+                eprintln!(rt; "{fault}{advice}")
             }
             _ => {
                 let text = self.text();
-                eprintln!(rt; "rqlog: {text}")
+                eprintln!(rt; "{text}")
+            }
+        }
+    }
+
+    // Says the program's name, and that of the file as the words have it.
+    fn say_name<R: Eprint>(&self, rt: &R, words: Option<&ArgMatches<'_>>) -> io::Result<()> {
+        match self.stream() {
+            _ if matches!(self, Refusal::Words(_)) => Ok(()),
+            None => eprint!(rt; "rqlog: "),
+            Some(stream @ Stream::Kept(offset)) => {
+                let name = stream.name(words);
+                eprint!(rt; "rqlog: {name}.cut-{offset}: ")
+            }
+            Some(stream) => {
+                let name = stream.name(words);
+                eprint!(rt; "rqlog: {name}: ")
             }
         }
     }
 
     /// Prints what was asked for of the words, or says on standard error why the program ends, and
-    /// answers its exit status.
-    pub(crate) fn tell(&self, rt: &HostRuntime) -> u8 {
+    /// answers its exit status. The words of the command, if they were read, name the files.
+    pub(crate) fn tell<R>(&self, rt: &R, words: Option<&ArgMatches<'_>>) -> u8
+    where
+        R: Print + Eprint,
+    {
         match self {
             Refusal::Words(help) if help.exit_code() == 0 => show_help(rt, help),
             _ => {
-                let _ = self.say(rt);
+                let _ = self.say_name(rt, words).and_then(|()| self.say(rt));
                 self.exit()
             }
         }

@@ -14,13 +14,19 @@ const LOG: Word = Word(
 
 const JSON: Word = Word("json", Flag, "Says what was done as an object of JSON");
 
+const DROP: Word = Word(
+    "drop",
+    Flag,
+    "Leaves out what stands behind the front, whatever it is, and says how much",
+);
+
 const COUNT: Word = Word(
     "WORKERS",
     ValueOr(SMALL, "4"),
     "How many threads work, 1 to 64",
 );
 
-static COMMANDS: [Subcommand; 6] = [
+static COMMANDS: [Subcommand; 7] = [
     Subcommand {
         name: "append",
         about: "Appends the records of a script to a log, all of them or none",
@@ -36,9 +42,15 @@ static COMMANDS: [Subcommand; 6] = [
                 Flag,
                 "Appends the records before the first that is not lawful, in place of none",
             ),
+            DROP,
             JSON,
             WORKERS,
         ],
+    },
+    Subcommand {
+        name: "recover",
+        about: "Makes a log whole that a crash left: keeps what it cuts off, and aborts open units",
+        words: &[LOG, DROP, JSON, WORKERS],
     },
     Subcommand {
         name: "checkpoint",
@@ -46,6 +58,7 @@ static COMMANDS: [Subcommand; 6] = [
         words: &[
             LOG,
             Word("close", Flag, "Ends each open unit before, by an ABORT"),
+            DROP,
             JSON,
             WORKERS,
         ],
@@ -60,6 +73,7 @@ static COMMANDS: [Subcommand; 6] = [
                 Value(TEXT),
                 "The file of the new log, which is not there yet",
             ),
+            DROP,
             JSON,
             WORKERS,
         ],
@@ -87,6 +101,8 @@ static COMMANDS: [Subcommand; 6] = [
                 Value(TEXT),
                 "The file of the closed log, which may be LOG",
             ),
+            Word("force", Flag, "Replaces OUT if it is there"),
+            DROP,
             COUNT,
         ],
     },

@@ -36,13 +36,19 @@ const WIDTH: Word = Word(
     "Cuts lines to so many columns, 0 for none; those of the terminal if the output is one",
 );
 
+const FORCE: Word = Word(
+    "force",
+    Flag,
+    "Replaces OUT though it is no earlier file of the kind; a log is never replaced",
+);
+
 /// The commands of the program, as its help shows them. (A function of its own, since the check of
 /// one grows with the statics that it names.)
 pub(crate) fn subcommands() -> &'static [Subcommand] {
     COMMANDS.as_slice()
 }
 
-static COMMANDS: [Subcommand; 9] = [
+static COMMANDS: [Subcommand; 10] = [
     Subcommand {
         name: "dump",
         about: "Shows a line for each record, and where the front ends and why",
@@ -116,6 +122,21 @@ static COMMANDS: [Subcommand; 9] = [
                 Value(TEXT),
                 "The file of the script, or - for standard output",
             ),
+            FORCE,
+            WORKERS,
+        ],
+    },
+    Subcommand {
+        name: "mend",
+        about: "Makes a log of a damaged one, with the bytes put back that a digest proves",
+        words: &[
+            LOG,
+            Word(
+                "OUT",
+                Value(TEXT),
+                "The file of the mended log; nothing may stand there",
+            ),
+            WIDTH,
             WORKERS,
         ],
     },
@@ -183,6 +204,7 @@ static COMMANDS: [Subcommand; 9] = [
                 Several("UNIT", NUMBER),
                 "Shows what this unit did also if the log is long; may be given several times",
             ),
+            FORCE,
             WORKERS,
         ],
     },

@@ -6,8 +6,8 @@ use rq_found::{Seen, Trouble};
 use std::alloc::AllocError;
 use std::io;
 
-// The exit status if there is no such thing in the log, a record that no script tells, or a log
-// that was carried on.
+// The exit status if there is no such thing in the log, a record that no script tells, or if a log is
+// not mended that was carried on.
 const REFUSED: u8 = 1;
 
 // The exit status of words that are no command.
@@ -29,7 +29,7 @@ pub(crate) enum FileTrouble {
     Stream(io::Error),
     /// It was read and is refused.
     Refused(Trouble),
-    /// The log was carried on: what is asked for begins with the first record.
+    /// The log was carried on: none such is mended.
     Carried,
 }
 
@@ -128,7 +128,7 @@ fn tell_file(rt: &HostRuntime, file: &str, trouble: &FileTrouble) -> u8 {
             }
         }
         FileTrouble::Carried => {
-            let _ = eprintln!(rt; "rqlook: {name}: carried: use rqlog restart");
+            let _ = eprintln!(rt; "rqlook: {name}: carried: use rqlook salvage");
             REFUSED
         }
     }

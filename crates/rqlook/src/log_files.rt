@@ -40,6 +40,11 @@ pub(crate) fn shown_name(file: &str) -> &str {
     if file == "-" { "standard input" } else { file }
 }
 
+/// What stands for a log in a line that is typed: the name of its file, if it has one.
+pub(crate) fn typed_name(file: &str) -> &str {
+    if file == "-" { "LOG" } else { file }
+}
+
 /// Whether what is written to the second name would be written over the log of the first: both are
 /// of one file. Standard input may be a file, too; standard output is none that is written over.
 pub(crate) fn is_over_log<R: Files>(rt: &R, file: &str, to: &str) -> bool {

@@ -1,13 +1,14 @@
 //! The files that the program makes of a log.
 
-use crate::acts::Request;
+use crate::acts::{Request, is_frontless};
 use crate::failures::{Failure, FileTrouble, of_file};
-use crate::log_files::{is_over_log, shown_name};
+use crate::log_files::{is_over_log, shown_name, typed_name};
 use crate::words::{numbers_asked, order_asked};
-use rq_file::VERSION;
+use rq_file::{Replaces, VERSION, expect_replaceable, put_over};
 use rq_found::{Fault, Trouble};
-use rq_page::Asked;
-use std::io::ErrorKind;
+use rq_look::REMARK;
+use rq_page::{Asked, BEGINNING};
+use std::io::{self, ErrorKind};
 use std::os::fd::AsFd;
 use std::rt::Files;
 use std::thread::Threads;
@@ -22,12 +23,28 @@ fn put_page<R: AllocGlobal + Threads + Sync>(
     let units = numbers_asked(rt.alloc(), asked.words, "unit")?;
     let page = Asked {
         name: shown_name(asked.file),
+        typed: typed_name(asked.file),
         version: VERSION,
         order: order_asked(asked.words),
         elements: elements.as_slice(),
         units: units.as_slice(),
     };
     rq_page::page(rt, rt.alloc(), &page, &asked.log, made)
+}
+
+// Puts the script of a log into memory, with what stands behind its front; of a carried log without a
+// front, with what is right in it.
+fn salvage<R: AllocGlobal + Threads + Sync>(
+    rt: &R,
+    asked: &Request<'_, '_>,
+    made: &mut Vec<u8>,
+) -> Result<(), Trouble> {
+    match rq_look::salvage(rt, rt.alloc(), &asked.log, made) {
+        Err(trouble) if is_frontless(&asked.log, &trouble) => {
+            rq_look::salvage_frontless(rt.alloc(), &asked.log, made)
+        }
+        done => done,
+    }
 }
 
 // Puts the page of a log, or its script with what stands behind its front, into memory.
@@ -38,7 +55,7 @@ fn put_made<R: AllocGlobal + Threads + Sync>(
 ) -> Result<(), Trouble> {
     let done = match asked.name {
         "page" => put_page(rt, asked, made),
-        _ => rq_look::salvage(rt, rt.alloc(), asked.log.bytes, asked.log.plan, made),
+        _ => salvage(rt, asked, made),
     };
     match done {
         // A write into memory fails for want of it alone.
@@ -47,8 +64,43 @@ fn put_made<R: AllocGlobal + Threads + Sync>(
     }
 }
 
-// Writes what was made to the file of this name, or to standard output for `-`.
-fn write_made<R>(rt: &R, to: &str, made: &[u8]) -> Result<bool, Failure>
+// What of the files that are there gives way to what is asked for.
+fn replaced_by(asked: &Request<'_, '_>) -> Replaces<'static> {
+    if asked.words.get_flag("force") {
+        return Replaces::NoLog;
+    }
+    match asked.name {
+        "page" => Replaces::Beginning(BEGINNING.as_bytes()),
+        _ => Replaces::Remark(REMARK.as_bytes()),
+    }
+}
+
+// Why a file was not made.
+fn not_made<R: AllocGlobal>(rt: &R, to: &str, error: io::Error) -> Failure {
+    if error.kind() == ErrorKind::OutOfMemory {
+        return Failure::Memory;
+    }
+    of_file(rt, to, FileTrouble::Stream(error))
+}
+
+/// Refuses what stands where the file is to be made, unless that gives way.
+pub(crate) fn expect_place<R>(rt: &R, to: &str, rule: &Replaces<'_>) -> Result<(), Failure>
+where
+    R: Files + AllocGlobal,
+{
+    if to == "-" {
+        return Ok(());
+    }
+    expect_replaceable(rt, to, rule).map_err(|error| not_made(rt, to, error))
+}
+
+/// Writes what was made to the file of this name, or to standard output for `-`.
+pub(crate) fn write_made<R>(
+    rt: &R,
+    to: &str,
+    made: &[u8],
+    rule: &Replaces<'_>,
+) -> Result<bool, Failure>
 where
     R: Files + Print + AllocGlobal,
     R::File: AsFd,
@@ -57,14 +109,14 @@ where
         rt.write_all(made)?;
         return Ok(true);
     }
-    match rq_file::put_file(rt, to, made) {
+    match put_over(rt, to, made, rule) {
         Ok(()) => Ok(true),
-        Err(error) if error.kind() == ErrorKind::OutOfMemory => Err(Failure::Memory),
-        Err(error) => Err(of_file(rt, to, FileTrouble::Stream(error))),
+        Err(error) => Err(not_made(rt, to, error)),
     }
 }
 
-/// Makes the page of a log, or its salvage. The file is whole or as it was, and never the log.
+/// Makes the page of a log, or its salvage. The file is whole or as it was, and never a log. It takes
+/// the place of an earlier one, of another file only if that is asked for.
 pub(crate) fn make_file<R>(rt: &R, asked: &Request<'_, '_>, to: &str) -> Result<bool, Failure>
 where
     R: Files + Print + AllocGlobal + Threads + Sync,
@@ -73,9 +125,11 @@ where
     if is_over_log(rt, asked.file, to) {
         return Err(Failure::Same);
     }
+    let rule = replaced_by(asked);
+    expect_place(rt, to, &rule)?;
     let mut made = Vec::new(rt.alloc());
     match put_made(rt, asked, &mut made) {
-        Ok(()) => write_made(rt, to, &made),
+        Ok(()) => write_made(rt, to, &made, &rule),
         Err(trouble) => Err(of_file(rt, asked.file, FileTrouble::Refused(trouble))),
     }
 }

@@ -6,6 +6,7 @@ mod command_table;
 mod failures;
 mod log_files;
 mod made_files;
+mod mended_files;
 mod narrow_lines;
 mod progress;
 mod words;
@@ -15,8 +16,9 @@ use crate::failures::Failure;
 use crate::narrow_lines::columns_told;
 use crate::progress::Watch;
 use crate::words::program;
+use rq_file::hold_standard;
 use std::io::IsTerminal;
-use std::os::fd::AsFd;
+use std::os::fd::{AsFd, IntoRawFd};
 use std::process::ExitCode;
 use std::rt::{Clock, Env, Files};
 use std::thread::Threads;
@@ -48,8 +50,9 @@ fn columns_shown(rt: &HostRuntime) -> Option<u32> {
 fn start<R>(rt: &R, watch: Watch) -> Result<bool, Failure>
 where
     R: Files + Env + Input + Print + Eprint + Clock + AllocGlobal + Threads + Sync,
-    R::File: AsFd,
+    R::File: AsFd + IntoRawFd,
 {
+    hold_standard(rt)?;
     let words: Vec<String> = env::args(rt)
         .map_err(|error| unread(error))?
         .collect(rt.alloc())?;
