@@ -2,7 +2,7 @@
 """Tries the completions of all programs in bash, and in zsh and fish if they are there, beside the tables in the sources.
 
 usage: completing.py RQLOOK RQLOG
-The commands and words of rqlook and rqlog are read from their sources, those of rq from the README. So a command that the help does not
+The commands and words of rqlook and rqlog are read from their sources, those of rq from OPERATING's table. So a command that the help does not
 tell of, or of which a shell offers nothing, is found. Prints a line for each thing that is not as it must be, and at last `N passed, M
 failed`.
 """
@@ -40,8 +40,7 @@ def words_of(name: str) -> Dict[str, List[str]]:
 
 
 def commands_of_rq() -> List[str]:
-    text = text_in("README.md").partition("The lines of `rq` are")[2].partition("to other words")[0]
-    return sorted(re.findall(r"`([\w-]+) [A-Z]", text))
+    return sorted(set(re.findall(r"`rq ([\w-]+) [A-Z]", text_in("docs/OPERATING.md").partition("## Which command")[2].partition("\n## ")[0])))
 
 
 def bash(path: str, name: str, line: List[str]) -> List[str]:

@@ -48,6 +48,11 @@ LINES = [
 ]
 
 
+def name_of(program: str) -> str:
+    """What the program calls itself: its file may be named by its processor too."""
+    return os.path.basename(program).partition("-")[0]
+
+
 def put(path: str, content: bytes) -> bytes:
     with open(path, "wb") as file:
         file.write(content)
@@ -104,7 +109,7 @@ def closed_ones() -> None:
         before = files()
         whole = done(line.program, *words, given=given)
         left = files()
-        name = f"{os.path.basename(line.program)} {line.words}"
+        name = f"{name_of(line.program)} {line.words}"
         check(f"{name}: status", whole[0], line.status)
         for closed in SETS[1:]:
             anew()
@@ -177,7 +182,7 @@ def replaced() -> None:
                     os.symlink("out", "link")
                 ended = done(program, *asked(words, out, is_forced))
                 goes = rule[is_forced]
-                told = ended[0], ended[1], ended[2].startswith(f"{os.path.basename(program)}: {out}: it is ".encode())
+                told = ended[0], ended[1], ended[2].startswith(f"{name_of(program)}: {out}: it is ".encode())
                 check(f"{kind} {'--force ' * is_forced}into {out}, which is {name}", told, (0, b"", False) if goes else (3, b"", True))
                 stands = content("out") == (content("new") if goes else before)
                 check(f"{kind} {'--force ' * is_forced}into {out}, which is {name}: its bytes", stands, True)

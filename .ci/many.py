@@ -508,9 +508,8 @@ def killed_at_any_time(room: Room) -> None:
         ended.wait(LONGEST)
         answer = room.collect("--verify")
         check(f"a table after end {turn}", answer.status in (0, 75) and "Traceback" not in answer.said, True)
-        for name in room.left():
-            if name.endswith(".json"):
-                check(f"{name} after end {turn}", room.told(name[:-5])["status"], "done")
+        told = [room.told(it[:-5])["status"] for it in room.left() if it.endswith(".json")]
+        check(f"what is told after end {turn}", set(told) <= {"done"}, True)
     check("the next run", room.run(*BOTH).status, 0)
     check("and what is left", (room.collect("--verify", "--clean").status, room.left()), (0, FILES))
 

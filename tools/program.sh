@@ -55,7 +55,7 @@ may_be_line() {
 # Names the documents to whoever reads.
 tell_documents() {
     [ ! -t 2 ] || case $name in
-    rq) echo "rq: its lines stand in README.md and in its manual: man $here/docs/rq.1" >&2 ;;
+    rq) echo "rq: its lines stand in docs/OPERATING.md and in its manual: man $here/docs/rq.1" >&2 ;;
     rqlook) echo "rqlook: its lines stand in docs/LOOKING.md and in its manual: man $here/docs/rqlook.1" >&2 ;;
     rqlog) echo "rqlog: its lines stand in docs/OPERATING.md and in its manual: man $here/docs/rqlog.1" >&2 ;;
     esac

@@ -15,8 +15,8 @@ NAMES = {"svg": "title", "table": "caption"}
 # The lives of all are shown of so many records, and more if they fit; as many elements of a queue are; as many characters of a payload are
 # at once.
 ALL, SHOWN, FIRST = 1500, 1000, 80
-# An element's payload can be folded out if it begins before this byte of the page.
-WHOLE = 500_000
+# An element's payload can be folded out if it begins before this byte of what stands behind the page's first lines, up to these words.
+WHOLE, COUNTED = 500_000, b"style-src 'sha256-"
 QUEUES = re.compile(rb'<section id="queues">.*?</section>', re.DOTALL)
 # The first of a payload that is not all of it, and whether all of it can be folded out.
 PAYLOAD = re.compile(rb'<bdi class="text(?: hex)?">[^<]*</bdi>(?:(<details>)|<i>\.\. )')
@@ -46,9 +46,10 @@ class Page(HTMLParser):
 
     def wrongly_cut(self) -> list[int]:
         """Where elements' payloads begin of which all can be folded out and must not, or must and cannot."""
-        queues = QUEUES.search(self.text.encode())
+        page = self.text.encode()
+        queues, counted = QUEUES.search(page), page.index(COUNTED) + len(COUNTED)
         found = PAYLOAD.finditer(queues[0]) if queues else ()
-        return [at for at, is_whole in ((queues.start() + it.start(), it[1] is not None) for it in found) if is_whole != (at < WHOLE)]
+        return [at for at, is_whole in ((queues.start() + it.start(), it[1] is not None) for it in found) if is_whole != (at - counted < WHOLE)]
 
     def handle_starttag(self, tag: str, attrs: list[tuple[str, str | None]]) -> None:
         words = dict(attrs)

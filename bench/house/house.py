@@ -1,7 +1,7 @@
 #!/usr/bin/env python3
 """Lists what the house rules do not want: definitions that nothing reaches, names that stand for two things, and forwarders.
 
-usage: house.py
+usage: house.py [--files [CRATE ..]]
 - A definition or lemma of `specs/` or `proofs/` is reached if a contract, an answer to a goal or a ghost member names it, or
   a definition that is reached. Names are told apart by the crate and not by the file: so this can take one for reached that is
   not, and never the other way round.
@@ -11,14 +11,17 @@ usage: house.py
   `ONE_THING` lists is one thing that is said of two, methods of `PLAIN` mean what their types make of them, and those of
   `STAYING` are known to callers.
 - Files are nouns: the name of a file or folder of code that ends with *ing* is no thing, unless a type has that name.
-- ARCHITECTURE's table of crates says of each file of code what it decides, but for the file that a crate begins with.
+- Each file of code begins with a sentence (`//!`) that says what it decides: it has three words at least, it ends, and no
+  other file of the folder has the same, but for the one that a crate begins with. A file that only lists modules decides
+  nothing. With --files these sentences are printed as a table, of all crates or of those named, and nothing is counted.
+- ARCHITECTURE's table of crates has a row for each crate, tests too.
 - The wrong bodies that `PINNED` lists are there, as edits that each gate tries, and there are `LEAST` in all. Who takes one away takes it
   from there too.
 - A function only forwards if it is private, has one caller, and its body is one call with its own parameters.
 The last line is `N passed, M failed`: of these rules those that hold, and what breaks one. The status is 1 if anything does.
 """
 from __future__ import annotations
-import glob, os, re, sys
+import argparse, glob, os, re, sys
 from typing import Callable, NamedTuple
 
 sys.path.insert(0, os.path.dirname(os.path.dirname(os.path.abspath(__file__))))
@@ -40,6 +43,9 @@ HEADED = re.compile(r"^( *)(pub(?:\([a-z]+\))? )?(?:const )?fn (\w+)", re.M)
 BLOCK = re.compile(r"^(?:impl(?:<[^{]*?>)? (?:[^{\n]* for )?&?(\w+)|(?:pub(?:\([a-z]+\))? )?trait \w+|\})", re.M)
 # A type that has fields, variants or members.
 TYPE = re.compile(r"^(?:pub(?:\([a-z]+\))? )?(?:struct|enum|trait) (\w+)(?!\w)(?!;)", re.M)
+# A sentence, and the lines of a file that only list its modules.
+SENTENCE = re.compile(r".+?\.(?=\s|$)")
+MODULES = re.compile(r"^(?:pub(?:\([a-z]+\))? )?mod \w+;$", re.M)
 # A list of lemmas that tactics are given, on one line or several.
 RULES = re.compile(r"^(?:pub )?ruleset \S+ = \([^()]*\)", re.M)
 # Methods whose names say nothing without their type: what makes a value (`none` and `blank`: an empty one), what std's traits
@@ -250,13 +256,37 @@ def no_things(crate: str) -> list[str]:
             if os.path.basename(it).endswith("ing") and os.path.basename(it).replace("_", "") not in things]
 
 
-def untold(crate: str) -> list[str]:
-    """The files of a crate that the row of the crate in the table does not name."""
-    table = text_in(os.path.join(TOP, "docs", "ARCHITECTURE.md"))
-    rows = re.findall(rf"^\| `{crate}` \| .* \| .* \|$", table, re.M)
+def first_sentence(text: str) -> str:
+    """The sentence with which a file says what it decides; empty, if it says nothing or does not end the sentence."""
+    said = []
+    for line in text.splitlines():
+        if not line.startswith("//! "):
+            break
+        said.append(line[4:].strip())
+    found = SENTENCE.match(" ".join(said))
+    return found.group() if found else ""
+
+
+def told_files(crate: str) -> list[tuple[str, str]]:
+    """The files of a crate that hold code, each with its first sentence."""
     top = os.path.join(CRATES, crate, "src")
-    files = [os.path.relpath(it, top) for it in files_of(crate, "src/**/*.rt")]
-    return [f"{crate}/{it}" for it in files if it not in ("lib.rt", "main.rt") and f"`{it}`" not in "".join(rows)]
+    texts = [(os.path.relpath(it, top), text_in(it)) for it in files_of(crate, "src/**/*.rt")]
+    return [(name, first_sentence(text)) for name, text in texts if MODULES.sub("", text).strip()]
+
+
+def untold(crate: str) -> list[str]:
+    """The files of a crate that do not say first what they decide, or say what another file of their folder says."""
+    files = told_files(crate)
+    said = [(os.path.dirname(name), sentence) for name, sentence in files if name not in ("lib.rt", "main.rt")]
+    return [f"{crate}/{name}" for name, sentence in files
+            if len(sentence.split()) < 3 or said.count((os.path.dirname(name), sentence)) > 1]
+
+
+def rowless(crates: list[str]) -> list[str]:
+    """The crates that ARCHITECTURE's table does not have, or has twice."""
+    cells = re.findall(r"^\| (`[^|]*`) \| [^|]+ \|$", text_in(os.path.join(TOP, "docs", "ARCHITECTURE.md")), re.M)
+    rows = [name for cell in cells for name in re.findall(r"`([^`]*)`", cell)]
+    return [it for it in crates if it not in rows]
 
 
 def of_two(found: list[str]) -> list[str]:
@@ -300,7 +330,8 @@ def counted(crates: list[str]) -> dict[str, list[str]]:
         "functions that stand for two things": of_two(functions_of_two(calls)),
         "methods that stand for two things": of_two(methods_of_two(calls)),
         "files that are no things": [it for crate in untried for it in no_things(crate)],
-        "files of which no row tells": [it for crate in untried for it in untold(crate)],
+        "files that do not say what they decide": [it for crate in crates for it in untold(crate)],
+        "crates of which no row tells": rowless(crates),
         "functions that only forward": [it for crate in crates for it in forwarders(crate)],
         "wrong bodies that are missed": missed(),
     }
@@ -316,8 +347,22 @@ def missed() -> list[str]:
     return found + astray + [f"{len(every)} in all, and not {LEAST}"] * (len(every) < LEAST)
 
 
+def print_files(crates: list[str]):
+    """Prints which file decides what."""
+    print("| Crate | File | What it decides |\n|---|---|---|")
+    for crate in crates:
+        for name, sentence in told_files(crate):
+            print(f"| `{crate}` | `{name}` | {sentence} |")
+
+
 def main() -> int:
+    words = argparse.ArgumentParser()
+    words.add_argument("--files", nargs="*", metavar="CRATE")
+    options = words.parse_args()
     crates = sorted(os.path.basename(os.path.dirname(it)) for it in glob.glob(os.path.join(CRATES, "*", "src")))
+    if options.files is not None:
+        print_files(options.files or crates)
+        return 0
     lists = counted(crates)
     for title, found in lists.items():
         for it in found:

@@ -2,7 +2,7 @@
 """Holds the documents against what CONTRIBUTING asks of their sentences.
 
 usage: prose.py [--words] [FILE.md ..]
-Without files: README.md, CHANGELOG.md, docs/*.md, docs/measured/*.md, bench/README.md, crates/*/CALLING.md and
+Without files: README.md, CHANGELOG.md, docs/*.md, docs/measured/*.md, bench/README.md, crates/*/*.md and
 examples/many/*/README.md.
 
 - A sentence has at most 30 words. A command, a name or a number in backquotes is one word, and of a link its text counts.
@@ -125,7 +125,7 @@ def main() -> int:
     words.add_argument("--words", action="store_true")
     words.add_argument("files", nargs="*")
     options = words.parse_args()
-    places = ["README.md", "CHANGELOG.md", "docs/*.md", "docs/measured/*.md", "bench/README.md", "crates/*/CALLING.md"]
+    places = ["README.md", "CHANGELOG.md", "docs/*.md", "docs/measured/*.md", "bench/README.md", "crates/*/*.md"]
     places.append("examples/many/*/README.md")
     paths = options.files or [path for it in places for path in sorted(glob.glob(os.path.join(TOP, it)))]
     failed, ifs, wheres = 0, 0, 0

@@ -204,13 +204,15 @@ impl Names {
         Ok(folder)
     }
 
-    // Gives the new file the name of the old one, as soon as it was looked at what stands there.
+    // Gives the new file the name of the old one, as soon as it was looked at what stands there. If that
+    // may be replaced whatever it is, a rename does it in one step.
     fn take_place<R>(&self, rt: &R, rule: &Replaces<'_>) -> io::Result<()>
     where
         R: Files + AllocGlobal,
     {
         let is_free = is_free(rt, &self.old, rule)?;
-        if is_free && self.is_named_twice(rt)? {
+        let must_stay_free = !matches!(rule, Replaces::Anything);
+        if is_free && must_stay_free && self.is_named_twice(rt)? {
             return fs::remove_file(rt, self.new.as_str());
         }
         fs::rename(rt, self.new.as_str(), self.old.as_str())

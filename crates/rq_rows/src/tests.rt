@@ -1,3 +1,5 @@
+//! What the tests share: plans, scripts and their logs, and what a command answers.
+
 mod appending;
 mod fronts;
 mod gates;
