@@ -94,8 +94,8 @@ fn open_at(alloc: Global, opened: Opened, read: usize, before: u64) -> OpenLog {
     }
 }
 
-/// Where the front of a log ends.
-pub(crate) fn front_of<R: Threads + Sync>(
+// Where the front of a log ends.
+fn front_of<R: Threads + Sync>(
     rt: &R,
     alloc: Global,
     log: &ReadLog,

@@ -1,7 +1,7 @@
 //! What was done, as it is told.
 
 use crate::damage::LeftOut;
-use rq_journal::{MadeWhole, Truth};
+use rq_journal::{CARRIED_AT, MadeWhole, Truth};
 use std::alloc::{AllocError, Global};
 use std::fmt::Write;
 use std::io;
@@ -39,7 +39,8 @@ pub(crate) fn tell_marked<R: Print>(rt: &R, json: bool, offset: u64, bytes: u64)
 /// Says how many records stand before the new log, and how long that is.
 pub(crate) fn tell_carried<R: Print>(rt: &R, json: bool, next: u64, bytes: u64) -> io::Result<()> {
     if json {
-        println!(rt; "{{\"next\":{next},\"offset\":96,\"bytes\":{bytes}}}")
+        let offset = CARRIED_AT;
+        println!(rt; "{{\"next\":{next},\"offset\":{offset},\"bytes\":{bytes}}}")
     } else {
         println!(rt; "carried on behind {next} records, {bytes} bytes")
     }

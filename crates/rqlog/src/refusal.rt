@@ -242,13 +242,12 @@ impl Refusal {
         match self.stream() {
             _ if matches!(self, Refusal::Words(_)) => Ok(()),
             None => eprint!(rt; "rqlog: "),
-            Some(stream @ Stream::Kept(offset)) => {
-                let name = stream.name(words);
-                eprint!(rt; "rqlog: {name}.cut-{offset}: ")
-            }
             Some(stream) => {
                 let name = stream.name(words);
-                eprint!(rt; "rqlog: {name}: ")
+                match stream {
+                    Stream::Kept(offset) => eprint!(rt; "rqlog: {name}.cut-{offset}: "),
+                    _ => eprint!(rt; "rqlog: {name}: "),
+                }
             }
         }
     }
