@@ -19,7 +19,7 @@ mod stories;
 mod wanted;
 
 pub use behind_fronts::{may_have_right, put_behind, standing_behind};
-pub use checks::{Findings, check};
+pub use checks::{Findings, audited_from, check};
 pub use dumps::dump;
 pub use frontless::{check_frontless, dump_frontless, salvage_frontless};
 pub use log_script::script;

@@ -171,7 +171,7 @@ fn act_on<'a, R>(
     watch: Watch,
 ) -> Result<bool, Failure>
 where
-    R: Files + Input + Print + Eprint + Clock + AllocGlobal + Threads + Sync,
+    R: Files + Print + Eprint + Clock + AllocGlobal + Threads + Sync,
     R::File: AsFd,
 {
     let file = file_of(words);
