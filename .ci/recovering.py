@@ -25,7 +25,7 @@ LOGS = 40
 SAMPLE = 3
 TORN = 1_048_576
 CHECKPOINT = 9
-USE = ": use rqlook check, rqlook mend and rqlook salvage; --drop leaves it out"
+USE = ": use rqlook check and rqlook salvage; --drop leaves it out"
 
 
 class Frame(NamedTuple):

@@ -126,7 +126,7 @@ behind it no frame is right in itself; {0} bytes fit nothing
 WHOLE = "verdict: whole, each checkpoint is true. Next: rqlog append NAME\n"
 UNTRUE = "verdict: whole, but not each checkpoint is true. Next: rqlog restart NAME\n"
 TORN = "verdict: a torn end, as a crash leaves it. Next: rqlog recover NAME\n"
-DAMAGED = "verdict: damaged. Next: rqlook mend NAME NEW, or rqlook salvage NAME SCRIPT\n"
+DAMAGED = "verdict: damaged. Next: rqlook salvage NAME SCRIPT\n"
 
 
 class Row(NamedTuple):

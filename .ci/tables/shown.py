@@ -4,8 +4,8 @@ import functools, re
 from collections.abc import Callable, Iterator
 from typing import NamedTuple
 
-from .asking import Program, Question, changed, first, flipped, framed, whole
-from .carried import as_log, carried, carried_header, carried_one, with_points
+from .asking import Program, Question, changed, first, flipped, whole
+from .carried import as_log, carried, carried_one, with_points
 from .looking import DAMAGED, WHOLE, Row, rows_of
 from .scripts import CHECKPOINT, ONE_ELEMENT
 
@@ -164,24 +164,6 @@ def checkpoints(rqlook: Program, rq: Program) -> Iterator[Question]:
     yield Question("rqlook page of false checkpoints", functools.partial(marks, rqlook, rq.file(log)), want)
 
 
-def after(rqlook: Program, rq: Program) -> Iterator[Question]:
-    """A carried file goes on from the log from which it was made, and from no other."""
-    log = rq.log_of(MARKED)
-    old, file = log[:192], rq.file(carried_on(log))
-    same, longer = rq.file(old), rq.file(framed(old, b"\x07" + bytes(7) + b"\1"))
-    lied = rq.file(carried_header(1) + old[-32:] + framed(old, log[196:-77].replace(b"\0\1a", b"\0\1b"))[len(old):])
-    for name, new, before, want in (
-            ("the log before it", file, same, (0, f"goes on from the front of {same}\n")),
-            ("a longer log", file, longer, (1, f"does not go on from the front of {longer}: its link is of another\n")),
-            ("a false checkpoint", lied, same, (1, f"does not go on from the front of {same}: its link does, its checkpoint does not\n")),
-    ):
-        ask = functools.partial(rqlook.run, "check", new, "--after", before)
-        printed = want[1] + CARRIED + WHOLE.replace("NAME", new)
-        yield Question(f"rqlook check --after, {name}", ask, (want[0], printed.encode(), b""))
-    ask = functools.partial(rqlook.run, "check", same, "--after", same)
-    yield Question("rqlook check --after of a log", ask, (1, ("not carried: it goes on from no log\n" + WHOLE.replace("NAME", same)).encode(), b""))
-
-
 def queues_at(rq: Program, log: bytes | None, offset: int) -> list[bytes]:
     """The lines of a restart from a checkpoint behind the first, which has numbers of bytes."""
     return rq.run("restart-at", rq.file(log or b""), offset, 1, 1)[1].splitlines()[1:]
@@ -201,6 +183,5 @@ def questions_of(rq: Program) -> Callable[[Program], Iterator[Question]]:
         yield from rows_of(ROWS, rqlook, rq)
         yield from ends(rqlook, rq)
         yield from checkpoints(rqlook, rq)
-        yield from after(rqlook, rq)
         yield from scripted(rqlook, rq)
     return questions

@@ -1,6 +1,3 @@
-mod Advances
-mod Changed
 mod Ends
-mod Proved
 mod Scanned
 mod Sound

@@ -1,4 +1,3 @@
 pub mod Runs
 pub mod Behind
-pub mod Mending
 pub mod Scans

@@ -3,21 +3,11 @@
 //! stands before those.
 #![tactic(auto)]
 
-mod byte_search;
-mod changes;
-mod efforts;
 mod forms;
-mod mended_logs;
-mod mending;
 mod places;
 mod runs;
 mod scan;
 mod search;
-mod tries;
-mod witness;
 
-pub use changes::Change;
-pub use efforts::Untried;
-pub use mended_logs::{Mended, mend};
 pub use scan::{SCANNED_LEN, Scan, first_record};
 pub use search::{Found, behind};

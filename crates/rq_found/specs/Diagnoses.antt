@@ -29,5 +29,5 @@ diagnosis_text Untrue name = codes "verdict: whole, but not each checkpoint is t
     ++ name
 diagnosis_text Torn name = codes "verdict: a torn end, as a crash leaves it. Next: rqlog recover "
     ++ name
-diagnosis_text Damaged name = codes "verdict: damaged. Next: rqlook mend " ++ (name
-    ++ (codes " NEW, or rqlook salvage " ++ (name ++ codes " SCRIPT")))
+diagnosis_text Damaged name =
+    codes "verdict: damaged. Next: rqlook salvage " ++ (name ++ codes " SCRIPT")

@@ -11,7 +11,7 @@ ghost use Rattle.rq_found.specs.Ends as ends;
 ghost use Rattle.rq_found.specs.Ends.{IsRestartFrom, beginning_text, end_text, front_end_of};
 ghost use Rattle.rq_found.specs.Refusals.{RefusedFrom};
 
-use crate::frames::{Frame, first_frame, stated_length};
+use crate::frames::{first_frame, stated_length};
 use crate::misfits::misfit_of;
 use crate::pieces::{Put, put_text_pieces};
 use crate::shown_log::ShownLog;
@@ -74,11 +74,11 @@ fn length_reason(alloc: Global, rest: &[u8]) -> Result<String, AllocError> {
 }
 
 // The digest of what a frame states, behind these bytes.
-fn digest_text(alloc: Global, before: &[u8], stated: &[u8]) -> Result<String, AllocError> {
+fn digest_behind(before: &[u8], stated: &[u8]) -> [u8; 32] {
     let mut hasher = Sha256::new();
     hasher.update(&before[before.len().saturating_sub(32)..]);
     hasher.update(stated);
-    hex::encode(alloc, hasher.finalize().as_slice())
+    hasher.finalize()
 }
 
 fn chain_reason(alloc: Global, before: &[u8], rest: &[u8]) -> Result<String, AllocError> {
@@ -86,7 +86,7 @@ fn chain_reason(alloc: Global, before: &[u8], rest: &[u8]) -> Result<String, All
         return cut_reason(alloc, rest);
     };
     let stated = hex::encode(alloc, frame.digest)?;
-    let digest = digest_text(alloc, before, frame.stated)?;
+    let digest = hex::encode(alloc, digest_behind(before, frame.stated).as_slice())?;
     format!(in alloc; "the digest is {stated}, and that of the bytes {digest}")
 }
 
@@ -221,14 +221,6 @@ pub fn end_of<R: Threads + Sync>(rt: &R, alloc: Global, log: &ShownLog<'_>) -> R
     Ok(told)
 }
 
-// Whether the digest of a frame is right behind these bytes.
-fn is_right(before: &[u8], frame: &Frame<'_>) -> bool {
-    let mut hasher = Sha256::new();
-    hasher.update(&before[before.len().saturating_sub(32)..]);
-    hasher.update(frame.stated);
-    hasher.finalize().as_slice() == frame.digest
-}
-
 // Why no checkpoint that is right and spells a state stands between these bytes and the rest.
 fn missing_checkpoint(
     alloc: Global,
@@ -242,11 +234,12 @@ fn missing_checkpoint(
     let Some((frame, _)) = first_frame(rest) else {
         return Ok((Why::Cut, cut_reason(alloc, rest)?));
     };
-    if !is_right(before, &frame) {
-        return Ok((Why::Chain, chain_reason(alloc, before, rest)?));
+    let digest = digest_behind(before, frame.stated);
+    if digest.as_slice() == frame.digest {
+        let reason = String::from_str(alloc, "no checkpoint stands there that spells a state")?;
+        return Ok((Why::Form, reason));
     }
-    let reason = String::from_str(alloc, "no checkpoint stands there that spells a state")?;
-    Ok((Why::Form, reason))
+    Ok((Why::Chain, chain_reason(alloc, before, rest)?))
 }
 
 /// Where the front of a carried log ends, as it is read, which a restart refuses for its first

@@ -9,22 +9,19 @@ use Rattle.std.proofs.lemmas.Grind.{flat_map-append}
 use Rattle.std.proofs.lemmas.List.{length-append, length-drop, drop-take, drop_at, take_at}
 use Rattle.rq_model.specs.Records.{Record, Version, One, Two}
 use Rattle.rq_model.specs.Spelling.{body_of, IsRecord, Spells}
-use Rattle.rq_model.specs.Frames.{before, digest, header, log_limit, start, frames_of, log_of, stated, body_in}
+use Rattle.rq_model.specs.Frames.{before, digest, header, log_limit, start, frames_of, stated, body_in}
 use Rattle.rq_model.specs.States.{State, empty}
-use Rattle.rq_model.specs.Fronts.{IsLongest, IsRestart, Restarted}
+use Rattle.rq_model.specs.Fronts.{IsLongest, Restarted}
 use Rattle.rq_model.specs.Checkpoints.{IsCheckpointAt}
 use Rattle.rq_model.proofs.RecordReaders.{body_fits, one_record}
 use Rattle.rq_model.proofs.Lists.{each_append}
 use Rattle.rq_model.proofs.Runs.{frame_reads}
-use Rattle.rq_model.proofs.Longest.{front_whole, used_is_front, used_long}
+use Rattle.rq_model.proofs.Longest.{used_is_front}
 use Rattle.rq_model.proofs.Restarts.{each_cut, frames_many, header_long}
 use Rattle.rq_model.proofs.StateCodes.{one_state}
 use Rattle.rq_model.proofs.Upgraded.{record_is_wider}
 use Rattle.rq_writer.specs.Script.{IsTellable}
-use Rattle.rq_judged.specs.FrontEnds.{IsEndOf}
-use Rattle.rq_found.specs.Ends.{IsRestartFrom, front_end_of}
-use Rattle.rq_found.specs.declared.ends.End.{End}
-use Rattle.rq_look.specs.Findings.{EndsWithin}
+use Rattle.rq_found.specs.Ends.{IsRestartFrom}
 use Rattle.rq_found.specs.Records.{SpelledIn, front_at}
 use Rattle.rq_found.specs.declared.trouble.Trouble.{Trouble}
 use Rattle.rq_found.specs.declared.trouble.Trouble.TheVariants.{Log, Output, Untold, NoQueue, Nothing}
@@ -52,40 +49,6 @@ pub put_behind : {A E : Type 0} (r : Result A E) (old mid new word put : List �
     → OnOk r (new ≡ mid ++ put) → OnOk r (new ≡ old ++ (word ++ put))
 put_behind (Ok x) old mid new word put e h = h ∙ ap (λ (z : List ℕ). z ++ put) e ∙ append_assoc old word put
 put_behind (Err x) old mid new word put e h = tt
-
--- the first `used` bytes hold the header
-pub used_fits : (b : List ℕ) (r : Restarted) → IsRestart b r → (40 ≤ r.used) × (r.used ≤ length b)
-used_fits b r h =
-    let long = used_long b h.version h.records h.rest r h.front h in
-    let log = length-append (header h.version) (frames_of (start h.version) h.records) in (
-      omega (arith, long, log, header_long h.version),
-      omega (
-        arith,
-        long,
-        ap length (front_whole b h.version h.records h.rest h.front),
-        length-append (log_of h.version h.records) h.rest,
-      ),
-    )
-
--- so do those of a restart from a checkpoint, and they are of the log
-pub used_within : (at : Option ℕ) (b : List ℕ) (r : Restarted) → IsRestartFrom at b r
-    → (32 ≤ r.used) × (r.used ≤ length b)
-used_within None b r is = let fits = used_fits b r is in (omega (arith, fits.0), fits.1)
-used_within (Some at) b r is =
-    let used = ap (λ (x : Restarted). x.used) is.answer in
-    let room = is.checkpoint.frame.whole.room in
-    let whole = ap length is.front.begins.whole in
-    let parts = length-append (frames_of (before at b) is.records) is.rest in
-    let low = is.checkpoint.past_header in (
-      omega (arith, used, room, whole, parts, low, length-drop at b),
-      omega (arith, used),
-    )
-
--- so does the front whose end is told
-pub ends_within : (at : Option ℕ) (b : List ℕ) (r : Restarted) (end : End) → IsRestartFrom at b r
-    → IsEndOf r (front_end_of end) → EndsWithin b end
-ends_within at b r end is e =
-    let fits = used_within at b r is in (omega (arith, fits.0, e.used), omega (arith, fits.1, e.used))
 
 -- the state behind which the records that are shown begin
 abbrev pub IsFirst : Option ℕ → List ℕ → State → Type 0

@@ -1,4 +1,3 @@
 pub mod Findings
 pub mod Looks
-pub mod Mendings
 pub mod Scripts

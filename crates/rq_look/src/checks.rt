@@ -104,8 +104,11 @@ fn findings_of(
     })
 }
 
-// The checkpoints of a log, from the one on that it begins with, if it was carried on.
-fn checkpoints_of<R: Threads + Sync>(
+/// Which checkpoints of a log are true, by their offsets, from the one on that it begins with, if it was
+/// carried on: that is taken at its word.
+///
+/// Refuses what a restart refuses, from there if the log begins so.
+pub fn audited_from<R: Threads + Sync>(
     rt: &R,
     alloc: Global,
     log: &ShownLog<'_>,
@@ -138,7 +141,7 @@ pub fn check<R: Threads + Sync>(
 {
     let end = end_of(rt, alloc, log)?;
     let behind = standing_behind(alloc, log.bytes, &end)?;
-    let checkpoints = checkpoints_of(rt, alloc, log)?;
+    let checkpoints = audited_from(rt, alloc, log)?;
     let found = findings_of(alloc, log.at, &end, &behind, &checkpoints)?;
     Ok(found)
 }

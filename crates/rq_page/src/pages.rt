@@ -5,7 +5,7 @@ ghost use Rattle.std.specs.Io.KnownBytes.{Appends};
 ghost use Rattle.rq_model.specs.Fronts as fronts;
 ghost use Rattle.rq_front.specs.Chains.{IsLog};
 ghost use Rattle.rq_found.specs.Ends.{IsRestartFrom};
-ghost use Rattle.rq_found.specs.Refusals.{IsBroken, IsRefusal, RefusedFrom, StaysUnshown};
+ghost use Rattle.rq_found.specs.Refusals.{IsBroken, IsRefusal, StaysUnshown};
 ghost use Rattle.rq_page.specs.Markup.{page_foot, page_head};
 
 use crate::histories::put_histories;
@@ -20,8 +20,8 @@ use crate::tables::put_queue_table;
 use crate::units::put_open;
 use rq_behind::Found;
 use rq_found::{End, Put, ShownLog, Trouble, diagnosis_of, end_after, first_state, restarted_from};
-use rq_look::{may_have_right, standing_behind};
-use rq_restart::{Fault, Restarted, audit, audit_at};
+use rq_look::{audited_from, may_have_right, standing_behind};
+use rq_restart::Restarted;
 use rq_state::State;
 use std::alloc::Global;
 use std::io::Write;
@@ -83,20 +83,6 @@ struct PageContents {
     contents: Contents,
     lives: Lives,
     all: bool,
-}
-
-// Which checkpoints are true, from the one on that the log begins with, if there is one.
-fn audited_from<R: Threads + Sync>(
-    rt: &R,
-    alloc: Global,
-    log: &ShownLog<'_>,
-) -> Result<Vec<(u64, bool)>, Fault>
-    ensures { IfErr result (RefusedFrom log.now.at log.now.bytes.now) }
-{
-    match log.at {
-        None => audit(rt, alloc, log.bytes, log.plan),
-        Some(at) => audit_at(rt, alloc, log.bytes, at, log.plan),
-    }
 }
 
 fn found_in<R: Threads + Sync>(

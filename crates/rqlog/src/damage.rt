@@ -111,7 +111,7 @@ impl fmt::Display for BadEnd {
         self.put_damage(f)?;
         f.write_str(match self.damage {
             None => ": use rqlog recover",
-            Some(_) => ": use rqlook check, rqlook mend and rqlook salvage; --drop leaves it out",
+            Some(_) => ": use rqlook check and rqlook salvage; --drop leaves it out",
         })
     }
 }

@@ -3,7 +3,6 @@
 use crate::failures::{Failure, FileTrouble, of_file};
 use crate::log_files::{read_log_file, typed_name};
 use crate::made_files::make_file;
-use crate::mended_files::mend_file;
 use crate::narrow_lines::Narrow;
 use crate::progress::{Watch, Watched};
 use crate::words::{columns_asked, records_asked, subject_asked};
@@ -172,7 +171,7 @@ fn act_on<'a, R>(
     watch: Watch,
 ) -> Result<bool, Failure>
 where
-    R: Files + Input + Print + Eprint + Clock + AllocGlobal + Threads + Sync,
+    R: Files + Print + Eprint + Clock + AllocGlobal + Threads + Sync,
     R::File: AsFd,
 {
     let file = file_of(words);
@@ -211,10 +210,6 @@ where
     let Some(plan) = plan_of(words) else {
         return Err(Failure::Workers);
     };
-    if name == "mend" {
-        let to = words.get_str("OUT").unwrap_or("-");
-        return mend_file(rt, file_of(words), to, &plan, watch);
-    }
     let mut bytes = read_log_file(rt, file_of(words), watch)?;
     watch.begins(rt, &bytes);
     let at = begins_at(&mut bytes);

@@ -83,8 +83,8 @@ fn not_made<R: AllocGlobal>(rt: &R, to: &str, error: io::Error) -> Failure {
     of_file(rt, to, FileTrouble::Stream(error))
 }
 
-/// Refuses what stands where the file is to be made, unless that gives way.
-pub(crate) fn expect_place<R>(rt: &R, to: &str, rule: &Replaces<'_>) -> Result<(), Failure>
+// Refuses what stands where the file is to be made, unless that gives way.
+fn expect_free<R>(rt: &R, to: &str, rule: &Replaces<'_>) -> Result<(), Failure>
 where
     R: Files + AllocGlobal,
 {
@@ -94,13 +94,8 @@ where
     expect_replaceable(rt, to, rule).map_err(|error| not_made(rt, to, error))
 }
 
-/// Writes what was made to the file of this name, or to standard output for `-`.
-pub(crate) fn write_made<R>(
-    rt: &R,
-    to: &str,
-    made: &[u8],
-    rule: &Replaces<'_>,
-) -> Result<bool, Failure>
+// Writes what was made to the file of this name, or to standard output for `-`.
+fn write_made<R>(rt: &R, to: &str, made: &[u8], rule: &Replaces<'_>) -> Result<bool, Failure>
 where
     R: Files + Print + AllocGlobal,
     R::File: AsFd,
@@ -126,7 +121,7 @@ where
         return Err(Failure::Same);
     }
     let rule = replaced_by(asked);
-    expect_place(rt, to, &rule)?;
+    expect_free(rt, to, &rule)?;
     let mut made = Vec::new(rt.alloc());
     match put_made(rt, asked, &mut made) {
         Ok(()) => write_made(rt, to, &made, &rule),

@@ -2,7 +2,7 @@ use Rattle.std.proofs.Common.{◌∙◌, ◌-◌, ℕ, subst, string_bytes}
 use Rattle.std.specs.List.{list_all}
 use Rattle.rq_found.specs.Diagnoses.{diagnosis_of}
 use Rattle.rq_look.specs.Findings.{findings_text, all_fine, IsBehind, may_have_right}
-use Rattle.rq_look.proofs.Scripts.{ends_within}
+use Rattle.rq_look.proofs.FrontEnds.{ends_within}
 use Rattle.rq_look.proofs.checks.check.Goals as goal
 
 pub standing_behind-requires : goal.standing_behind-requires

@@ -1,6 +1,6 @@
 use Rattle.std.proofs.Common.{◌++◌, string_bytes}
 use Rattle.rq_look.proofs.Puts.{both_put, put_last}
-use Rattle.rq_look.proofs.Scripts.{ends_within}
+use Rattle.rq_look.proofs.FrontEnds.{ends_within}
 use Rattle.rq_look.proofs.dumps.put_lines.Goals as goal
 
 pub returns-clause-last : goal.returns-clause-last

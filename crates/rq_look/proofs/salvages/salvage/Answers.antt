@@ -3,7 +3,7 @@ use Rattle.std.proofs.KnownBytes.{Appends-trans}
 use Rattle.rq_model.specs.Fronts.{Why}
 use Rattle.rq_found.specs.Ends.{is_whole}
 use Rattle.rq_look.specs.Scripts.{IsChoice}
-use Rattle.rq_look.proofs.Scripts.{ends_within}
+use Rattle.rq_look.proofs.FrontEnds.{ends_within}
 use Rattle.rq_look.proofs.salvages.salvage.Goals as goal
 
 pub put_rest-requires : goal.put_rest-requires
