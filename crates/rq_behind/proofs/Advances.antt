@@ -4,14 +4,11 @@ use Rattle.std.proofs.Common.{ap, subst, ◌∙◌, arith}
 use Rattle.std.specs.Prelude.{All, Result, Ok, Err, IfOk}
 use Rattle.std.proofs.lemmas.List.{append-nil, length-append, length-drop}
 use Rattle.std.proofs.lemmas.List.Elements.{All-append, All-nil}
-use Rattle.rq_model.specs.Records.{Version, One, Two}
-use Rattle.rq_model.specs.Frames.{IsFrameRun, Rest, before, frames, header, magic, start}
-use Rattle.rq_model.specs.LogLaws.{OneFrameRun}
-use Rattle.rq_model.proofs.Runs.{length-sha256}
-use Rattle.rq_record.specs.declared.fault.Fault.{Fault}
+use Rattle.rq_model.specs.Frames.{IsFrameRun, Rest, before, frames}
 use Rattle.rq_front.specs.Chains.{IsHeaded}
 use Rattle.rq_behind.specs.Runs.{frame_end}
 use Rattle.rq_behind.specs.Mending.{AreProved, AreProvedBefore, AreTold, MendsOn, IsToMend, IsChanged, IsFrontEnd, IsMended, IsProvedBy, IsTried, Proves, with_changes, written}
+use Rattle.rq_behind.specs.MendedFiles.{IsMendedLog}
 use Rattle.rq_behind.specs.declared.changes.Change.{Change}
 use Rattle.rq_behind.specs.declared.mending.Mending.{Mending}
 use Rattle.rq_behind.proofs.Changed.{changed_later, told_before}
@@ -167,40 +164,32 @@ end_behind b from end bodies rest inside run =
       length-append (frames (before from b) bodies) (drop end b),
     )
 
+-- a log that was not changed yet is begun where its front ends
+pub begun_at : (m : Mending) (from : ℕ) (rest : Rest) → m.changes.items ≡ [] → 40 ≤ from → from ≤ length m.bytes.items
+    → IsFrontEnd m.bytes.items from m.at rest → IsToMend m.bytes.items from m
+begun_at m from rest none after inside front = record {
+  least = m.at;
+  mended = fresh m none front.1.within;
+  after = omega (arith, after, end_behind m.bytes.items from m.at front.0 rest inside front.1);
+  front = λ headed. (rest, front);
+}
+
 -- what is told from the end of the front on
-pub told_from : (log : List ℕ) (least : ℕ) (m : Mending) → IsMended log least m → AreTold log least m.changes.items
+told_from : (log : List ℕ) (least : ℕ) (m : Mending) → IsMended log least m → AreTold log least m.changes.items
 told_from log least m h = subst (AreTold log least) (append-nil m.changes.items) (h.changed.told [] tt)
 
-pub told_all : (log : List ℕ) (least : ℕ) (m : Mending) → IsMended log least m → AreTold log 0 m.changes.items
-told_all log least m h = told_before log 0 least m.changes.items (omega arith) (told_from log least m h)
-
--- a log that was not changed yet, up to its front's end, is begun
-pub begun_at : (r : Result Mending Fault) (log : List ℕ) (from : ℕ) → OneFrameRun → 40 ≤ from
-    → IfOk r (λ m. IsMended log m.at m × (from ≤ m.at))
-    → IfOk r (λ m. (bodies : List (List ℕ)) × (rest : Rest) × IsFrameRun log from bodies m.at rest) → IfOk r (IsToMend log from)
-begun_at (Ok m) log from one after mended run = record {
-  least = m.at;
-  mended = mended.0;
-  after = omega (arith, after, mended.1);
-  front = λ headed end rest h. (one log from h.0 run.0 end m.at rest run.1 h.1 run.2).1;
-}
-begun_at (Err e) log from one after mended run = tt
-
--- a header has 40 bytes
-pub header_long : (version : Version) → length (header version) ≡ 40
-header_long One = omega (arith, length-append (magic One) (start One), length-sha256 (magic One))
-header_long Two = omega (arith, length-append (magic Two) (start Two), length-sha256 (magic Two))
-
--- what is said of a log that was mended
-pub all_mended : (log : List ℕ) (from : ℕ) (m n : Mending) → IsToMend log from m → MendsOn m n
-    → (n.bytes.items ≡ with_changes log n.changes.items) × AreTold log 0 n.changes.items
-    × AreProved log n.bytes.items n.changes.items
-    × (IsHeaded log → (end : ℕ) (rest : Rest) → IsFrontEnd log from end rest → AreTold log end n.changes.items)
-all_mended log from m n begun goes =
-    let h : IsMended log begun.least n = goes.mended log begun.least begun.mended in (
-      h.changed.same,
-      told_all log begun.least n h,
-      are_proved log n.bytes.items n.changes.items n.at h.proved,
-      λ headed end rest is. subst (λ (k : ℕ). AreTold log k n.changes.items) (sym (begun.front headed end rest is))
-          (told_from log begun.least n h),
-    )
+-- a log that was begun and went on is mended
+pub is_mended : (log : List ℕ) (from : ℕ) (m n : Mending) (end : ℕ) (rest : Rest) → IsToMend log from m → MendsOn m n
+    → IsHeaded n.bytes.items → IsFrontEnd n.bytes.items from end rest
+    → IsMendedLog log from n.bytes.items n.changes.items end rest
+is_mended log from m n end rest begun goes headed right =
+    let h : IsMended log begun.least n = goes.mended log begun.least begun.mended in
+    let told : AreTold log begun.least n.changes.items = told_from log begun.least n h in
+    record {
+      changed = h.changed.same;
+      told = told_before log 0 begun.least n.changes.items (omega arith) told;
+      proved = are_proved log n.bytes.items n.changes.items n.at h.proved;
+      headed = headed;
+      right = right;
+      front = λ it. let front = begun.front it in (begun.least, front.0, front.1, told);
+    }

@@ -92,4 +92,4 @@ pub record IsToMend (log : List ℕ) (from : ℕ) (m : Mending) : Type 0 where
   pub least : ℕ
   pub mended : IsMended log least m
   pub after : 40 ≤ m.at
-  pub front : IsHeaded log → (end : ℕ) (rest : Rest) → IsFrontEnd log from end rest → end ≡ least
+  pub front : IsHeaded log → (rest : Rest) × IsFrontEnd log from least rest

@@ -7,6 +7,7 @@ mod byte_search;
 mod changes;
 mod efforts;
 mod forms;
+mod mended_files;
 mod mended_logs;
 mod mending;
 mod places;
@@ -18,6 +19,7 @@ mod witness;
 
 pub use changes::Change;
 pub use efforts::Untried;
-pub use mended_logs::{Mended, mend};
+pub use mended_files::mend;
+pub use mended_logs::Mended;
 pub use scan::{SCANNED_LEN, Scan, first_record};
 pub use search::{Found, behind};

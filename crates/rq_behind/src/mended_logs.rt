@@ -1,25 +1,21 @@
 //! A log that is mended as far as digests prove what stood there.
 
-ghost use Rattle.std.specs.Prelude.{◌≡◌, ◌≤◌, List, ℕ, length, IfErr, IfOk};
-ghost use Rattle.rq_model.specs.Frames.{IsFrameRun, log_limit};
-ghost use Rattle.rq_model.specs.Frames as frames;
+ghost use Rattle.std.specs.Prelude.{◌≡◌, ◌≤◌, ℕ, length, IfErr, IfOk};
+ghost use Rattle.rq_model.specs.Frames.{log_limit};
 ghost use Rattle.rq_front.specs.Chains.{IsHeaded, Refused, rest_of};
-ghost use Rattle.rq_behind.specs.Mending.{AreProved, AreTold, MendsOn, IsToMend, IsFrontEnd, IsMended, IsTried, with_changes};
+ghost use Rattle.rq_behind.specs.Mending.{MendsOn, IsToMend, IsTried};
+ghost use Rattle.rq_behind.specs.MendedFiles.{IsMendedLog};
 
 use crate::changes::Change;
 use crate::efforts::{Effort, Untried};
 use crate::mending::Mending;
 use rq_front::{HEADER_LEN, LOG_LIMIT, Rest, chain, header_of, version};
-use rq_model::one_run;
 use rq_record::{Fault, Version};
 use std::alloc::{AllocError, Global};
 use std::marker::Sync;
 use std::thread::Threads;
 
-// To go along the lengths of so many bytes of frames costs no more than a block of the hash function.
-const WALKED: usize = 512;
-
-/// A log that was mended, as far as that goes.
+/// What was mended, as far as that goes.
 #[derive(Debug, Drop)]
 pub struct Mended {
     /// Its bytes.
@@ -100,8 +96,7 @@ impl Mending {
             if self.go_on(rt, alloc, grain)? {
                 return Ok(None);
             }
-            let walked = (self.bytes.len() - self.at) / WALKED;
-            if !effort.take(walked) || !self.mend_place(rt, version, &mut effort)? {
+            if !self.mend_place(rt, version, &mut effort)? {
                 return Ok(effort.untried);
             }
         }
@@ -112,7 +107,7 @@ impl Mending {
 fn with_header(alloc: Global, bytes: Vec<u8>) -> Result<Mending, Fault>
     requires lost { IsHeaded bytes.items → ⊥ }
     requires short { length bytes.items ≤ log_limit }
-    ensures mended { IfOk result (λ m. IsMended bytes.items 0 m × (40 ≤ m.at)) }
+    ensures begun { (from : ℕ) → IfOk result (IsToMend bytes.items from) }
     ensures refused { IfErr result (Refused bytes.items) }
 {
     let mut mending = Mending {
@@ -138,9 +133,7 @@ fn up_to_damage<R: Threads + Sync>(
     requires grain { 1 ≤ grain }
     requires after { 40 ≤ from }
     requires within { from ≤ length bytes.items }
-    ensures mended { IfOk result (λ m. IsMended bytes.items m.at m × (from ≤ m.at)) }
-    ensures run { IfOk result (λ m. (bodies : List (List ℕ)) × (rest : frames.Rest)
-        × IsFrameRun bytes.items from bodies m.at rest) }
+    ensures begun { IfOk result (IsToMend bytes.items from) }
     ensures refused { IfErr result (Refused bytes.items) }
 {
     let found = chain(rt, alloc, &bytes, from, grain)?;
@@ -165,7 +158,6 @@ fn begun<R: Threads + Sync>(
     ensures begun { IfOk result (IsToMend bytes.items from) }
     ensures refused { IfErr result (Refused bytes.items) }
 {
-    one_run();
     if bytes.len() > LOG_LIMIT {
         return Err(Fault::TooLong);
     }
@@ -175,17 +167,13 @@ fn begun<R: Threads + Sync>(
     }
 }
 
-/// Puts back what stood in a log where it was changed, as far as a digest proves it. Its frames begin
-/// at the offset `from`. The header is put back if the first frame is right after one. Then place
-/// after place where a frame is not right is tried: its digest, if the next frame is right after
-/// another; its length; a byte of its body, if that is not too long. It ends where nothing fits.
-///
-/// Each byte that was put back is told, with the frame whose digest proves it: that digest stands as it
-/// stood in the log. No byte of the right frames that the log begins with is changed.
+/// Mends a log whose frames begin at the offset `from`. The header is put back if the first frame is
+/// right after one. Then place after place where a frame is not right is tried, as long as something
+/// is put back.
 ///
 /// `TooLong` is returned for more than 4,294,967,295 bytes, and otherwise `NotALog` if the bytes do not
 /// begin with a header and no first frame proves one; `Resources` if memory runs out.
-pub fn mend<R: Threads + Sync>(
+pub(crate) fn mend_log<R: Threads + Sync>(
     rt: &R,
     alloc: Global,
     bytes: Vec<u8>,
@@ -195,12 +183,8 @@ pub fn mend<R: Threads + Sync>(
     requires grain { 1 ≤ grain }
     requires after { 40 ≤ from }
     requires within { 40 ≤ length bytes.items → from ≤ length bytes.items }
-    ensures changed { IfOk result (λ m. m.bytes.items ≡ with_changes bytes.items m.changes.items) }
-    ensures told { IfOk result (λ m. AreTold bytes.items 0 m.changes.items) }
-    ensures proved { IfOk result (λ m. AreProved bytes.items m.bytes.items m.changes.items) }
-    ensures right { IfOk result (λ m. IsFrontEnd m.bytes.items from m.end (rest_of m.rest)) }
-    ensures front { IfOk result (λ m. IsHeaded bytes.items → (end : ℕ) (rest : frames.Rest) →
-        IsFrontEnd bytes.items from end rest → AreTold bytes.items end m.changes.items) }
+    ensures mended { IfOk result (λ m. IsMendedLog bytes.items from m.bytes.items m.changes.items m.end
+        (rest_of m.rest)) }
     ensures refused { IfErr result (Refused bytes.items) }
 {
     let mut mending = begun(rt, alloc, bytes, from, grain)?;

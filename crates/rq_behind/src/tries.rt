@@ -29,6 +29,9 @@ const BYTES_LIMIT: usize = 8_192;
 // And of which each byte is tried by those of which one bit is another.
 const BITS_LIMIT: usize = 32_768;
 
+// To go along the lengths of so many bytes of frames costs no more than a block of the hash function.
+const WALKED: usize = 512;
+
 // How many blocks of the hash function so many tries in the place of each byte of a body take, at most.
 fn cost_of(len: usize, tries: usize) -> usize {
     let blocks = (FRAME_LEN + 32).saturating_add(len) / 64 + 1;
@@ -198,7 +201,8 @@ impl Mending {
         self.try_byte(rt, len, Others::All, effort.least)
     }
 
-    /// Tries what may be wrong with the frame at the place. Answers whether it put something back.
+    /// Tries what may be wrong with the frame at the place, and pays for the way to it from the front.
+    /// Answers whether it put something back.
     pub(crate) fn mend_place<R: Threads + Sync>(
         &mut self,
         rt: &R,
@@ -209,7 +213,8 @@ impl Mending {
         requires within { self.old.at ≤ length self.old.bytes.items }
         ensures { IfOk result (IsTried self.old self.new) }
     {
-        if self.bytes.len() - self.at < FRAME_LEN {
+        let left = self.bytes.len() - self.at;
+        if left < FRAME_LEN || !effort.take(left / WALKED) {
             return Ok(false);
         }
         if self.try_ends(version, effort)? {

@@ -9,6 +9,7 @@ use crate::progress::{Watch, Watched};
 use crate::words::{columns_asked, records_asked, subject_asked};
 use clap::ArgMatches;
 use rq_found::{Diagnosis, Fault, Plan, Seen, ShownLog, Trouble, begins_at, put_diagnosis};
+use rq_look::Findings;
 use std::alloc::{AllocError, Global};
 use std::io::{self, ErrorKind, Write};
 use std::os::fd::AsFd;
@@ -78,18 +79,26 @@ fn dump<R: AllocGlobal + Threads + Sync, W: Write>(
     }
 }
 
+/// What a check finds of a log, also of a carried one without a front.
+pub(crate) fn found_of<R: AllocGlobal + Threads + Sync>(
+    rt: &R,
+    log: &ShownLog<'_>,
+) -> Result<Findings, Trouble> {
+    match rq_look::check(rt, rt.alloc(), log) {
+        Err(trouble) if is_frontless(log, &trouble) => {
+            rq_look::check_frontless(rt.alloc(), log)
+        }
+        found => found,
+    }
+}
+
 // Prints what a check finds, unless it is to say nothing. Answers whether it finds nothing.
 fn check<R: AllocGlobal + Threads + Sync, W: Write>(
     rt: &R,
     asked: &Request<'_, '_>,
     output: &mut W,
 ) -> Result<bool, Trouble> {
-    let found = match rq_look::check(rt, rt.alloc(), &asked.log) {
-        Err(trouble) if is_frontless(&asked.log, &trouble) => {
-            rq_look::check_frontless(rt.alloc(), &asked.log)?
-        }
-        found => found?,
-    };
+    let found = found_of(rt, &asked.log)?;
     if !asked.words.get_flag("quiet") {
         let verdict = verdict_line(rt.alloc(), asked.file, found.diagnosis)?;
         print_found(found.text.as_str(), output)?;

@@ -134,7 +134,7 @@ static COMMANDS: [Subcommand; 10] = [
             Word(
                 "OUT",
                 Value(TEXT),
-                "The file of the mended log; nothing may stand there",
+                "The file of the mended log, where none may be yet, or - for standard output",
             ),
             WIDTH,
             WORKERS,

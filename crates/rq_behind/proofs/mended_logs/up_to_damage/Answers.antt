@@ -1,13 +1,15 @@
-use Rattle.std.proofs.Common.{ap, arith, length}
+use Rattle.std.proofs.Common.{ℕ, List, arith, subst}
+use Rattle.rq_model.specs.Frames.{IsFrameRun}
+use Rattle.rq_front.specs.Chains.{bodies_at, rest_of}
 use Rattle.rq_behind.specs.declared.mending.Mending.{Mending}
-use Rattle.rq_behind.proofs.Advances.{end_behind, fresh}
+use Rattle.rq_behind.proofs.Advances.{begun_at}
 use Rattle.rq_behind.proofs.mended_logs.up_to_damage.Goals as goal
 
-pub returns-clause-mended : goal.returns-clause-mended
-returns-clause-mended g c =
-    let run = c.in_ok-found.ensures.run in
-    let size = ap length c.deref.ensures.value in
-    let n : Mending = record { bytes = c.args.bytes; changes = c.new.result; at = c.in_ok-found.found.end } in (
-      fresh n c.new.ensures.items (omega (arith, run.within, size)),
-      end_behind c.deref.result.now c.args.from c.in_ok-found.found.end _ _ (omega (arith, size, c.requires.within)) run,
-    )
+pub returns-clause-begun : goal.returns-clause-begun
+returns-clause-begun g c =
+    let found = c.in_ok-found.found in
+    let bodies = bodies_at c.deref.result.now found.spans.items in
+    let run = subst (λ (b : List ℕ). IsFrameRun b c.args.from bodies found.end (rest_of found.rest)) c.deref.ensures.value
+    c.in_ok-found.ensures.run in
+    let m : Mending = record { bytes = c.args.bytes; changes = c.new.result; at = found.end } in
+    begun_at m c.args.from (rest_of found.rest) c.new.ensures.items c.requires.after c.requires.within (bodies, run)
