@@ -4,8 +4,8 @@
 usage: mending.py RQLOOK [--logs N] [--seed N] [--jobs N]
 A place is a bit or a byte of a body, a byte of a length or all of it, a byte of a digest or all of it, or bytes of the header. Each byte
 that is put back has to be the one that was there, and OUT to differ from LOG in the bytes that are told and in no other. A log that is
-damaged in one place has to come back whole, unless it is the digest of the last frame. Prints how many places came back, by kind, and at
-last `N passed, M failed`.
+damaged in one place has to come back whole, unless it is the digest of the last frame, or the header of a carried file. Prints how many
+places came back, by kind, and at last `N passed, M failed`.
 """
 from __future__ import annotations
 import argparse, collections, os, random, re, subprocess, sys, tempfile
@@ -20,7 +20,8 @@ import counting  # noqa: E402
 from behind import lawful_bodies, nested  # noqa: E402
 from common import HEADER, chained, header_of  # noqa: E402
 from counting import check  # noqa: E402
-from records import begin, commit, enqueue  # noqa: E402
+from records import begin, checkpoint, commit, enqueue, spelled  # noqa: E402
+from tables.carried import CARRIED_AT, carried_header  # noqa: E402
 
 KINDS = ("bit", "byte", "length byte", "length", "digest byte", "digest", "header")
 TOLD = re.compile(r"^at (\d+) stood (\d+), now (\d+): the digest of the frame at \d+ proves it$", re.M)
@@ -37,9 +38,13 @@ class Place(NamedTuple):
     bytes: bytes
 
 
+def is_carried(log: bytes) -> bool:
+    return log[5] == 1
+
+
 def frames_of(log: bytes) -> list[tuple[int, int]]:
     """Where each frame begins, and how many bytes its body has."""
-    found, at = [], HEADER
+    found, at = [], CARRIED_AT if is_carried(log) else HEADER
     while at < len(log):
         size = int.from_bytes(log[at:at + 4], "big")
         found.append((at, size))
@@ -48,11 +53,15 @@ def frames_of(log: bytes) -> list[tuple[int, int]]:
 
 
 def drawn_log(draw: random.Random) -> bytes:
-    """A lawful log of which nothing is open; some payloads look like logs."""
+    """A lawful log of which nothing is open, or a carried file; some payloads look like logs."""
     version = draw.choice((1, 2))
     bodies = lawful_bodies(draw, version, draw.randrange(2, 12))
     if draw.random() < 0.3:
         bodies += [begin(99), enqueue(99, 0, b"", 0, nested(draw)), commit(99)]
+    # No KILL names an element by its number there.
+    if version == 1 and draw.random() < 0.4:
+        link = draw.randbytes(32)
+        return carried_header(1) + chained(bytes(8) + link, [checkpoint(spelled((0, 0, 0, 0), [], [])), *bodies])[8:]
     return chained(header_of(version), bodies)
 
 
@@ -103,6 +112,8 @@ def comes_back(log: bytes, places: list[Place]) -> bool:
     (place,) = places
     frames = frames_of(log)
     is_last = place.frame == len(frames) - 1
+    if place.kind == "header":
+        return not is_carried(log)
     return not (place.kind in ("digest byte", "digest") and is_last) and frames[place.frame][1] <= LONGEST
 
 

@@ -19,6 +19,9 @@ const TIMES: usize = 2;
 
 const MORE: usize = 1_048_576;
 
+// How many of them the lengths may take that lead to right records, one after the other.
+const LENGTHS: usize = 4_194_304;
+
 // For so many frames of a grain, a thread takes one block more of a body.
 const GRAIN: usize = 256;
 
@@ -27,6 +30,8 @@ const GRAIN: usize = 256;
 pub(crate) struct Effort {
     /// In blocks of the hash function.
     blocks: usize,
+    /// In blocks, for lengths that lead to right records.
+    pub(crate) lengths: usize,
     /// In bytes that are looked at for the next right frame.
     pub(crate) search: usize,
     /// How many blocks of a body a thread takes, at least.
@@ -40,6 +45,7 @@ impl Effort {
     pub(crate) fn for_log(len: usize, grain: u32) -> Effort {
         Effort {
             blocks: BLOCKS,
+            lengths: LENGTHS,
             search: len.saturating_mul(TIMES).saturating_add(MORE),
             least: grain as usize / GRAIN + 1,
             untried: None,
@@ -53,6 +59,18 @@ impl Effort {
             return false;
         }
         self.blocks -= cost;
+        true
+    }
+
+    /// Takes the cost of a length that leads to a right record, in blocks; answers whether there is enough
+    /// for it. If not, there is none any more.
+    pub(crate) fn take_length(&mut self, cost: usize) -> bool {
+        if self.lengths <= cost {
+            self.lengths = 0;
+            self.untried = Some(Untried::Spent);
+            return false;
+        }
+        self.lengths -= cost;
         true
     }
 }

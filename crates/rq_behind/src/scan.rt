@@ -28,9 +28,9 @@ pub enum Scan {
     GaveUp(usize),
 }
 
-// What a place shows: that a right record stands there, or that nothing may be spent any more. None
-// if none stands there.
-fn seen_at(version: Version, bytes: &[u8], at: usize, budget: &mut usize) -> Option<Scan>
+/// What a place shows: that a right record stands there, or that nothing may be spent any more. None
+/// if none stands there.
+pub(crate) fn seen_at(version: Version, bytes: &[u8], at: usize, budget: &mut usize) -> Option<Scan>
     requires after { 32 ≤ at }
     requires within { at ≤ length bytes.now }
     ensures { MatchOption result (HasRecordAt (version_of version) bytes.now at → ⊥)

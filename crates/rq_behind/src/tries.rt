@@ -8,6 +8,7 @@ use crate::efforts::{Effort, Untried};
 use crate::mending::Mending;
 use crate::places::{SearchEnd, next_place};
 use crate::runs::{judge, length_at};
+use crate::scan::{Scan, seen_at};
 use byteorder::{BigEndian, ByteOrder};
 use rq_front::FRAME_LEN;
 use rq_record::Version;
@@ -15,6 +16,9 @@ use sha2::{Digest, Sha256};
 use std::alloc::AllocError;
 use std::marker::Sync;
 use std::thread::Threads;
+
+// The bytes of a block of the hash function (FIPS 180-4, 5.2.1).
+const BLOCK: usize = 64;
 
 // How long a body is, at most, for which another length is tried that is not led to.
 const LENGTH_LIMIT: usize = 131_072;
@@ -34,7 +38,7 @@ const WALKED: usize = 512;
 
 // How many blocks of the hash function so many tries in the place of each byte of a body take, at most.
 fn cost_of(len: usize, tries: usize) -> usize {
-    let blocks = (FRAME_LEN + 32).saturating_add(len) / 64 + 1;
+    let blocks = (FRAME_LEN + 32).saturating_add(len) / BLOCK + 1;
     blocks.saturating_mul(tries).saturating_mul(len)
 }
 
@@ -69,8 +73,7 @@ impl Mending {
         self.try_put(self.at, self.at, &len.to_be_bytes())
     }
 
-    // The length with which the frame at the place ends where the next right frame is found, or all
-    // bytes end.
+    // The length with which the frame at the place ends where the next right frame is found.
     fn try_found_length(
         &mut self,
         version: Version,
@@ -80,11 +83,54 @@ impl Mending {
         requires within { self.old.at ≤ length self.old.bytes.items }
         ensures { IfOk result (IsTried self.old self.new) }
     {
-        let end = match next_place(version, &self.bytes, self.at, &mut effort.search) {
-            SearchEnd::At(place) => place,
-            SearchEnd::Nowhere(_) => self.bytes.len(),
+        match next_place(version, &self.bytes, self.at, &mut effort.search) {
+            SearchEnd::At(place) => self.try_length(place),
+            SearchEnd::Nowhere(_) => Ok(false),
+        }
+    }
+
+    // The length with which the frame at the place ends at an offset, if a right record stands there.
+    fn try_record_length(
+        &mut self,
+        version: Version,
+        end: usize,
+        effort: &mut Effort,
+    ) -> Result<bool, AllocError>
+        requires after { 32 ≤ self.old.at }
+        requires within { self.old.at ≤ length self.old.bytes.items }
+        requires behind { self.old.at ≤ end }
+        requires end { end ≤ length self.old.bytes.items }
+        ensures { IfOk result (IsTried self.old self.new) }
+    {
+        let Some(Scan::At(_)) = seen_at(version, &self.bytes, end, &mut effort.search) else {
+            return Ok(false);
         };
+        if !effort.take_length((end - self.at) / BLOCK + 1) {
+            return Ok(false);
+        }
         self.try_length(end)
+    }
+
+    // The lengths with which it ends where a right record stands, one after the other, or where all bytes
+    // end: a body may hold what looks like records.
+    fn try_record_lengths(
+        &mut self,
+        version: Version,
+        effort: &mut Effort,
+    ) -> Result<bool, AllocError>
+        requires after { 32 ≤ self.old.at }
+        requires within { self.old.at ≤ length self.old.bytes.items }
+        ensures { IfOk result (IsTried self.old self.new) }
+    {
+        'places: for end in self.at..self.bytes.len() {
+            if self.try_record_length(version, end, effort)? {
+                return Ok(true);
+            }
+            if effort.lengths == 0 {
+                return Ok(false);
+            }
+        }
+        self.try_length(self.bytes.len())
     }
 
     // This length of the frame at the place, if it is not too long to be tried.
@@ -145,6 +191,9 @@ impl Mending {
             return Ok(true);
         }
         if self.try_found_length(version, effort)? {
+            return Ok(true);
+        }
+        if self.try_record_lengths(version, effort)? {
             return Ok(true);
         }
         self.try_lengths(effort)
@@ -213,6 +262,7 @@ impl Mending {
         requires within { self.old.at ≤ length self.old.bytes.items }
         ensures { IfOk result (IsTried self.old self.new) }
     {
+        effort.untried = None;
         let left = self.bytes.len() - self.at;
         if left < FRAME_LEN || !effort.take(left / WALKED) {
             return Ok(false);
