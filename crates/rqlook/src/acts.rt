@@ -85,9 +85,7 @@ pub(crate) fn found_of<R: AllocGlobal + Threads + Sync>(
     log: &ShownLog<'_>,
 ) -> Result<Findings, Trouble> {
     match rq_look::check(rt, rt.alloc(), log) {
-        Err(trouble) if is_frontless(log, &trouble) => {
-            rq_look::check_frontless(rt.alloc(), log)
-        }
+        Err(trouble) if is_frontless(log, &trouble) => { rq_look::check_frontless(rt.alloc(), log) }
         found => found,
     }
 }
