@@ -51,7 +51,7 @@ pub fn mend<R: Threads + Sync>(
     grain: u32,
 ) -> Result<Mended, Fault>
     requires grain { 1 ≤ grain }
-    ensures { Mends bytes.entry.items result }
+    ensures { Mends bytes.items result }
 {
     carried_headers();
     match read_as_log(&mut bytes) {

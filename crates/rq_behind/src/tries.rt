@@ -130,7 +130,8 @@ impl Mending {
                 return Ok(false);
             }
         }
-        self.try_length(self.bytes.len())
+        let end = self.bytes.len();
+        self.try_length(end)
     }
 
     // This length of the frame at the place, if it is not too long to be tried.
