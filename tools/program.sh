@@ -24,32 +24,13 @@ find_program() {
     program=$(program_of "$name" "$cpu" "$sum")
 }
 
-# Whether the words can be a line of the program, by its first word and their number: what is none starts no build.
-may_be_line() {
+# Whether the words can be a line of some command, which has two of them at least, and is no question for help: what is none starts no
+# build. All else the program judges.
+is_worth_a_build() {
     for word in "$@"; do
         case $word in --help | -h | --version) return 1 ;; esac
     done
-    case $name in
-    rq)
-        case "$# $1" in
-        '3 make' | '3 make2' | '3 audit' | '4 restart' | '4 close' | '4 upgrade' | '5 restart-at') ;;
-        *) return 1 ;;
-        esac
-        ;;
-    rqlook)
-        case $1 in
-        dump | check | report | script | salvage | stats | story | unit | page) [ $# -gt 1 ] ;;
-        *) return 1 ;;
-        esac
-        ;;
-    rqlog)
-        case $1 in
-        append | checkpoint | restart | audit) [ $# -gt 1 ] ;;
-        carry | close) [ $# -gt 2 ] ;;
-        *) return 1 ;;
-        esac
-        ;;
-    esac
+    [ $# -gt 1 ]
 }
 
 # Names the documents to whoever reads.
@@ -115,22 +96,30 @@ prove() {
     echo "$name: dist/$file has the same bytes"
 }
 
-case "$*" in
---prove)
+case "$name $*" in
+*\ --prove)
     prove
+    exit
+    ;;
+'rq --help' | 'rq -h')
+    help_of_rq
+    exit
+    ;;
+'rq --version' | 'rq -V')
+    version_of_rq
     exit
     ;;
 esac
 
 if ! find_program; then
-    may_be_line "$@" || {
+    is_worth_a_build "$@" || {
         echo "$name: usage" >&2
         tell_documents
         exit 2
     }
     build_once build_unless_found
 fi
-may_be_line "$@" || tell_documents
+is_worth_a_build "$@" || tell_documents
 export GLIBC_TUNABLES="${GLIBC_TUNABLES:-$tunables}"
 [ "$name" != rqlook ] || eval "$tell_columns"
 exec "$program" "$@"

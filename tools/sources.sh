@@ -20,6 +20,22 @@ tunables=glibc.malloc.hugetlb=1:glibc.malloc.mmap_threshold=524288:glibc.malloc.
 # shellcheck disable=SC2016,SC2034
 tell_columns='[ ! -t 1 ] || { [ -n "$COLUMNS" ] || COLUMNS=$(stty size <&3 2> /dev/null); export COLUMNS="${COLUMNS#* }"; } 3>&1'
 
+# What the script of rq says in its place, if it is asked for its help: the program itself answers `rq: usage`. The manual has it all.
+help_of_rq() {
+    awk '
+        BEGIN { line = "usage:" }
+        { gsub(/\\/, "") }
+        /^\.SH/ { part = $2; next }
+        part == "NAME" { sub(/ - /, ": "); print; print "" }
+        part == "SYNOPSIS" && /^\.br/ { print line; line = "      "; next }
+        part == "SYNOPSIS" { $1 = ""; line = line $0 }
+        END { print line; print "\nThe manual says what each does." }' "$here/docs/rq.1"
+}
+
+version_of_rq() {
+    sed -n '1s/.*"\(rq [0-9.]*\)".*/\1/p' "$here/docs/rq.1"
+}
+
 # The widest target of which the processor has every instruction: digests are checked in lanes of its vectors.
 target() {
     for flag in abm avx avx2 bmi1 bmi2 f16c fma movbe xsave; do

@@ -1,2 +1,7 @@
+mod Advances
+mod Changed
 mod Ends
+mod Files
+mod Proved
+mod Scanned
 mod Sound

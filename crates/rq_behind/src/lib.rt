@@ -3,9 +3,23 @@
 //! stands before those.
 #![tactic(auto)]
 
+mod byte_search;
+mod changes;
+mod efforts;
 mod forms;
+mod mended_files;
+mod mended_logs;
+mod mending;
 mod places;
 mod runs;
+mod scan;
 mod search;
+mod tries;
+mod witness;
 
+pub use changes::Change;
+pub use efforts::Untried;
+pub use mended_files::mend;
+pub use mended_logs::Mended;
+pub use scan::{SCANNED_LEN, Scan, first_record};
 pub use search::{Found, behind};

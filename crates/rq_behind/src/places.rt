@@ -22,8 +22,8 @@ pub(crate) enum SearchEnd {
     Nowhere(Option<usize>),
 }
 
-// Takes the cost of a digest that was made in vain from what may be spent.
-fn spend(budget: &mut usize, from: usize, end: usize) {
+/// Takes the cost of a digest that was made in vain from what may be spent.
+pub(crate) fn spend(budget: &mut usize, from: usize, end: usize) {
     let cost = end.saturating_sub(from).saturating_add(BLOCK);
     *budget = budget.saturating_sub(cost);
 }

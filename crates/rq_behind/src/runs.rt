@@ -76,9 +76,9 @@ pub(crate) fn judge(bytes: &[u8], at: usize) -> Judged
     }
 }
 
-// Where the frame at an offset ends whose body spells a record, whatever its digest; none if none
-// stands there.
-fn likely_end(version: Version, bytes: &[u8], at: usize) -> Option<usize>
+/// Where the frame at an offset ends whose body spells a record, whatever its digest; none if none
+/// stands there.
+pub(crate) fn likely_end(version: Version, bytes: &[u8], at: usize) -> Option<usize>
     requires { at ≤ length bytes.now }
     ensures { MatchOption result (LooksRight (version_of version) bytes.now at → ⊥)
         (λ end. LooksRight (version_of version) bytes.now at × (end ≡ frame_end bytes.now at)

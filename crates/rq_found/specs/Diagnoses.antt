@@ -27,7 +27,7 @@ diagnosis_text Whole name =
     codes "verdict: whole, each checkpoint is true. Next: rqlog append " ++ name
 diagnosis_text Untrue name = codes "verdict: whole, but not each checkpoint is true. Next: rqlog restart "
     ++ name
-diagnosis_text Torn name = codes "verdict: a torn end, as a crash leaves it. Next: rqlog close "
-    ++ (name ++ codes " NEW")
-diagnosis_text Damaged name =
-    codes "verdict: damaged. Next: rqlook salvage " ++ (name ++ codes " SCRIPT")
+diagnosis_text Torn name = codes "verdict: a torn end, as a crash leaves it. Next: rqlog recover "
+    ++ name
+diagnosis_text Damaged name = codes "verdict: damaged. Next: rqlook mend " ++ (name
+    ++ (codes " NEW, or rqlook salvage " ++ (name ++ codes " SCRIPT")))

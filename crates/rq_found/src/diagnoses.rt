@@ -69,8 +69,11 @@ pub fn put_diagnosis(text: &mut String, diagnosis: Diagnosis, name: &str) -> Put
         ),
         Diagnosis::Torn => write!(
             text,
-            "verdict: a torn end, as a crash leaves it. Next: rqlog close {name} NEW"
+            "verdict: a torn end, as a crash leaves it. Next: rqlog recover {name}"
         ),
-        Diagnosis::Damaged => write!(text, "verdict: damaged. Next: rqlook salvage {name} SCRIPT"),
+        Diagnosis::Damaged => write!(
+            text,
+            "verdict: damaged. Next: rqlook mend {name} NEW, or rqlook salvage {name} SCRIPT"
+        ),
     }
 }

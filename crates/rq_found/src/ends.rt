@@ -1,6 +1,7 @@
 //! Where the front of a log ends, and why.
 
-ghost use Rattle.std.specs.Prelude.{◌≡◌, ◌++◌, string_bytes, IfOk, IfErr, OnOk};
+ghost use Rattle.std.specs.Prelude.{◌≡◌, ◌++◌, string_bytes, IfOk, IfErr, OnOk, length, min};
+ghost use Rattle.rq_model.specs.Carrying.{carried_at};
 ghost use Rattle.rq_model.specs.Fronts as fronts;
 ghost use Rattle.rq_front.specs.Chains.{IsLog};
 ghost use Rattle.rq_record.specs.declared.fault.Fault.TheVariants.{Resources};
@@ -15,7 +16,7 @@ use crate::misfits::misfit_of;
 use crate::pieces::{Put, put_text_pieces};
 use crate::shown_log::ShownLog;
 use rq_catalog::Rule;
-use rq_front::{FRAME_LEN, version};
+use rq_front::{CARRIED_AT, FRAME_LEN, version};
 use rq_judged::{FrontEnd, front_end, front_end_at};
 use rq_record::{Fault, Version};
 use rq_report::why_word;
@@ -24,6 +25,9 @@ use sha2::{Digest, Sha256};
 use std::alloc::{AllocError, Global};
 use std::fmt::Write;
 use std::thread::Threads;
+
+// The most bytes of a body.
+const BODY_LIMIT: usize = 268_435_456;
 
 /// Where the front of a log ends, and why, in a sentence; and where the checkpoint stands that the
 /// log begins with, if it was carried on.
@@ -70,11 +74,11 @@ fn length_reason(alloc: Global, rest: &[u8]) -> Result<String, AllocError> {
 }
 
 // The digest of what a frame states, behind these bytes.
-fn digest_text(alloc: Global, before: &[u8], stated: &[u8]) -> Result<String, AllocError> {
+fn digest_behind(before: &[u8], stated: &[u8]) -> [u8; 32] {
     let mut hasher = Sha256::new();
     hasher.update(&before[before.len().saturating_sub(32)..]);
     hasher.update(stated);
-    hex::encode(alloc, hasher.finalize().as_slice())
+    hasher.finalize()
 }
 
 fn chain_reason(alloc: Global, before: &[u8], rest: &[u8]) -> Result<String, AllocError> {
@@ -82,7 +86,7 @@ fn chain_reason(alloc: Global, before: &[u8], rest: &[u8]) -> Result<String, All
         return cut_reason(alloc, rest);
     };
     let stated = hex::encode(alloc, frame.digest)?;
-    let digest = digest_text(alloc, before, frame.stated)?;
+    let digest = hex::encode(alloc, digest_behind(before, frame.stated).as_slice())?;
     format!(in alloc; "the digest is {stated}, and that of the bytes {digest}")
 }
 
@@ -215,6 +219,48 @@ pub fn end_of<R: Threads + Sync>(rt: &R, alloc: Global, log: &ShownLog<'_>) -> R
     let (end, rule) = ruled_end(rt, alloc, log)?;
     let told = told(alloc, log, &end, rule)?;
     Ok(told)
+}
+
+// Why no checkpoint that is right and spells a state stands between these bytes and the rest.
+fn missing_checkpoint(
+    alloc: Global,
+    before: &[u8],
+    rest: &[u8],
+) -> Result<(Why, String), AllocError> {
+    let len = stated_length(rest).unwrap_or(1);
+    if len == 0 || len > BODY_LIMIT {
+        return Ok((Why::Length, length_reason(alloc, rest)?));
+    }
+    let Some((frame, _)) = first_frame(rest) else {
+        return Ok((Why::Cut, cut_reason(alloc, rest)?));
+    };
+    let digest = digest_behind(before, frame.stated);
+    if digest.as_slice() == frame.digest {
+        let reason = String::from_str(alloc, "no checkpoint stands there that spells a state")?;
+        return Ok((Why::Form, reason));
+    }
+    Ok((Why::Chain, chain_reason(alloc, before, rest)?))
+}
+
+/// Where the front of a carried log ends, as it is read, which a restart refuses for its first
+/// checkpoint: where that would begin, behind no record.
+pub fn end_without_front(alloc: Global, log: &ShownLog<'_>) -> Result<End, AllocError>
+    ensures beginning { IfOk result (λ end. end.at ≡ log.now.at) }
+    ensures none { IfOk result (λ end. end.records ≡ 0) }
+    ensures used { IfOk result (λ end. end.used ≡ min carried_at (length log.now.bytes.now)) }
+    ensures total { IfOk result (λ end. end.total ≡ length log.now.bytes.now) }
+{
+    let used = CARRIED_AT.min(log.bytes.len());
+    let (before, rest) = log.bytes.split_at(used);
+    let (why, reason) = missing_checkpoint(alloc, before, rest)?;
+    Ok(End {
+        at: log.at,
+        records: 0,
+        used: used as u64,
+        total: log.bytes.len() as u64,
+        why,
+        reason,
+    })
 }
 
 /// Puts with which checkpoint a log begins that was carried on; of another, nothing.

@@ -1,6 +1,8 @@
 //! The end of a front as JSON.
 
-ghost use Rattle.std.specs.Prelude.{◌≡◌};
+ghost use Rattle.std.specs.Prelude.{◌≡◌, string_bytes};
+ghost use Rattle.rq_model.specs.Reports.{why_text};
+ghost use Rattle.rq_judged.specs.Views.{why_of};
 
 use crate::ends::End;
 use rq_report::why_word;
@@ -33,6 +35,8 @@ pub fn front_shown(end: &End) -> FrontShown<'_>
     ensures records { result.records ≡ end.now.records }
     ensures used { result.used ≡ end.now.used }
     ensures total { result.total ≡ end.now.total }
+    ensures why { result.why.now ≡ why_text (why_of end.now.why) }
+    ensures reason { result.reason.now ≡ string_bytes end.now.reason }
 {
     FrontShown {
         carried_at: end.at,

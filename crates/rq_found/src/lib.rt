@@ -18,7 +18,9 @@ mod shown_log;
 mod trouble;
 
 pub use diagnoses::{Diagnosis, diagnosis_of, put_diagnosis};
-pub use ends::{End, end_after, end_of, form_reason, is_whole, put_beginning, put_end};
+pub use ends::{
+    End, end_after, end_of, end_without_front, form_reason, is_whole, put_beginning, put_end,
+};
 pub use events::{Effect, Event};
 pub use followed_queues::FollowedQueues;
 pub use frames::{Placed, PlacedFrames};

@@ -32,7 +32,9 @@ impl Numbered {
     pub fn of(alloc: Global, placed: Placed<'_>, queues: u32) -> Result<Numbered, Fault>
         ensures spelled { IfOk result
             (λ it. Spells Two (record_of it.record) placed.entry.body.now) }
+        ensures offset { IfOk result (λ it. it.offset ≡ placed.entry.offset) }
         ensures number { IfOk result (λ it. it.number ≡ placed.entry.number) }
+        ensures queues { IfOk result (λ it. it.queues ≡ queues) }
         ensures refused { IfErr result (λ e. e ≡ Resources) }
     {
         // Each body of a front is a record, so memory alone is refused.

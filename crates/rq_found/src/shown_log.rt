@@ -1,18 +1,19 @@
 //! A log that is shown: where its records begin, and its restart from there.
 
 ghost use Rattle.std.specs.Prelude.{◌≡◌, ℕ, List, Some, None, IfOk, IfErr, IfSome, IfNone};
-ghost use Rattle.std.specs.Prelude.{OnOk, drop, take};
-ghost use Rattle.rq_model.specs.Carrying.{carried_gap};
+ghost use Rattle.std.specs.Prelude.{OnOk};
+ghost use Rattle.rq_model.specs.Carrying.{HasCarriedHeader, as_log, carried_at};
 ghost use Rattle.rq_model.specs.Checkpoints.{IsCheckpointAt};
+ghost use Rattle.rq_model.specs.Records.{Version};
 ghost use Rattle.rq_model.specs.States.{empty};
 ghost use Rattle.rq_record.specs.declared.fault.Fault.TheVariants.{Resources};
-ghost use Rattle.rq_front.specs.Chains.{IsHeaded, IsLog};
+ghost use Rattle.rq_front.specs.Chains.{IsCarried, IsLog};
 ghost use Rattle.rq_found.specs.Ends.{IsRestartFrom};
 ghost use Rattle.rq_found.specs.Refusals.{RefusedFrom};
 ghost use Rattle.rq_found.specs.Records.{SpelledIn, StandFrom, front_at};
 
 use crate::frames::{PlacedFrames, first_frame};
-use rq_front::{CARRIED_AT, HEADER_LEN, is_carried, version};
+use rq_front::{CARRIED_AT, HEADER_LEN, read_as_log, version};
 use rq_record::Fault;
 use rq_restart::{Open, Plan, Restarted, restart, restart_at};
 use rq_state::{State, read_in};
@@ -22,7 +23,7 @@ use std::thread::Threads;
 /// A log that is shown, and how its records are read.
 #[derive(Clone, Copy)]
 pub struct ShownLog<'a> {
-    /// Its bytes.
+    /// Its bytes; those of a carried file as they are read, with the header of a log.
     pub bytes: &'a [u8],
     /// The offset of the checkpoint that it begins with, if it was carried on.
     pub at: Option<u64>,
@@ -30,18 +31,16 @@ pub struct ShownLog<'a> {
     pub plan: &'a Plan,
 }
 
-/// Where the first frame of a log stands that was carried on into a file of its own: a checkpoint.
-/// Of any other log there is none.
-pub fn begins_at(bytes: &[u8]) -> Option<u64>
-    ensures some { IfSome result (λ at. (at ≡ 96) × IsHeaded bytes.now
-        × (take 24 (drop 40 bytes.now) ≡ carried_gap)) }
-    ensures none { IfNone result
-        (IsHeaded bytes.now × (take 24 (drop 40 bytes.now) ≡ carried_gap) → ⊥) }
+/// Makes of a carried file the log as which it is read, and answers where the checkpoint stands with
+/// which it begins. Of any other bytes there is none, and they stay as they are.
+pub fn begins_at(bytes: &mut [u8]) -> Option<u64>
+    ensures some { IfSome result (λ at. (at ≡ carried_at) × ((version : Version)
+        × HasCarriedHeader version bytes.old × (bytes.new ≡ as_log version bytes.old))) }
+    ensures none { IfNone result ((IsCarried bytes.old → ⊥) × (bytes.new ≡ bytes.old)) }
 {
-    if is_carried(bytes) {
-        Some(CARRIED_AT as u64)
-    } else {
-        None
+    match read_as_log(bytes) {
+        Some(_) => Some(CARRIED_AT as u64),
+        None => None,
     }
 }
 

@@ -1,22 +1,39 @@
 -- The parts of the frame at an offset, and what its digest is taken over.
 use Rattle.std.proofs.Common.{◌≡◌, ℕ, ◌+◌, ◌-◌, ◌≤◌, false, ltb, List, ◌++◌, length, take, drop, refl, sym}
-use Rattle.std.proofs.Common.{ap, ◌∙◌, arith}
+use Rattle.std.proofs.Common.{ap, ◌∙◌, append_assoc, arith}
+use borrow.Rule.Slice.PartMut.{put_mid}
 use Rattle.std.specs.Int.{w32, to_be_bytes}
 use Rattle.std.specs.Prelude.{◌↔◌, slice_range}
 use Rattle.std.proofs.lemmas.Bool.{le-ltb}
-use Rattle.std.proofs.lemmas.List.{length-take, length-drop, drop-drop}
+use Rattle.std.proofs.lemmas.List.{length-take, length-drop, drop-drop, drop_at, take_at}
 use Rattle.std.proofs.Math.Seq.{take-add}
 use Rattle.sha2.specs.Sha256.{sha256}
 use Rattle.rq_bytes.specs.Readers.{IsBytes}
 use Rattle.rq_bytes.proofs.Single.{reads_u32, IsBytes-drop}
 use Rattle.rq_model.specs.Records.{Version, One, Two}
 use Rattle.rq_model.specs.Frames.{stated, body_in, digest_in, HasFrame, HasRightFrame, HasHeader, before, magic}
+use Rattle.rq_model.specs.Carrying.{HasCarriedHeader, carried_magic}
 use Rattle.rq_model.proofs.Runs.{length-sha256}
 
 -- bytes that begin with the header are at least 40
 pub log_long : (version : Version) (b : List ℕ) → HasHeader version b → 40 ≤ length b
 log_long One b e = omega (arith, ap length e, length-take 40 b, length-sha256 (magic One))
 log_long Two b e = omega (arith, ap length e, length-take 40 b, length-sha256 (magic Two))
+
+-- and so are those that begin with the header of a carried file
+pub file_long : (version : Version) (b : List ℕ) → HasCarriedHeader version b → 40 ≤ length b
+file_long One b e = omega (arith, ap length e, length-take 40 b, length-sha256 (carried_magic One))
+file_long Two b e = omega (arith, ap length e, length-take 40 b, length-sha256 (carried_magic Two))
+
+-- eight bytes and their digest in place of the first 40
+pub put_header : (magic first last b : List ℕ) → length magic ≡ 8 → first ≡ magic → last ≡ sha256 magic
+    → put_mid 8 32 (first ++ drop 8 b) last ≡ (magic ++ sha256 magic) ++ drop 40 b
+put_header magic first last b long is digest_is =
+    let size : length first ≡ 8 = ap length is ∙ long in
+    let front : take 8 (first ++ drop 8 b) ≡ magic = take_at first (drop 8 b) 8 size ∙ is in
+    let rest : drop 32 (drop 8 (first ++ drop 8 b)) ≡ drop 40 b =
+    ap (drop 32) (drop_at first (drop 8 b) 8 size) ∙ drop-drop 32 8 b in
+    (λ i. front i ++ (digest_is i ++ rest i)) ∙ sym (append_assoc magic (sha256 magic) (drop 40 b))
 
 pub body_long : (bytes : List ℕ) → HasFrame bytes → length (body_in bytes) ≡ stated bytes
 body_long bytes frame = omega (arith, length-take (stated bytes) (drop 4 bytes), length-drop 4 bytes, frame.room)

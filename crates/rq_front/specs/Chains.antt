@@ -3,6 +3,7 @@ use Rattle.std.specs.Prelude.{ℕ, ◌+◌, ◌<◌, ◌≤◌, List, [], ◌∷
 use Rattle.rq_model.specs.Records.{Version}
 use Rattle.rq_model.specs.Frames as model
 use Rattle.rq_model.specs.Frames.{HasHeader, log_limit}
+use Rattle.rq_model.specs.Carrying.{HasCarriedHeader}
 use Rattle.rq_front.specs.declared.spans.Span.{Span}
 use Rattle.rq_front.specs.declared.spans.Rest.{Rest}
 use Rattle.rq_front.specs.declared.spans.Rest.TheVariants.{Whole, Cut, Length, Digest}
@@ -32,6 +33,10 @@ rest_of Digest = model.Digest
 -- the bytes begin with a header
 abbrev pub IsHeaded : List ℕ → Type 0
 IsHeaded b = (version : Version) × HasHeader version b
+
+-- the bytes begin as a carried file
+abbrev pub IsCarried : List ℕ → Type 0
+IsCarried b = (version : Version) × HasCarriedHeader version b
 
 -- the bytes are a log: no longer than one may be, and with a header
 abbrev pub IsLog : List ℕ → Type 0

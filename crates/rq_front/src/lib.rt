@@ -1,16 +1,19 @@
-//! The header and the frames of a log: how they are written, and the longest run of right ones.
+//! The header and the frames of a log, or of a carried file: how they are written, and the longest run
+//! of right ones.
 #![tactic(auto)]
 
+mod carried_headers;
 mod chains;
 mod digests;
-mod gaps;
 mod headers;
 mod lengths;
 mod spans;
 mod writers;
 
+pub use carried_headers::{
+    CARRIED_AT, carried_header_of, is_carried, read_as_log, write_as_carried,
+};
 pub use chains::{chain, log_version, walk};
-pub use gaps::{CARRIED_AT, carried_gap, is_carried};
 pub use headers::version;
 pub use spans::{Chain, Rest, Span, Walk};
 pub use writers::{frame, header, header_of};

@@ -1,6 +1,7 @@
 //! The bytes of a log.
 
-ghost use Rattle.std.specs.Prelude.{length};
+ghost use Rattle.std.specs.Prelude.{◌++◌, length};
+ghost use Rattle.sha2.specs.Sha256.{sha256};
 ghost use Rattle.rq_model.specs.Records.{One};
 ghost use Rattle.rq_model.specs.Frames.{IsBodyLength};
 ghost use Rattle.rq_model.specs.Frames as frames;
@@ -13,19 +14,27 @@ use byteorder::{BigEndian, ByteOrder};
 use rq_record::{Fault, Version};
 use sha2::{Digest, Sha256};
 
-/// Appends the header of a log of this version: `RQLOG`, two zero bytes, the version, and the
-/// SHA-256 (FIPS 180-4) of these 8 bytes.
+/// Appends 8 bytes and their SHA-256 (FIPS 180-4).
+///
+/// `Resources` is returned if memory runs out; `out` is then as before.
+pub(crate) fn put_magic(magic: [u8; 8], out: &mut Vec<u8>) -> Result<(), Fault>
+    ensures { Appends out.old.items out.new.items (magic ++ sha256 magic) result }
+{
+    out.reserve(HEADER_LEN)?;
+    let digest = Sha256::digest(magic);
+    out.extend_from_slice(&magic).unwrap();
+    out.extend_from_slice(&digest).unwrap();
+    Ok(())
+}
+
+/// Appends the header of a log of this version: `RQLOG`, two zero bytes, the version, and the SHA-256
+/// of these 8 bytes.
 ///
 /// `Resources` is returned if memory runs out; `out` is then as before.
 pub fn header_of(version: Version, out: &mut Vec<u8>) -> Result<(), Fault>
     ensures { Appends out.old.items out.new.items (frames.header (version_of version)) result }
 {
-    out.reserve(HEADER_LEN)?;
-    let magic = magic(version);
-    let digest = Sha256::digest(magic);
-    out.extend_from_slice(&magic).unwrap();
-    out.extend_from_slice(&digest).unwrap();
-    Ok(())
+    put_magic(magic(version), out)
 }
 
 /// Appends the header of a log of version 1: `header_of` of that version.

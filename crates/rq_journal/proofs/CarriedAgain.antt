@@ -4,13 +4,14 @@ use Rattle.std.specs.Prelude.{Result, Ok, Err}
 use Rattle.std.specs.Global.{Vec}
 use Rattle.std.proofs.lemmas.List.{drop-append-le, length-drop, length-take}
 use Rattle.rq_model.specs.Records.{Record, Checkpoint, Version}
-use Rattle.rq_model.specs.Frames.{header, start, frame, bodies_of, last_of, before, body_in}
+use Rattle.rq_model.specs.Frames.{start, frame, frames_of, bodies_of, last_of, before, body_in}
 use Rattle.rq_model.specs.LogLaws.{BytesSpellOneState}
 use Rattle.rq_model.specs.States.{State, empty}
 use Rattle.rq_model.specs.Machine.{run}
 use Rattle.rq_model.specs.StateSpelling.{state_bytes, SpellsState}
 use Rattle.rq_model.specs.Appending.{MayFollow}
-use Rattle.rq_model.specs.Carrying.{carried_gap, StartsAnew, GapIsLoud, IsCarriedGap, FilesJoin}
+use Rattle.rq_model.specs.Fronts.{IsLongest}
+use Rattle.rq_model.specs.Carrying.{IsFrontAt, carried_at, carried_file, as_log, StartsAnew, IsNoLog, ReadsAsLog, FilesJoin}
 use Rattle.rq_model.proofs.Runs.{last_at_end}
 use Rattle.rq_model.proofs.Longest.{last_of_join}
 use Rattle.rq_model.proofs.Restarts.{both_follow, run_join, spelt_after}
@@ -25,7 +26,7 @@ use Rattle.rq_journal.specs.Checkpoints.{HasNoCheckpointOf, IsCheckpointOf}
 use Rattle.rq_journal.specs.Carries.{BeginsFile, CarriesAgain, IsBegunIn, IsCarriedAgain, IsCarriedState, JoinsBehind, StaysThere}
 use Rattle.rq_journal.proofs.CarriedOn.{begun_in}
 
-module _ (b : List ℕ) (f : RedoneFront) (h : IsRedoneAt b 96 f) where
+module _ (b : List ℕ) (f : RedoneFront) (h : IsRedoneAt b carried_at f) where
   abbrev version : Version
   version = version_of f.version
 
@@ -33,7 +34,7 @@ module _ (b : List ℕ) (f : RedoneFront) (h : IsRedoneAt b 96 f) where
   xs = Checkpoint h.kept ∷ h.after
 
   abbrev link : List ℕ
-  link = last_of (before 96 b) xs
+  link = last_of (before carried_at b) xs
 
   abbrev state : State
   state = run h.base xs
@@ -49,22 +50,25 @@ module _ (b : List ℕ) (f : RedoneFront) (h : IsRedoneAt b 96 f) where
 
   long : length link ≡ 32
   long =
-      let p_long : length (before 96 b) ≡ 32 =
+      let p_long : length (before carried_at b) ≡ 32 =
       omega (
         arith,
-        length-take 32 (drop (96 - 32) b),
-        length-drop (96 - 32) b,
-        length-drop 96 b,
+        length-take 32 (drop (carried_at - 32) b),
+        length-drop (carried_at - 32) b,
+        length-drop carried_at b,
         h.front.checkpoint.frame.whole.room,
       ) in
-      (last_at_end [] (before 96 b) (bodies_of xs) p_long).2
+      (last_at_end [] (before carried_at b) (bodies_of xs) p_long).2
 
   -- the checkpoint that the file begins with is read again, whatever stands behind it
-  joins : BytesSpellOneState → FilesJoin → (new : List ℕ) → IsBegunIn version link state new → (records : List Record)
-      → MayFollow version empty records → before 96 b ≡ last_of (start version) records
+  joins : BytesSpellOneState → ReadsAsLog → FilesJoin → (new : List ℕ) → IsBegunIn version link state new
+      → (records : List Record) → MayFollow version empty records → before carried_at b ≡ last_of (start version) records
       → SpellsState version (run empty records) h.kept → JoinsBehind version (records ++ xs) new
-  joins one join new begun records old linked spelled = λ more s kept after left at.
+  joins one reads join new begun records old linked spelled = λ more s kept after left read.
       let all : List Record = records ++ xs in
+      let log = as_log version new in
+      let grown : as_log version (new ++ more) ≡ log ++ more = reads.more version new more begun.headed in
+      let at = subst (λ (z : List ℕ). IsFrontAt z carried_at version s kept after left) grown read in
       let base_is : h.base ≡ run empty records =
       one version version h.base (run empty records) h.kept h.front.spells spelled in
       let follow = both_follow version empty records xs old (subst (λ (z : State). MayFollow version z xs) base_is may) in
@@ -72,24 +76,27 @@ module _ (b : List ℕ) (f : RedoneFront) (h : IsRedoneAt b 96 f) where
       let link_is : link ≡ last_of (start version) all =
       ap (λ (z : List ℕ). last_of z xs) linked ∙ sym (last_of_join (start version) records xs) in
       let first = begun.there.checkpoint in
-      let high : 96 ≤ length new = omega (arith, first.frame.whole.room, length-drop 96 new) in
-      let ahead : before 96 (new ++ more) ≡ link = part_more new more 64 32 (omega (arith, high)) ∙ begun.linked in
+      let high : carried_at ≤ length log = omega (arith, first.frame.whole.room, length-drop carried_at log) in
+      let ahead : before carried_at (log ++ more) ≡ link = part_more log more 40 32 (omega (arith, high)) ∙ begun.linked in
       let kept_is : kept ≡ state_bytes state =
       ap (drop 1)
-      (sym at.checkpoint.body ∙ ap body_in (drop-append-le 96 new more high)
-      ∙ (frame_more (drop 96 new) more first.frame.whole).body ∙ first.body) in
+      (sym at.checkpoint.body ∙ ap body_in (drop-append-le carried_at log more high)
+      ∙ (frame_more (drop carried_at log) more first.frame.whole).body ∙ first.body) in
       let spells = subst (SpellsState version state) (sym kept_is) begun.there.spells in
-      join (new ++ more) 96 version s kept all after left follow at (ahead ∙ link_is)
-      (subst (λ (z : State). SpellsState version z kept) state_is spells)
+      let joined = join (log ++ more) carried_at version s kept all after left follow at (ahead ∙ link_is)
+      (subst (λ (z : State). SpellsState version z kept) state_is spells) in (
+        subst (λ (z : List ℕ). IsLongest version empty (start version) (frames_of (start version) all ++ drop carried_at z)
+            (all ++ Checkpoint kept ∷ after) left) (sym grown) joined.0,
+        joined.1,
+      )
 
   carried_again : (new body : List ℕ) → f.state.next ≤ 4294967295 → IsCheckpointOf f.state body → BytesSpellOneState
-      → StartsAnew → GapIsLoud → IsCarriedGap → FilesJoin
-      → new ≡ header version ++ (carried_gap ++ (f.last ++ frame f.last body)) → IsCarriedAgain b new
-  carried_again new body low is one starts loud gap join new_is =
+      → StartsAnew → IsNoLog → ReadsAsLog → FilesJoin → new ≡ carried_file version f.last (frame f.last body)
+      → IsCarriedAgain b new
+  carried_again new body low is one starts apart reads join new_is =
       let here = subst (λ (z : State). IsCheckpointOf z body) h.state is in
-      let all = new_is
-      ∙ ap (λ (z : List ℕ). header version ++ (carried_gap ++ (z ++ frame z body))) h.last in
-      let begun = begun_in version link state body long here (spelt low) starts loud gap new all in
+      let all = new_is ∙ ap (λ (z : List ℕ). carried_file version z (frame z body)) h.last in
+      let begun = begun_in version link state body long here (spelt low) starts apart reads new all in
       record {
         version = version;
         base = h.base;
@@ -98,15 +105,15 @@ module _ (b : List ℕ) (f : RedoneFront) (h : IsRedoneAt b 96 f) where
         rest = drop f.used b;
         front = h.front;
         begun = begun;
-        joins = joins one join new begun;
+        joins = joins one reads join new begun;
       }
 
   pub carries_again : (body : List ℕ) → f.state.next ≤ 4294967295 → IsCheckpointOf f.state body
-      → (result : Result (Vec ℕ) Fault) → BytesSpellOneState → StartsAnew → GapIsLoud → IsCarriedGap → FilesJoin
+      → (result : Result (Vec ℕ) Fault) → BytesSpellOneState → StartsAnew → IsNoLog → ReadsAsLog → FilesJoin
       → BeginsFile version f.last body result → CarriesAgain b result
-  carries_again body low is (Ok v) one starts loud gap join begun =
-      carried_again v.items body low is one starts loud gap join begun
-  carries_again body low is (Err e) one starts loud gap join begun = subst (StaysThere b) (sym begun) tt
+  carries_again body low is (Ok v) one starts apart reads join begun =
+      carried_again v.items body low is one starts apart reads join begun
+  carries_again body low is (Err e) one starts apart reads join begun = subst (StaysThere b) (sym begun) tt
 
   state_of : IsCarriedState b f.state
   state_of = record {
@@ -127,7 +134,7 @@ module _ (b : List ℕ) (f : RedoneFront) (h : IsRedoneAt b 96 f) where
   no_checkpoint _ none = absurd none
 
 -- nor is a log that is refused
-pub refused_again : (b : List ℕ) (e : Fault) → RefusedAt b 96 e → StaysThere b e
+pub refused_again : (b : List ℕ) (e : Fault) → RefusedAt b carried_at e → StaysThere b e
 refused_again b faults.TooLong refused = inl refused
 refused_again b faults.TooLarge refused = absurd refused
 refused_again b faults.Resources refused = tt

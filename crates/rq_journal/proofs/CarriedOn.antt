@@ -1,18 +1,18 @@
 -- A log that goes on from the front of another.
-use Rattle.std.proofs.Common.{◌≡◌, ℕ, ◌-◌, ◌<◌, ◌≤◌, List, [], ◌∷◌, ◌++◌, length, drop, refl, sym, ap, subst}
+use Rattle.std.proofs.Common.{◌≡◌, ℕ, ◌<◌, ◌≤◌, List, [], ◌∷◌, ◌++◌, length, drop, refl, sym, ap, subst}
 use Rattle.std.proofs.Common.{◌∙◌, arith}
 use Rattle.std.specs.Prelude.{Result, Ok, Err}
 use Rattle.std.specs.Global.{Vec}
 use Rattle.std.proofs.lemmas.List.{append-nil, length-append}
 use Rattle.rq_model.specs.Records.{Record, Checkpoint, Version}
 use Rattle.rq_model.specs.Spelling.{body_of}
-use Rattle.rq_model.specs.Frames.{log_limit, header, start, frame, frames_of, last_of, Length}
+use Rattle.rq_model.specs.Frames.{log_limit, header, start, frame, frames_of, last_of}
 use Rattle.rq_model.specs.LogLaws.{FrontsAreSpelt}
 use Rattle.rq_model.specs.States.{State, empty}
 use Rattle.rq_model.specs.Machine.{run}
 use Rattle.rq_model.specs.StateSpelling.{state_bytes, SpellsState}
-use Rattle.rq_model.specs.Fronts.{IsFront, IsRestart, Ends, restarted}
-use Rattle.rq_model.specs.Carrying.{begun_anew, carried_gap, StartsAnew, GapIsLoud, IsCarriedGap, AnewJoins}
+use Rattle.rq_model.specs.Fronts.{IsFront}
+use Rattle.rq_model.specs.Carrying.{carried_file, as_log, begun_anew, StartsAnew, IsNoLog, ReadsAsLog, AnewJoins}
 use Rattle.rq_model.proofs.Runs.{frame_long}
 use Rattle.rq_model.proofs.Longest.{log_ends}
 use Rattle.rq_model.proofs.Restarts.{header_long}
@@ -26,20 +26,19 @@ use Rattle.rq_journal.specs.Carries.{BeginsFile, IsBegunIn, IsCarriedOn, StaysHe
 use Rattle.rq_journal.proofs.WithCheckpoint.{next_fits}
 
 -- how long it is
-anew_short : (version : Version) (p : List ℕ) (s : State) → length p ≡ 32 → length (state_bytes s) ≤ 268435455
-    → length (begun_anew version p s carried_gap) ≤ log_limit
-anew_short version p s long small =
+anew_short : ReadsAsLog → (version : Version) (p : List ℕ) (s : State) → length p ≡ 32
+    → length (state_bytes s) ≤ 268435455 → length (begun_anew version p s) ≤ log_limit
+anew_short reads version p s long small =
     let body = body_of (Checkpoint (state_bytes s)) in
     let f = frames_of p (Checkpoint (state_bytes s) ∷ []) in
-    let gap_long : length carried_gap ≡ 24 = refl in
     omega (
       arith,
       small,
       long,
-      gap_long,
+      reads.size version (begun_anew version p s) (reads.headed version p f),
+      ap length (reads.whole version p f),
       header_long version,
-      length-append (header version) (carried_gap ++ (p ++ f)),
-      length-append carried_gap (p ++ f),
+      length-append (header version) (p ++ f),
       length-append p f,
       length-append (frame p body) [],
       frame_long p body,
@@ -49,30 +48,24 @@ anew_short version p s long small =
 module _ (version : Version) (p : List ℕ) (s : State) (body : List ℕ) (long : length p ≡ 32) (is : IsCheckpointOf s body)
     (spelt : SpellsState version s (state_bytes s)) where
   abbrev anew : List ℕ
-  anew = begun_anew version p s carried_gap
+  anew = begun_anew version p s
 
-  whole : header version ++ (carried_gap ++ (p ++ frame p body)) ≡ anew
-  whole = ap (λ (z : List ℕ). header version ++ (carried_gap ++ (p ++ z)))
+  whole : carried_file version p (frame p body) ≡ anew
+  whole = ap (carried_file version p)
       (ap (frame p) is.bytes ∙ sym (append-nil (frame p (body_of (Checkpoint (state_bytes s))))))
 
-  loud : GapIsLoud → IsCarriedGap → IsRestart anew (restarted empty (length anew - 40) (length anew) (Ends Length))
-  loud law gap =
-      let bytes : List ℕ = p ++ frames_of p (Checkpoint (state_bytes s) ∷ []) in
-      let rest : length (carried_gap ++ bytes) ≡ length anew - 40 =
-      omega (arith, length-append (header version) (carried_gap ++ bytes), header_long version) in
-      subst (λ (n : ℕ). IsRestart anew (restarted empty n (length anew) (Ends Length))) rest
-      (law version carried_gap bytes gap.room gap.loud (anew_short version p s long is.small))
-
-  pub begun_in : StartsAnew → GapIsLoud → IsCarriedGap → (new : List ℕ)
-      → new ≡ header version ++ (carried_gap ++ (p ++ frame p body)) → IsBegunIn version p s new
-  begun_in starts loud_law gap new new_is =
-      let made = starts version p s carried_gap long spelt is.small (anew_short version p s long is.small) in
+  pub begun_in : StartsAnew → IsNoLog → ReadsAsLog → (new : List ℕ) → new ≡ carried_file version p (frame p body)
+      → IsBegunIn version p s new
+  begun_in starts apart reads new new_is =
+      let made = starts version p s (as_log version anew) long spelt is.small (anew_short reads version p s long is.small) refl in
+      let head = reads.headed version p (frames_of p (Checkpoint (state_bytes s) ∷ [])) in
       subst (IsBegunIn version p s) (sym (new_is ∙ whole)) (record {
         bytes = refl;
+        headed = head;
         linked = made.1;
         there = made.0;
         restart = made.2;
-        loud = loud loud_law gap;
+        apart = λ log. apart.headed version log.0 anew head log.1;
       })
 
 -- a log whose state has no checkpoint is not carried
@@ -103,13 +96,12 @@ module _ (b : List ℕ) (f : RedoneFront) (body : List ℕ) (h : IsRedoneFront b
   spelt_here law = law b version h.records [] (drop f.used b)
       (subst (λ (z : List Record). IsFront b version z (drop f.used b)) (sym (append-nil h.records)) h.front)
 
-  pub carried_on : (new : List ℕ) → FrontsAreSpelt → StartsAnew → GapIsLoud → IsCarriedGap → AnewJoins
-      → new ≡ header version ++ (carried_gap ++ (f.last ++ frame f.last body)) → IsCarriedOn b new
-  carried_on new law starts loud_law gap join new_is =
+  pub carried_on : (new : List ℕ) → FrontsAreSpelt → StartsAnew → IsNoLog → ReadsAsLog → AnewJoins
+      → new ≡ carried_file version f.last (frame f.last body) → IsCarriedOn b new
+  carried_on new law starts apart reads join new_is =
       let here = subst (λ (z : State). IsCheckpointOf z body) h.state is in
-      let all = new_is
-      ∙ ap (λ (z : List ℕ). header version ++ (carried_gap ++ (z ++ frame z body))) h.last in
-      let begun = begun_in version link state body (log_ends version h.records).2 here (spelt_here law) starts loud_law gap
+      let all = new_is ∙ ap (λ (z : List ℕ). carried_file version z (frame z body)) h.last in
+      let begun = begun_in version link state body (log_ends version h.records).2 here (spelt_here law) starts apart reads
       new all in
       record {
         version = version;
@@ -117,11 +109,11 @@ module _ (b : List ℕ) (f : RedoneFront) (body : List ℕ) (h : IsRedoneFront b
         rest = drop f.used b;
         front = h.front;
         begun = begun;
-        joins = λ more s kept after left at. join b (new ++ more) more version h.records (drop f.used b) carried_gap
+        joins = λ more s kept after left at. join b (new ++ more) more version h.records (drop f.used b)
             s kept after left h.front here.small (ap (λ (z : List ℕ). z ++ more) begun.bytes) at;
       }
 
-  pub carries : (result : Result (Vec ℕ) Fault) → FrontsAreSpelt → StartsAnew → GapIsLoud → IsCarriedGap → AnewJoins
+  pub carries : (result : Result (Vec ℕ) Fault) → FrontsAreSpelt → StartsAnew → IsNoLog → ReadsAsLog → AnewJoins
       → BeginsFile version f.last body result → Carries b result
-  carries (Ok v) law starts loud_law gap join begun = carried_on v.items law starts loud_law gap join begun
-  carries (Err e) law starts loud_law gap join begun = subst (StaysHere b) (sym begun) tt
+  carries (Ok v) law starts apart reads join begun = carried_on v.items law starts apart reads join begun
+  carries (Err e) law starts apart reads join begun = subst (StaysHere b) (sym begun) tt

@@ -3,3 +3,5 @@ mod Openings
 mod WithCheckpoint
 mod CarriedOn
 mod CarriedAgain
+mod LeftFrames
+mod Recovering

@@ -6,7 +6,7 @@ use Rattle.rq_model.specs.Frames.{start, log_of, frames_of, last_of, before}
 use Rattle.rq_model.specs.States.{State, empty}
 use Rattle.rq_model.specs.Machine.{run}
 use Rattle.rq_model.specs.Fronts.{IsFront, IsWhy}
-use Rattle.rq_model.specs.Carrying.{IsFrontAt}
+use Rattle.rq_model.specs.Carrying.{IsFrontAt, carried_at}
 use Rattle.rq_model.specs.Appending.{MayFollow, IsLeftOf}
 use Rattle.rq_record.specs.declared.fault.Fault.{Fault}
 use Rattle.rq_front.specs.Chains.{Refused}
@@ -50,10 +50,10 @@ pub record IsOpenedAt (b : List ℕ) (offset : ℕ) (o : Opened) : Type 0 where
   pub stands : IsAppenderAt (at_checkpoint version base b offset) (Checkpoint kept ∷ after)
       o.appender
 
--- that, at the checkpoint of a carried log, or why b is refused
+-- that, at the checkpoint of a carried file that is read as the log b, or why b is refused
 abbrev pub OpensCarried : List ℕ → Result Opened Fault → Type 0
-OpensCarried b (Ok o) = IsOpenedAt b 96 o
-OpensCarried b (Err e) = RefusedAt b 96 e
+OpensCarried b (Ok o) = IsOpenedAt b carried_at o
+OpensCarried b (Err e) = RefusedAt b carried_at e
 
 -- the frames of these records behind the front of b: whatever beginning of them stands there, the
 -- front is the old one and the records whose frames are wholly there

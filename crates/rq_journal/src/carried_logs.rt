@@ -1,4 +1,4 @@
-//! A log that goes on from the state behind the front of another, and its audit.
+//! A carried file, which goes on from the state behind the front of a log, and its audit.
 
 ghost use Rattle.std.specs.Prelude.{◌≡◌, length, IfErr, IfOk};
 ghost use Rattle.rq_model.specs.Frames.{IsBodyLength};
@@ -7,29 +7,28 @@ ghost use Rattle.rq_judged.specs.Refusals.{RefusedAt};
 ghost use Rattle.rq_journal.specs.Carries.{BeginsFile, Carries, CarriesAgain, TellsAudit, truth_of};
 
 use crate::checkpoints::checkpoint_body;
-use rq_front::{CARRIED_AT, carried_gap, frame, header_of};
+use rq_front::{CARRIED_AT, carried_header_of, frame};
 use rq_record::{Fault, Version};
 use rq_restart::{Plan, audit_at, redone_front, redone_front_at};
 use std::alloc::Global;
 use std::marker::Sync;
 use std::thread::Threads;
 
-// The log of the version whose first frame, that of a body, goes on behind these 32 bytes.
+// The carried file of the version whose first frame, that of a body, goes on behind these 32 bytes.
 fn begun(alloc: Global, version: Version, link: &[u8; 32], body: &[u8]) -> Result<Vec<u8>, Fault>
     requires { IsBodyLength (length body.now) }
     ensures { BeginsFile (version_of version) link.now body.now result }
 {
     let mut out = Vec::new(alloc);
-    header_of(version, &mut out)?;
-    out.extend_from_slice(&carried_gap())?;
+    carried_header_of(version, &mut out)?;
     out.extend_from_slice(link)?;
     frame(link, body, &mut out)?;
     Ok(out)
 }
 
-/// A log that goes on from the state behind the front of this one, with the units that are open
-/// there still open: its only record is a checkpoint of that state, at 96, and its digests go on
-/// from the front's. It is to be restarted from 96; a restart of the whole finds no record in it.
+/// A carried file, which goes on from the state behind the front of this log, with the units that are
+/// open there still open: its only record is a checkpoint of that state, at 72, and its digests go on
+/// from the front's. It is no log. `read_as_log` makes one of it, which is to be restarted from 72.
 ///
 /// Refuses with `TooLarge` a state whose spelling has more than 268,435,455 bytes, and else as
 /// `open` does.
@@ -42,15 +41,15 @@ pub fn carried<R: Threads + Sync>(
     ensures carries { Carries bytes.now result }
 {
     rq_model::fronts_are_spelt();
+    rq_model::carried_headers();
     rq_model::logs_begun_anew();
-    rq_model::continued_logs();
     let front = redone_front(rt, alloc, bytes, plan)?;
     let body = checkpoint_body(alloc, &front.state)?;
     begun(alloc, front.version, &front.last, &body)
 }
 
-/// A log that goes on from the state behind the front of one that was itself carried on, as `carried`
-/// makes one.
+/// A carried file, as `carried` makes one, which goes on from the state behind the front of another:
+/// of the log as which `read_as_log` reads that.
 ///
 /// Refuses with `TooLarge` a state whose spelling has more than 268,435,455 bytes, with `TooLong` one
 /// with more than 4,294,967,295 records over all files, and else as `open_carried` does.
@@ -63,6 +62,7 @@ pub fn carried_again<R: Threads + Sync>(
     ensures carries { CarriesAgain bytes.now result }
 {
     rq_model::one_spelling();
+    rq_model::carried_headers();
     rq_model::logs_begun_anew();
     rq_model::continued_logs();
     let front = redone_front_at(rt, alloc, bytes, CARRIED_AT as u64, plan)?;
@@ -73,7 +73,7 @@ pub fn carried_again<R: Threads + Sync>(
 /// What an audit says of a checkpoint.
 #[derive(Clone, Copy, Debug, PartialEq, Eq)]
 pub enum Truth {
-    /// The log begins with it: it is taken at its word.
+    /// The file begins with it: it is taken at its word.
     Carried,
     /// It spells the state before it.
     True,
@@ -94,9 +94,9 @@ fn truth_of(offset: u64, is_true: bool) -> Truth
     }
 }
 
-/// Where the checkpoints stand in the front of a log that was carried on, and which of them are
-/// true, with the state that it begins with taken at its word. Costs what `audit_at` does. Refused
-/// as `open_carried` is.
+/// Where the checkpoints stand in the front of a carried file that is read as a log, and which of them
+/// are true, with the state that it begins with taken at its word. Costs what `audit_at` does.
+/// Refused as `open_carried` is.
 pub fn audit_carried<R: Threads + Sync>(
     rt: &R,
     alloc: Global,
@@ -104,7 +104,7 @@ pub fn audit_carried<R: Threads + Sync>(
     plan: &Plan,
 ) -> Result<Vec<(usize, Truth)>, Fault>
     ensures told { IfOk result (λ told. TellsAudit bytes.now told.items) }
-    ensures refused { IfErr result (RefusedAt bytes.now 96) }
+    ensures refused { IfErr result (RefusedAt bytes.now 72) }
 {
     let found = audit_at(rt, alloc, bytes, CARRIED_AT as u64, plan)?;
     let mut told = Vec::new(alloc);

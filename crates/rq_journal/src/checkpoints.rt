@@ -41,8 +41,8 @@ pub(crate) fn checkpoint_body(alloc: Global, state: &State) -> Result<Vec<u8>, F
     Ok(body)
 }
 
-// The members of a slice of bytes are bytes of 8 bits.
-fn are_bytes(bytes: &[u8])
+/// The members of a slice of bytes are bytes of 8 bits.
+pub(crate) fn are_octets(bytes: &[u8])
     ensures { AreBytes bytes.now }
 {
     let _ = bytes;
@@ -78,7 +78,7 @@ pub fn marked<R: Threads + Sync>(
 ) -> Result<Vec<u8>, Fault>
     ensures marks { Marks bytes.items result }
 {
-    are_bytes(&bytes);
+    are_octets(&bytes);
     rq_model::appended_checkpoints();
     rq_model::fronts_are_spelt();
     rq_model::true_checkpoints_report_the_same();

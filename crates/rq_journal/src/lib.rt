@@ -1,17 +1,21 @@
 //! The write side of a log: records are appended behind its front, a checkpoint of the state there
-//! is put behind it, and the state is carried into another file.
+//! is put behind it, and the state is carried on in another file; and a log that a crash left goes on.
 #![tactic(auto)]
 
 mod appender;
 mod carried_logs;
 mod checkpoints;
+mod left_behind;
 mod opened_logs;
+mod recoveries;
 
 pub use appender::{Appender, NotTaken};
 pub use carried_logs::{Truth, audit_carried, carried, carried_again};
 pub use checkpoints::{checkpoint_of, marked};
+pub use left_behind::{Damage, TORN_LEN, damage_behind};
 pub use opened_logs::{NotWritten, Opened, frames_behind, open, open_carried, opened_behind};
+pub use recoveries::{MadeWhole, NotRecovered, recovered, recovered_at};
 pub use rq_catalog::Rule;
-pub use rq_front::{CARRIED_AT, is_carried};
+pub use rq_front::{CARRIED_AT, is_carried, read_as_log, write_as_carried};
 pub use rq_record::Fault;
-pub use rq_restart::{Plan, Why};
+pub use rq_restart::{Ending, Plan, Why};

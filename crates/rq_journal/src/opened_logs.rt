@@ -69,10 +69,10 @@ pub fn open<R: Threads + Sync>(
     Ok(opened_behind(judged_front(rt, alloc, bytes, plan)?))
 }
 
-/// Opens a log that was carried on, to write behind its front: as `open`, but from the checkpoint on
-/// that it begins with, which is taken at its word.
+/// Opens a carried file that was read as a log (`read_as_log`), to write behind its front: as `open`,
+/// but from the checkpoint on that it begins with, which is taken at its word.
 ///
-/// Refuses with `NoCheckpoint` a log without a checkpoint at 96, with `BadCheckpoint` one whose
+/// Refuses with `NoCheckpoint` a log without a checkpoint at 72, with `BadCheckpoint` one whose
 /// checkpoint there spells no state, and else as `open` does.
 pub fn open_carried<R: Threads + Sync>(
     rt: &R,

@@ -1,2 +1,3 @@
+pub mod FrontEnds
 pub mod Puts
 pub mod Scripts

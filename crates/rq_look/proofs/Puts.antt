@@ -5,15 +5,10 @@ use Rattle.std.specs.Result.{OnOk}
 use Rattle.std.specs.Io.KnownBytes.{Appends}
 use Rattle.std.proofs.KnownBytes.{Appends-trans}
 use Rattle.rq_model.specs.Fronts.{Restarted}
-use Rattle.rq_judged.specs.FrontEnds.{IsEndOf}
-use Rattle.rq_judged.specs.Views.{why_of}
-use Rattle.rq_behind.specs.declared.search.Found.{Found}
-use Rattle.rq_look.specs.Findings.{behind_finding}
 use Rattle.rq_look.specs.Looks.{AppendsSome, IsReportFrom, BreaksOff}
 use Rattle.rq_look.specs.Scripts.{IsChoice, LeavesOut}
-use Rattle.rq_found.specs.Ends.{front_end_of, IsRestartFrom}
+use Rattle.rq_found.specs.Ends.{IsRestartFrom}
 use Rattle.rq_found.specs.Refusals.{RefusedFrom, IsBroken}
-use Rattle.rq_found.specs.declared.ends.End.{End}
 use Rattle.rq_found.specs.declared.trouble.Trouble.{Trouble}
 use Rattle.rq_found.specs.declared.trouble.Trouble.TheVariants.{Log, Output, Untold, NoQueue, Nothing}
 use Rattle.rq_record.specs.declared.fault.Fault.{Fault}
@@ -32,11 +27,6 @@ put_last old mid new put text last whole p q e =
     subst (λ (t : List ℕ). Appends old new t) (ap (λ (t : List ℕ). put ++ t) e ∙ sym (append_assoc put text last))
     (Appends-trans old mid new put whole p q)
 
--- the lines of what stands behind the front of a check are those of the restart whose end it is
-pub same_rest : (r : Restarted) (end : End) (behind : Found) → IsEndOf r (front_end_of end)
-    → behind_finding (why_of end.why) behind end.total ≡ behind_finding r.why behind r.total
-same_rest r end behind e = λ i. behind_finding (e.why i) behind (e.total i)
-
 -- each log may be refused for want of memory
 memory_refused : (at : Option ℕ) (b : List ℕ) → RefusedFrom at b Resources
 memory_refused None b = tt
@@ -52,12 +42,13 @@ report_from None b text r is told = (r, is, told)
 report_from (Some at) b text r is told = (r, is, told)
 
 -- what breaks off leaves no record untold
-pub nothing_untold : (b : List ℕ) (old new : Option (List ℕ)) (e : Trouble) → IsBroken e → LeavesOut b old new e
-nothing_untold b old new (Log fault) h = tt
-nothing_untold b old new (Output error) h = tt
-nothing_untold b old new (Untold number) h = absurd h
-nothing_untold b old new (NoQueue queue) h = tt
-nothing_untold b old new (Nothing subject) h = tt
+pub nothing_untold : (at : Option ℕ) (b : List ℕ) (old new : Option (List ℕ)) (e : Trouble) → IsBroken e
+    → LeavesOut at b old new e
+nothing_untold at b old new (Log fault) h = tt
+nothing_untold at b old new (Output error) h = tt
+nothing_untold at b old new (Untold number) h = absurd h
+nothing_untold at b old new (NoQueue queue) h = tt
+nothing_untold at b old new (Nothing subject) h = tt
 
 -- and so does a script
 pub broken_off : (e : Trouble) → IsBroken e → BreaksOff e

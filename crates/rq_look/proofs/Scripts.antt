@@ -1,40 +1,46 @@
 -- A script under way.
-use Rattle.std.proofs.Common.{◌≡◌, ◌∙◌, ℕ, ◌+◌, ◌<◌, ◌≤◌, List, [], ◌∷◌, ◌++◌, length, take, drop, Option, Some, None, Result, Ok}
+use Rattle.std.proofs.Common.{◌≡◌, ◌∙◌, ℕ, ◌+◌, ◌-◌, ◌<◌, ◌≤◌, List, [], ◌∷◌, ◌++◌, length, take, drop, Option, Some, None, Result, Ok}
 use Rattle.std.proofs.Common.{Err, OnOk, refl, sym, ap, subst, append_assoc, append-nil, arith}
 use Rattle.std.specs.Prelude.{min}
 use Rattle.std.specs.List.{AllByRecursion}
 use Rattle.std.specs.Io.KnownBytes.{Appends}
 use Rattle.std.proofs.KnownBytes.{Appends-nil, Appends-trans}
 use Rattle.std.proofs.lemmas.Grind.{flat_map-append}
-use Rattle.std.proofs.lemmas.List.{length-append, length-drop, drop_at}
+use Rattle.std.proofs.lemmas.List.{length-append, length-drop, drop-take, drop_at, take_at}
 use Rattle.rq_model.specs.Records.{Record, Version, One, Two}
 use Rattle.rq_model.specs.Spelling.{body_of, IsRecord, Spells}
-use Rattle.rq_model.specs.Frames.{before, digest, header, start, frames_of, log_of, stated, body_in}
-use Rattle.rq_model.specs.Fronts.{IsFront, IsRestart, Restarted}
+use Rattle.rq_model.specs.Frames.{before, digest, header, log_limit, start, frames_of, stated, body_in}
+use Rattle.rq_model.specs.States.{State, empty}
+use Rattle.rq_model.specs.Fronts.{IsLongest, Restarted}
+use Rattle.rq_model.specs.Checkpoints.{IsCheckpointAt}
 use Rattle.rq_model.proofs.RecordReaders.{body_fits, one_record}
 use Rattle.rq_model.proofs.Lists.{each_append}
 use Rattle.rq_model.proofs.Runs.{frame_reads}
-use Rattle.rq_model.proofs.Longest.{front_whole, used_is_front, used_long}
+use Rattle.rq_model.proofs.Longest.{used_is_front}
 use Rattle.rq_model.proofs.Restarts.{each_cut, frames_many, header_long}
+use Rattle.rq_model.proofs.StateCodes.{one_state}
 use Rattle.rq_model.proofs.Upgraded.{record_is_wider}
 use Rattle.rq_writer.specs.Script.{IsTellable}
 use Rattle.rq_found.specs.Ends.{IsRestartFrom}
+use Rattle.rq_found.specs.Records.{SpelledIn, front_at}
 use Rattle.rq_found.specs.declared.trouble.Trouble.{Trouble}
 use Rattle.rq_found.specs.declared.trouble.Trouble.TheVariants.{Log, Output, Untold, NoQueue, Nothing}
-use Rattle.rq_look.specs.Scripts.{script_line, script_text, PutsScript, IsDash, by_in, LeavesBody, LeavesOut}
+use Rattle.rq_look.specs.Scripts.{script_line, script_text, IsShownFront, PutsScript, IsDash, by_in, LeavesBody, LeavesOut}
 
 -- some records of the front are told, in what is appended and in the text; the frames of the others are left
-pub record IsUnderWay (b rest : List ℕ) (number : ℕ) (text : List ℕ) (old now : Option (List ℕ)) : Type 0 where
+pub record IsUnderWay (at : Option ℕ) (b rest : List ℕ) (number : ℕ) (text : List ℕ) (old now : Option (List ℕ)) : Type 0 where
   pub version : Version
+  pub base : State
   pub done : List Record
   pub todo : List Record
   pub behind : List ℕ
   pub place : List ℕ
   pub put : List ℕ
-  pub front : IsFront b version (done ++ todo) behind
+  pub front : IsShownFront at b version base (done ++ todo) behind
   pub tellable : AllByRecursion IsTellable done
   pub left : rest ≡ frames_of place todo
-  pub counted : number ≡ length done
+  pub low : base.next ≤ 4294967295
+  pub counted : number ≡ base.next + length done
   pub appends : Appends old now put
   pub told : put ++ text ≡ script_text done
 
@@ -44,73 +50,121 @@ pub put_behind : {A E : Type 0} (r : Result A E) (old mid new word put : List �
 put_behind (Ok x) old mid new word put e h = h ∙ ap (λ (z : List ℕ). z ++ put) e ∙ append_assoc old word put
 put_behind (Err x) old mid new word put e h = tt
 
--- the first `used` bytes hold the header
-pub used_fits : (b : List ℕ) (r : Restarted) → IsRestart b r → (40 ≤ r.used) × (r.used ≤ length b)
-used_fits b r h =
-    let long = used_long b h.version h.records h.rest r h.front h in
-    let log = length-append (header h.version) (frames_of (start h.version) h.records) in (
-      omega (arith, long, log, header_long h.version),
-      omega (
-        arith,
-        long,
-        ap length (front_whole b h.version h.records h.rest h.front),
-        length-append (log_of h.version h.records) h.rest,
-      ),
-    )
+-- the state behind which the records that are shown begin
+abbrev pub IsFirst : Option ℕ → List ℕ → State → Type 0
+IsFirst None b s = s ≡ empty
+IsFirst (Some at) b s = (kept : List ℕ) → IsCheckpointAt b at kept → SpelledIn b kept s
 
--- so do those of a restart from a checkpoint, and they are of the log
-pub used_within : (at : Option ℕ) (b : List ℕ) (r : Restarted) → IsRestartFrom at b r
-    → (32 ≤ r.used) × (r.used ≤ length b)
-used_within None b r is = let fits = used_fits b r is in (omega (arith, fits.0), fits.1)
-used_within (Some at) b r is =
-    let used = ap (λ (x : Restarted). x.used) is.answer in
-    let room = is.checkpoint.frame.whole.room in
-    let whole = ap length is.front.begins.whole in
-    let parts = length-append (frames_of (before at b) is.records) is.rest in
-    let low = is.checkpoint.past_header in (
-      omega (arith, used, room, whole, parts, low, length-drop at b),
-      omega (arith, used),
-    )
+-- it is said of each offset apart
+pub first_is : (at : Option ℕ) (b : List ℕ) (s : State) → (at ≡ None → s ≡ empty)
+    → ((offset : ℕ) (kept : List ℕ) → at ≡ Some offset → IsCheckpointAt b offset kept → SpelledIn b kept s)
+    → IsFirst at b s
+first_is None b s start there = start refl
+first_is (Some at) b s start there = λ kept stands. there at kept refl stands
+
+-- the frames from an offset on, of which it is known what stands behind them
+frames_to : (b p : List ℕ) (at used : ℕ) (rs : List Record) (rest : List ℕ) → drop at b ≡ frames_of p rs ++ rest
+    → used ≡ length b - length rest → at ≤ length b → drop at (take used b) ≡ frames_of p rs
+frames_to b p at used rs rest whole used_is high =
+    let size : length b - at ≡ length (frames_of p rs) + length rest =
+    omega (arith, ap length whole, length-append (frames_of p rs) rest, length-drop at b) in
+    let end : used ≡ at + length (frames_of p rs) = omega (arith, used_is, size, high) in
+    ap (λ (n : ℕ). drop at (take n b)) end ∙ drop-take at (length (frames_of p rs)) b
+    ∙ ap (take (length (frames_of p rs))) whole ∙ take_at (frames_of p rs) rest (length (frames_of p rs)) refl
 
 -- no record is told yet
-pub begun : (b rest : List ℕ) (number : ℕ) (text : List ℕ) (old : Option (List ℕ)) (r : Restarted)
-    → IsRestart b r → rest ≡ drop 40 (take r.used b) → number ≡ 0 → text ≡ []
-    → IsUnderWay b rest number text old old
-begun b rest number text old r h left counted none = record {
+pub begun : (at : Option ℕ) (b rest : List ℕ) (number : ℕ) (text : List ℕ) (old : Option (List ℕ)) (r : Restarted)
+    (s : State) → IsRestartFrom at b r → IsFirst at b s → rest ≡ drop (front_at at) (take r.used b) → number ≡ s.next
+    → text ≡ [] → IsUnderWay at b rest number text old old
+begun None b rest number text old r s h first left counted none = record {
   version = h.version;
+  base = empty;
   done = [];
   todo = h.records;
   behind = h.rest;
   place = start h.version;
   put = [];
-  front = h.front;
+  front = (h.front, refl);
   tellable = tt;
   left = left ∙ ap (drop 40) (used_is_front b h.version h.records h.rest r h.front h).0
       ∙ drop_at (header h.version) (frames_of (start h.version) h.records) 40 (header_long h.version);
-  counted = counted;
+  low = omega arith;
+  counted = omega (arith, counted, ap (λ (z : State). z.next) first);
   appends = Appends-nil old;
   told = none;
 }
+begun (Some at) b rest number text old r s h first left counted none =
+    let spelled = first h.kept h.checkpoint in
+    let same : s ≡ h.state = one_state spelled.0 h.version s h.state h.kept spelled.2 h.spells in
+    let high : at ≤ length b = omega (arith, h.checkpoint.frame.whole.room, length-drop at b) in
+    let used : r.used ≡ length b - length h.rest = ap (λ (x : Restarted). x.used) h.answer in
+    record {
+      version = h.version;
+      base = h.state;
+      done = [];
+      todo = h.records;
+      behind = h.rest;
+      place = before at b;
+      put = [];
+      front = record {
+        kept = h.kept;
+        short = h.short;
+        header = h.header;
+        checkpoint = h.checkpoint;
+        spells = h.spells;
+        front = h.front;
+      };
+      tellable = tt;
+      left = left ∙ frames_to b (before at b) at r.used h.records h.rest h.front.begins.whole used high;
+      low = h.spells.next;
+      counted = omega (arith, counted, ap (λ (z : State). z.next) same);
+      appends = Appends-nil old;
+      told = none;
+    }
+
+-- the records that are shown are the longest list behind some bytes of b
+record IsLongestIn (version : Version) (base : State) (records : List Record) (rest : List ℕ) : Type 0 where
+  pub ahead : List ℕ
+  pub bytes : List ℕ
+  pub longest : IsLongest version base ahead bytes records rest
+  pub short : length bytes ≤ log_limit
+
+longest_in : (at : Option ℕ) (b : List ℕ) (version : Version) (base : State) (records : List Record) (rest : List ℕ)
+    → IsShownFront at b version base records rest → IsLongestIn version base records rest
+longest_in None b version base records rest (front, is) = record {
+  ahead = start version;
+  bytes = front.bytes;
+  longest = subst (λ (s : State). IsLongest version s (start version) front.bytes records rest) (sym is) front.longest;
+  short = omega (arith, front.short, ap length front.whole, length-append (header version) front.bytes);
+}
+longest_in (Some at) b version base records rest part = record {
+  ahead = before at b;
+  bytes = drop at b;
+  longest = part.front;
+  short = omega (arith, part.short, length-drop at b);
+}
 
 -- the record of the next frame, and those behind it
-pub record IsNext (b : List ℕ) (version : Version) (done todo : List Record) (behind place rest : List ℕ) : Type 0 where
+pub record IsNext (at : Option ℕ) (b : List ℕ) (version : Version) (base : State) (done todo : List Record)
+    (behind place rest : List ℕ) : Type 0 where
   pub r : Record
   pub others : List Record
   pub is : Spells Two r (body_in rest)
-  pub front : IsFront b version (done ++ r ∷ others) behind
+  pub front : IsShownFront at b version base (done ++ r ∷ others) behind
   pub left : drop (36 + stated rest) rest ≡ frames_of (digest place (body_of r)) others
 
 as_two : (version : Version) (r : Record) → IsRecord version r → IsRecord Two r
 as_two One r h = (record_is_wider r (body_of r) (h, refl)).0
 as_two Two r h = h
 
-next_of : (b : List ℕ) (version : Version) (done todo : List Record) (behind place rest : List ℕ)
-    → IsFront b version (done ++ todo) behind → rest ≡ frames_of place todo → 36 + stated rest ≤ length rest
-    → IsNext b version done todo behind place rest
-next_of b version done [] behind place rest front left room =
+next_of : (at : Option ℕ) (b : List ℕ) (version : Version) (base : State) (done todo : List Record)
+    (behind place rest : List ℕ) → IsShownFront at b version base (done ++ todo) behind → rest ≡ frames_of place todo
+    → 36 + stated rest ≤ length rest → IsNext at b version base done todo behind place rest
+next_of at b version base done [] behind place rest front left room =
     let none : length rest ≡ 0 = ap length left in let no : ⊥ = omega (arith, room, none) in absurd no
-next_of b version done (r ∷ others) behind place rest front left room =
-    let is = (each_cut (IsRecord version) done (r ∷ others) front.longest.begins.records).1.0 in
+next_of at b version base done (r ∷ others) behind place rest front left room =
+    let all = longest_in at b version base (done ++ r ∷ others) behind front in
+    let is = (each_cut (IsRecord version) done (r ∷ others) all.longest.begins.records).1.0 in
     let reads = frame_reads place (body_of r) (frames_of (digest place (body_of r)) others) (body_fits version r is) in
     record {
       r = r;
@@ -121,18 +175,18 @@ next_of b version done (r ∷ others) behind place rest front left room =
     }
 
 -- as many records as are told can be counted
-few : (b : List ℕ) (version : Version) (done todo : List Record) (behind : List ℕ)
-    → IsFront b version (done ++ todo) behind → length done ≤ 4294967295
-few b version done todo behind front = omega (
-  arith,
-  front.short,
-  ap length front.whole,
-  length-append (header version) front.bytes,
-  ap length front.longest.begins.whole,
-  length-append (frames_of (start version) (done ++ todo)) behind,
-  frames_many (start version) (done ++ todo),
-  length-append done todo,
-)
+few : (at : Option ℕ) (b : List ℕ) (version : Version) (base : State) (done todo : List Record) (behind : List ℕ)
+    → IsShownFront at b version base (done ++ todo) behind → length done ≤ 4294967295
+few at b version base done todo behind front =
+    let all = longest_in at b version base (done ++ todo) behind front in
+    omega (
+      arith,
+      all.short,
+      ap length all.longest.begins.whole,
+      length-append (frames_of all.ahead (done ++ todo)) behind,
+      frames_many all.ahead (done ++ todo),
+      length-append done todo,
+    )
 
 -- one more is told
 told_more : (done : List Record) (r : Record) (put more text new : List ℕ) → put ++ text ≡ script_text done
@@ -143,61 +197,66 @@ told_more done r put more text new told e =
     ∙ ap (λ (z : List ℕ). script_text done ++ z) (sym (append-nil (script_line r)))
     ∙ sym (flat_map-append script_line done (r ∷ []))
 
-pub goes_on : (b rest : List ℕ) (number : ℕ) (text : List ℕ) (old now : Option (List ℕ)) (after : List ℕ) (count : ℕ)
+pub goes_on : (at : Option ℕ) (b rest : List ℕ) (number : ℕ) (text : List ℕ) (old now : Option (List ℕ)) (after : List ℕ) (count : ℕ)
     (new : List ℕ) (last : Option (List ℕ)) (body more : List ℕ) (r : Record)
-    → IsUnderWay b rest number text old now → 36 + stated rest ≤ length rest → body ≡ body_in rest
+    → IsUnderWay at b rest number text old now → 36 + stated rest ≤ length rest → body ≡ body_in rest
     → after ≡ drop (36 + stated rest) rest → count ≡ min (number + 1) 18446744073709551615
     → Spells Two r body → IsTellable r → Appends now last more → text ++ script_line r ≡ more ++ new
-    → IsUnderWay b after count new old last
-goes_on b rest number text old now after count new last body more r u room body_is after_is count_is is told appends e =
-    let next = next_of b u.version u.done u.todo u.behind u.place rest u.front u.left room in
+    → IsUnderWay at b after count new old last
+goes_on at b rest number text old now after count new last body more r u room body_is after_is count_is is told appends e =
+    let next = next_of at b u.version u.base u.done u.todo u.behind u.place rest u.front u.left room in
     let same : r ≡ next.r =
     one_record Two r next.r (body_in rest) (is.0, sym body_is ∙ is.1) next.is in
     record {
       version = u.version;
+      base = u.base;
       done = u.done ++ r ∷ [];
       todo = next.others;
       behind = u.behind;
       place = digest u.place (body_of next.r);
       put = u.put ++ more;
-      front = subst (λ (rs : List Record). IsFront b u.version rs u.behind)
+      front = subst (λ (rs : List Record). IsShownFront at b u.version u.base rs u.behind)
           (ap (λ (x : Record). u.done ++ x ∷ next.others) (sym same)
           ∙ sym (append_assoc u.done (r ∷ []) next.others)) next.front;
       tellable = each_append IsTellable u.done (r ∷ []) u.tellable (told, tt);
       left = after_is ∙ next.left;
+      low = u.low;
       counted = omega (
         arith,
         count_is,
         u.counted,
-        few b u.version u.done u.todo u.behind u.front,
+        u.low,
+        few at b u.version u.base u.done u.todo u.behind u.front,
         length-append u.done (r ∷ []),
       );
       appends = Appends-trans old now last u.put more u.appends appends;
       told = told_more u.done r u.put more text new u.told e;
     }
 
-none_left : (b : List ℕ) (version : Version) (done todo : List Record) (behind place rest : List ℕ)
-    → IsFront b version (done ++ todo) behind → rest ≡ frames_of place todo → length rest < 36 + stated rest
-    → IsFront b version done behind
-none_left b version done [] behind place rest front left short =
-    subst (λ (rs : List Record). IsFront b version rs behind) (append-nil done) front
-none_left b version done (r ∷ others) behind place rest front left short =
-    let is = (each_cut (IsRecord version) done (r ∷ others) front.longest.begins.records).1.0 in
+none_left : (at : Option ℕ) (b : List ℕ) (version : Version) (base : State) (done todo : List Record)
+    (behind place rest : List ℕ) → IsShownFront at b version base (done ++ todo) behind → rest ≡ frames_of place todo
+    → length rest < 36 + stated rest → IsShownFront at b version base done behind
+none_left at b version base done [] behind place rest front left short =
+    subst (λ (rs : List Record). IsShownFront at b version base rs behind) (append-nil done) front
+none_left at b version base done (r ∷ others) behind place rest front left short =
+    let all = longest_in at b version base (done ++ r ∷ others) behind front in
+    let is = (each_cut (IsRecord version) done (r ∷ others) all.longest.begins.records).1.0 in
     let reads = frame_reads place (body_of r) (frames_of (digest place (body_of r)) others) (body_fits version r is) in
     let no : ⊥ = omega (arith, short, ap length left, ap stated left, reads.long, reads.stated_is) in
     absurd no
 
 -- all records are told, once the text is written
-pub ended : (b rest : List ℕ) (number : ℕ) (text : List ℕ) (old now new : Option (List ℕ))
-    → IsUnderWay b rest number text old now → length rest < 36 + stated rest → Appends now new text
-    → PutsScript b old new
-ended b rest number text old now new u short appends = (
+pub ended : (at : Option ℕ) (b rest : List ℕ) (number : ℕ) (text : List ℕ) (old now new : Option (List ℕ))
+    → IsUnderWay at b rest number text old now → length rest < 36 + stated rest → Appends now new text
+    → PutsScript at b old new
+ended at b rest number text old now new u short appends = (
   u.put ++ text,
   (
     u.version,
+    u.base,
     u.done,
     u.behind,
-    none_left b u.version u.done u.todo u.behind u.place rest u.front u.left short,
+    none_left at b u.version u.base u.done u.todo u.behind u.place rest u.front u.left short,
     u.tellable,
     u.told,
   ),
@@ -205,14 +264,16 @@ ended b rest number text old now new u short appends = (
 )
 
 -- the next one is not told
-pub left_out : (b rest : List ℕ) (number : ℕ) (text : List ℕ) (old now new : Option (List ℕ)) (where_is : ℕ)
-    (body : List ℕ) (e : Trouble) → IsUnderWay b rest number text old now → 36 + stated rest ≤ length rest
-    → body ≡ body_in rest → where_is ≡ number → LeavesBody where_is body text now new e → LeavesOut b old new e
-left_out b rest number text old now new where_is body (Untold told) u room body_is place_is h =
-    let next = next_of b u.version u.done u.todo u.behind u.place rest u.front u.left room in
+pub left_out : (at : Option ℕ) (b rest : List ℕ) (number : ℕ) (text : List ℕ) (old now new : Option (List ℕ))
+    (where_is : ℕ) (body : List ℕ) (e : Trouble) → IsUnderWay at b rest number text old now
+    → 36 + stated rest ≤ length rest → body ≡ body_in rest → where_is ≡ number → LeavesBody where_is body text now new e
+    → LeavesOut at b old new e
+left_out at b rest number text old now new where_is body (Untold told) u room body_is place_is h =
+    let next = next_of at b u.version u.base u.done u.todo u.behind u.place rest u.front u.left room in
     let same : h.0 ≡ next.r =
     one_record Two h.0 next.r (body_in rest) (h.1.0, sym body_is ∙ h.1.1) next.is in (
       u.version,
+      u.base,
       u.done,
       next.r,
       next.others,
@@ -223,7 +284,7 @@ left_out b rest number text old now new where_is body (Untold told) u room body_
       subst (λ (x : Record). IsDash (by_in x)) same h.3,
       subst (λ (z : List ℕ). Appends old new z) u.told (Appends-trans old now new u.put text u.appends h.4),
     )
-left_out b rest number text old now new where_is body (Log fault) u room body_is place_is h = tt
-left_out b rest number text old now new where_is body (Output error) u room body_is place_is h = tt
-left_out b rest number text old now new where_is body (NoQueue queue) u room body_is place_is h = tt
-left_out b rest number text old now new where_is body (Nothing subject) u room body_is place_is h = tt
+left_out at b rest number text old now new where_is body (Log fault) u room body_is place_is h = tt
+left_out at b rest number text old now new where_is body (Output error) u room body_is place_is h = tt
+left_out at b rest number text old now new where_is body (NoQueue queue) u room body_is place_is h = tt
+left_out at b rest number text old now new where_is body (Nothing subject) u room body_is place_is h = tt

@@ -1,26 +1,25 @@
 -- What stands behind the front of a log, and what a check of it finds.
-use Rattle.std.specs.Prelude.{◌≡◌, ℕ, ◌+◌, ◌-◌, ◌&&◌, Bool, false, List, [], ◌∷◌, ◌++◌, length, map}
-use Rattle.std.specs.Prelude.{codes, Option, Some, None, if◌then◌else◌, not, ◌||◌, ◌==◌, true, is_some}
+use Rattle.std.specs.Prelude.{◌≡◌, ◌≤◌, ℕ, ◌+◌, ◌-◌, ◌&&◌, min, Bool, List, [], ◌∷◌, ◌++◌, length, map}
+use Rattle.std.specs.Prelude.{codes, Option, Some, None, if◌then◌else◌, not, ◌||◌, ◌==◌, is_some}
 use Rattle.std.specs.List.{flat_map, list_all}
 use Rattle.std.specs.Fmt.{decimal}
 use Rattle.rq_model.specs.Records.{Version}
 use Rattle.rq_model.specs.Frames.{HasHeader}
-use Rattle.rq_model.specs.Fronts.{Why, Restarted, IsRestart}
-use Rattle.rq_model.specs.Checkpoints.{IsAudit, IsRestartAt}
+use Rattle.rq_model.specs.Fronts.{Why, Restarted}
+use Rattle.rq_model.specs.Checkpoints.{Audited, IsAudit}
+use Rattle.rq_model.specs.Carrying.{carried_at}
 use Rattle.rq_front.specs.declared.spans.Span.{Span}
 use Rattle.rq_behind.specs.Behind.{AreRightFrames, frame_bytes, looked_to}
 use Rattle.rq_behind.specs.declared.search.Found.{Found}
-use Rattle.rq_judged.specs.FrontEnds.{IsEndOf}
-use Rattle.rq_restart.specs.Audits.{audited_of}
-use Rattle.rq_found.specs.Ends.{IsRestartFrom, end_line, end_text, front_end_of, is_whole}
+use Rattle.rq_restart.specs.Audits.{IsAuditAt, audited_of}
+use Rattle.rq_found.specs.Ends.{IsRestartFrom, beginning_text, end_text, is_whole}
 use Rattle.rq_found.specs.declared.ends.End.{End}
 use Rattle.rq_found.specs.declared.diagnoses.Diagnosis.{Diagnosis}
 use Rattle.rq_found.specs.Diagnoses.{diagnosis_of}
 
--- a front of b ends there, that of its restart or that of one from a checkpoint
-abbrev pub EndsFrontOf : List ℕ → End → Type 0
-EndsFrontOf b end = (at : Option ℕ) × (r : Restarted) × IsRestartFrom at b r
-    × IsEndOf r (front_end_of end)
+-- a front ends within b, behind 32 bytes at least
+abbrev pub EndsWithin : List ℕ → End → Type 0
+EndsWithin b end = (32 ≤ end.used) × (end.used ≤ length b)
 
 -- the right frames of b behind the first `used` bytes, how many of the bytes that were looked at
 -- belong to none, and where the search gave up, if it did
@@ -68,24 +67,35 @@ abbrev pub checkpoint_finding : ℕ × Bool → List ℕ
 checkpoint_finding x = if x.1 then [] else codes "the checkpoint at "
     ++ (decimal x.0 ++ codes " does not spell the state before it\n")
 
--- the lines of where a front ends, of what stands behind it, and of its checkpoints
-abbrev pub findings_text : ℕ → ℕ → ℕ → Why → List ℕ → Found → List (ℕ × Bool) → List ℕ
-findings_text records used total why reason behind found =
-    end_finding records used total why reason ++ behind_finding why behind total
-    ++ flat_map checkpoint_finding found
+-- the lines of where a log begins, if it was carried on, and where its front ends, of what stands
+-- behind it, and of its checkpoints
+abbrev pub findings_text : Option ℕ → ℕ → ℕ → ℕ → Why → List ℕ → Found → List (ℕ × Bool) → List ℕ
+findings_text at records used total why reason behind found =
+    beginning_text at ++ end_finding records used total why reason
+    ++ behind_finding why behind total ++ flat_map checkpoint_finding found
 
--- whether b is whole, and each checkpoint of its front true; and the text has these lines of b,
--- with some reason, and those of what stands behind the front. Of what begins with a checkpoint this
--- is not known: the text says so, and where the front ends
+-- a carried log b has no front: where that would begin, for some reason, and the right frames from
+-- there on
+abbrev pub IsFrontless : Option ℕ → List ℕ → List ℕ → Type 0
+IsFrontless at b text = (why : Why) × (reason : List ℕ) × (behind : Found)
+    × IsBehind b (min carried_at (length b)) behind
+    × (text ≡ beginning_text at
+    ++ end_text 0 (min carried_at (length b)) (length b) why reason
+    ++ behind_finding why behind (length b))
+
+-- the checkpoints of b, or those from the one at an offset on, which is taken at its word
+abbrev pub IsAuditFrom : Option ℕ → List ℕ → List Audited → Type 0
+IsAuditFrom None b found = IsAudit b found
+IsAuditFrom (Some at) b found = IsAuditAt b at found
+
+-- whether b is whole, and each checkpoint of its front true; and the text says with which checkpoint
+-- it begins, if it does, and has these lines of b, with some reason, and those of what stands behind
+-- the front
 abbrev pub IsFindings : Option ℕ → List ℕ → Bool → List ℕ → Type 0
-IsFindings None b fine text = (r : Restarted) × (found : List (ℕ × Bool)) × (behind : Found)
-    × (reason : List ℕ) × IsRestart b r × IsAudit b (map audited_of found)
+IsFindings at b fine text = (r : Restarted) × (found : List (ℕ × Bool)) × (behind : Found)
+    × (reason : List ℕ) × IsRestartFrom at b r × IsAuditFrom at b (map audited_of found)
     × IsBehind b r.used behind × (fine ≡ all_fine r.why found)
-    × (text ≡ findings_text r.records r.used r.total r.why reason behind found)
-IsFindings (Some at) b fine text = (r : Restarted) × (behind : Found) × (reason : List ℕ)
-    × IsRestartAt b at r × IsBehind b r.used behind × (fine ≡ false)
-    × (text ≡ codes "carried: use rqlog\n" ++ end_line r reason
-    ++ behind_finding r.why behind r.total)
+    × (text ≡ findings_text at r.records r.used r.total r.why reason behind found)
 
 -- a frame behind a front may be right in itself: one was found, or the search gave up
 abbrev pub may_have_right : Found → Bool
@@ -94,10 +104,7 @@ may_have_right found = is_some found.gave_up || not (length found.spans.items ==
 -- the verdict on b, by where its front ends, what stands behind that, and whether each checkpoint is
 -- true; the one with which b begins is taken at its word
 abbrev pub IsDiagnosis : Option ℕ → List ℕ → Diagnosis → Type 0
-IsDiagnosis None b diagnosis = (r : Restarted) × (found : List (ℕ × Bool)) × (behind : Found)
-    × IsRestart b r × IsAudit b (map audited_of found) × IsBehind b r.used behind
+IsDiagnosis at b diagnosis = (r : Restarted) × (found : List (ℕ × Bool)) × (behind : Found)
+    × IsRestartFrom at b r × IsAuditFrom at b (map audited_of found) × IsBehind b r.used behind
     × (diagnosis ≡ diagnosis_of r.why (r.total - r.used) (may_have_right behind)
     (list_all (λ x. x.1) found))
-IsDiagnosis (Some at) b diagnosis = (r : Restarted) × (behind : Found)
-    × IsRestartAt b at r × IsBehind b r.used behind
-    × (diagnosis ≡ diagnosis_of r.why (r.total - r.used) (may_have_right behind) true)

@@ -1,3 +1,4 @@
 pub mod Findings
 pub mod Looks
+pub mod Mendings
 pub mod Scripts

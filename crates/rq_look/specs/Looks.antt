@@ -40,9 +40,9 @@ BreaksOff e = IsBroken e
 
 -- there is no whole script of b: it is not shown, or it is a log and its script broke off; where a
 -- record of its front is left untold, it is the first such
-abbrev pub LacksScript : List ℕ → Option (List ℕ) → Option (List ℕ) → Trouble → Type 0
-LacksScript b old new e = LeavesOut b old new e
-    × ((IsLog b × BreaksOff e) ⊎ StaysUnshown None b old new e)
+abbrev pub LacksScript : Option ℕ → List ℕ → Option (List ℕ) → Option (List ℕ) → Trouble → Type 0
+LacksScript at b old new e = LeavesOut at b old new e
+    × ((IsLog b × BreaksOff e) ⊎ StaysUnshown at b old new e)
 
 -- the story of the subject is missing, and the output holds what it held; or it broke off
 abbrev pub LacksStory : Subject → Option (List ℕ) → Option (List ℕ) → Trouble → Type 0

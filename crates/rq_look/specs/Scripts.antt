@@ -1,12 +1,17 @@
 -- The script of a log, and what a salvage has behind it.
-use Rattle.std.specs.Prelude.{◌≡◌, ℕ, ⊤, Bool, true, false, List, [], ◌∷◌, ◌++◌, length, codes, Option, Some, None}
+use Rattle.std.specs.Prelude.{◌≡◌, ◌≤◌, ◌+◌, ℕ, ⊤, Bool, true, false, List, [], ◌∷◌, ◌++◌, length, drop, codes}
+use Rattle.std.specs.Prelude.{Option, Some, None}
 use Rattle.std.specs.List.{AllByRecursion, flat_map}
 use Rattle.std.specs.Io.KnownBytes.{Appends}
 use Rattle.rq_model.specs.Records.{By, Record, Enqueue, Dequeue, Version, Two}
 use Rattle.rq_model.specs.Spelling.{Spells}
-use Rattle.rq_model.specs.Fronts.{IsFront, IsRestart, Restarted}
+use Rattle.rq_model.specs.Frames.{log_limit, HasHeader, before}
+use Rattle.rq_model.specs.States.{State, empty}
+use Rattle.rq_model.specs.StateSpelling.{SpellsState}
+use Rattle.rq_model.specs.Fronts.{IsFront, IsLongest, Restarted}
+use Rattle.rq_model.specs.Checkpoints.{IsCheckpointAt}
 use Rattle.rq_writer.specs.Script.{record_text, IsTellable}
-use Rattle.rq_found.specs.Ends.{is_whole}
+use Rattle.rq_found.specs.Ends.{IsRestartFrom, is_whole}
 use Rattle.rq_found.specs.declared.trouble.Trouble.{Trouble}
 use Rattle.rq_found.specs.declared.trouble.Trouble.TheVariants.{Untold}
 
@@ -18,15 +23,31 @@ script_line r = record_text r ++ codes "\n"
 abbrev pub script_text : List Record → List ℕ
 script_text rs = flat_map script_line rs
 
+-- the records of b from the checkpoint at an offset on, behind the state that it spells
+pub record IsShownPart (b : List ℕ) (offset : ℕ) (version : Version) (base : State)
+    (records : List Record) (rest : List ℕ) : Type 0 where
+  pub kept : List ℕ
+  pub short : length b ≤ log_limit
+  pub header : HasHeader version b
+  pub checkpoint : IsCheckpointAt b offset kept
+  pub spells : SpellsState version base kept
+  pub front : IsLongest version base (before offset b) (drop offset b) records rest
+
+-- the records of the front of b that are shown, behind this state: all of them, or those from the
+-- checkpoint at an offset on
+abbrev pub IsShownFront : Option ℕ → List ℕ → Version → State → List Record → List ℕ → Type 0
+IsShownFront None b version base records rest = IsFront b version records rest × (base ≡ empty)
+IsShownFront (Some at) b version base records rest = IsShownPart b at version base records rest
+
 -- the front of b as a script tells it, which can tell each of its records
-abbrev pub IsScriptOf : List ℕ → List ℕ → Type 0
-IsScriptOf b text = (version : Version) × (records : List Record) × (rest : List ℕ)
-    × IsFront b version records rest × AllByRecursion IsTellable records
-    × (text ≡ script_text records)
+abbrev pub IsScriptOf : Option ℕ → List ℕ → List ℕ → Type 0
+IsScriptOf at b text = (version : Version) × (base : State) × (records : List Record)
+    × (rest : List ℕ) × IsShownFront at b version base records rest
+    × AllByRecursion IsTellable records × (text ≡ script_text records)
 
 -- the script of b is appended
-abbrev pub PutsScript : List ℕ → Option (List ℕ) → Option (List ℕ) → Type 0
-PutsScript b old new = (text : List ℕ) × IsScriptOf b text × Appends old new text
+abbrev pub PutsScript : Option ℕ → List ℕ → Option (List ℕ) → Option (List ℕ) → Type 0
+PutsScript at b old new = (text : List ℕ) × IsScriptOf at b text × Appends old new text
 
 -- the registrant that a record names for an operation, if it names one
 abbrev pub by_in : Record → Option By
@@ -48,12 +69,13 @@ LeavesBody number body text old new _ = ⊤
 
 -- where a record of the front of b is left untold, it is the first that names `-`, that of the
 -- number; the lines of those before it are appended
-abbrev pub LeavesOut : List ℕ → Option (List ℕ) → Option (List ℕ) → Trouble → Type 0
-LeavesOut b old new (Untold number) = (version : Version) × (before : List Record) × (r : Record)
-    × (after : List Record) × (rest : List ℕ) × IsFront b version (before ++ r ∷ after) rest
-    × (number ≡ length before) × AllByRecursion IsTellable before × IsDash (by_in r)
-    × Appends old new (script_text before)
-LeavesOut b old new _ = ⊤
+abbrev pub LeavesOut : Option ℕ → List ℕ → Option (List ℕ) → Option (List ℕ) → Trouble → Type 0
+LeavesOut at b old new (Untold number) = (version : Version) × (base : State)
+    × (earlier : List Record) × (r : Record) × (after : List Record) × (rest : List ℕ)
+    × IsShownFront at b version base (earlier ++ r ∷ after) rest
+    × (number ≡ base.next + length earlier) × AllByRecursion IsTellable earlier
+    × IsDash (by_in r) × Appends old new (script_text earlier)
+LeavesOut at b old new _ = ⊤
 
 -- what a salvage has behind the script of the front: nothing if the front is whole, else a text that
 -- begins with a sign with which no line of a script begins, and says where the front ends
@@ -62,6 +84,6 @@ IsChoice true text = text ≡ []
 IsChoice false text = (words : List ℕ) × (text ≡ codes "# front ends behind " ++ words)
 
 -- the script of the front of b is appended, and behind it such a text
-abbrev pub PutsSalvage : List ℕ → Option (List ℕ) → Option (List ℕ) → Type 0
-PutsSalvage b old new = (r : Restarted) × IsRestart b r × (script choice : List ℕ)
-    × IsScriptOf b script × IsChoice (is_whole r.why) choice × Appends old new (script ++ choice)
+abbrev pub PutsSalvage : Option ℕ → List ℕ → Option (List ℕ) → Option (List ℕ) → Type 0
+PutsSalvage at b old new = (r : Restarted) × IsRestartFrom at b r × (script choice : List ℕ)
+    × IsScriptOf at b script × IsChoice (is_whole r.why) choice × Appends old new (script ++ choice)

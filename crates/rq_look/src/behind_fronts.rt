@@ -1,10 +1,9 @@
 //! What stands behind the front of a log.
 
 ghost use Rattle.std.specs.Prelude.{◌≡◌, ◌++◌, IfOk, IfErr, OnOk, string_bytes};
-ghost use Rattle.rq_front.specs.Chains.{IsLog};
 ghost use Rattle.rq_record.specs.declared.fault.Fault.TheVariants.{Resources};
 ghost use Rattle.rq_judged.specs.Views.{why_of};
-ghost use Rattle.rq_look.specs.Findings.{EndsFrontOf, IsBehind, behind_finding, behind_text};
+ghost use Rattle.rq_look.specs.Findings.{EndsWithin, IsBehind, behind_finding, behind_text};
 ghost use Rattle.rq_look.specs.Findings as spec;
 ghost use Rattle.rq_look.specs.Findings.{count_text, frames_text, given_up_text};
 
@@ -17,8 +16,7 @@ use std::fmt::Write;
 
 /// What stands behind the front of a log of which the end is known. Refuses if memory is refused.
 pub fn standing_behind(alloc: Global, bytes: &[u8], end: &End) -> Result<Found, Fault>
-    requires log { IsLog bytes.now }
-    requires end { EndsFrontOf bytes.now end.now }
+    requires { EndsWithin bytes.now end.now }
     ensures found { IfOk result (IsBehind bytes.now end.now.used) }
     ensures refused { IfErr result (λ e. e ≡ Resources) }
 {

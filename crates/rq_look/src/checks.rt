@@ -1,18 +1,22 @@
 //! Whether a log is whole, and each of its checkpoints true.
 
-ghost use Rattle.std.specs.Prelude.{◌≡◌, ◌++◌, ◌-◌, IfOk, IfErr, OnOk, codes, string_bytes};
+ghost use Rattle.std.specs.Prelude.{◌≡◌, ◌++◌, ◌-◌, IfOk, IfErr, OnOk, map, string_bytes};
 ghost use Rattle.std.specs.List.{list_all};
 ghost use Rattle.rq_judged.specs.Views.{why_of};
-ghost use Rattle.rq_found.specs.Ends.{end_text};
-ghost use Rattle.rq_found.specs.Refusals.{IsRefusal};
-ghost use Rattle.rq_look.specs.Findings.{IsFindings, findings_text, all_fine, checkpoint_finding};
-ghost use Rattle.rq_look.specs.Findings.{end_finding, behind_finding, IsDiagnosis, may_have_right};
+ghost use Rattle.rq_restart.specs.Audits.{audited_of};
 ghost use Rattle.rq_found.specs.Diagnoses as diagnoses;
+ghost use Rattle.rq_found.specs.Ends.{beginning_text};
+ghost use Rattle.rq_found.specs.Refusals.{IsRefusal, RefusedFrom};
+ghost use Rattle.rq_look.specs.Findings.{IsAuditFrom, IsDiagnosis, IsFindings, findings_text, all_fine};
+ghost use Rattle.rq_look.specs.Findings.{end_finding, checkpoint_finding, may_have_right};
 
 use crate::behind_fronts::{may_have_right, put_rest, standing_behind};
 use rq_behind::Found;
-use rq_found::{Diagnosis, End, Put, ShownLog, Trouble, diagnosis_of, end_of, is_whole, put_end};
-use rq_restart::audit;
+use rq_found::{
+    Diagnosis, End, Put, ShownLog, Trouble, diagnosis_of, end_of, is_whole, put_beginning, put_end,
+};
+use rq_record::Fault;
+use rq_restart::{audit, audit_at};
 use std::alloc::{AllocError, Global};
 use std::fmt::Write;
 use std::thread::Threads;
@@ -22,8 +26,9 @@ use std::thread::Threads;
 pub struct Findings {
     /// Whether the log is whole, and each checkpoint of its front true.
     pub fine: bool,
-    /// What is wrong with it, a line each: that its front ends before it does, then what stands
-    /// behind it; and each checkpoint of the front that is not true.
+    /// With which checkpoint it begins, if it was carried on. Then what is wrong with it, a line each:
+    /// that its front ends before it does, then what stands behind it; and each checkpoint of the front
+    /// that is not true.
     pub text: String,
     /// What the log is by this.
     pub diagnosis: Diagnosis,
@@ -54,21 +59,26 @@ fn put_checkpoint(text: &mut String, offset: u64, truth: bool) -> Put
     )
 }
 
-fn front_text(alloc: Global, end: &End) -> Result<String, AllocError>
-    ensures { IfOk result (λ text. string_bytes text ≡ end_finding end.now.records end.now.used
-        end.now.total (why_of end.now.why) (string_bytes end.now.reason)) }
+// The lines of where a log begins, if it was carried on, and where its front ends, unless nothing
+// follows it.
+fn front_text(alloc: Global, at: Option<u64>, end: &End) -> Result<String, AllocError>
+    ensures { IfOk result (λ text. string_bytes text ≡ beginning_text at
+        ++ end_finding end.now.records end.now.used end.now.total (why_of end.now.why)
+        (string_bytes end.now.reason)) }
 {
     let mut text = String::new(alloc);
+    put_beginning(&mut text, at)?;
     if !is_whole(end.why) {
         put_end(&mut text, end)?;
     }
     Ok(text)
 }
 
-// What a check finds of a log that was not carried on, of which it is known where its front ends,
-// what stands behind that, and which of its checkpoints are true.
-fn whole_findings(
+// What a check finds of a log of which it is known where it begins and where its front ends, what
+// stands behind that, and which of its checkpoints are true.
+fn findings_of(
     alloc: Global,
+    at: Option<u64>,
     end: &End,
     behind: &Found,
     checkpoints: &[(u64, bool)],
@@ -76,13 +86,13 @@ fn whole_findings(
     ensures fine { IfOk result
         (λ found. found.fine ≡ all_fine (why_of end.now.why) checkpoints.now) }
     ensures text { IfOk result (λ found. string_bytes found.text
-        ≡ findings_text end.now.records end.now.used end.now.total (why_of end.now.why)
+        ≡ findings_text at end.now.records end.now.used end.now.total (why_of end.now.why)
         (string_bytes end.now.reason) behind.now checkpoints.now) }
     ensures diagnosis { IfOk result (λ found. found.diagnosis ≡ diagnoses.diagnosis_of (why_of end.now.why)
         (end.now.total - end.now.used) (may_have_right behind.now)
         (list_all (λ x. x.1) checkpoints.now)) }
 {
-    let mut text = front_text(alloc, end)?;
+    let mut text = front_text(alloc, at, end)?;
     put_rest(&mut text, end, behind)?;
     for (offset, truth) in checkpoints {
         put_checkpoint(&mut text, *offset, *truth)?;
@@ -94,23 +104,27 @@ fn whole_findings(
     })
 }
 
-// The lines of a log that begins with a checkpoint: that it is not checked, where its front ends, and
-// what stands behind it.
-fn carried_text(alloc: Global, end: &End, found: &Found) -> Result<String, AllocError>
-    ensures { IfOk result (λ text. string_bytes text ≡ codes "carried: use rqlog\n"
-        ++ end_text end.now.records end.now.used end.now.total (why_of end.now.why)
-        (string_bytes end.now.reason)
-        ++ behind_finding (why_of end.now.why) found.now end.now.total) }
+/// Which checkpoints of a log are true, by their offsets, from the one on that it begins with, if it was
+/// carried on: that is taken at its word.
+///
+/// Refuses what a restart refuses, from there if the log begins so.
+pub fn audited_from<R: Threads + Sync>(
+    rt: &R,
+    alloc: Global,
+    log: &ShownLog<'_>,
+) -> Result<Vec<(u64, bool)>, Fault>
+    ensures found { IfOk result
+        (λ v. IsAuditFrom log.now.at log.now.bytes.now (map audited_of v.items)) }
+    ensures refused { IfErr result (RefusedFrom log.now.at log.now.bytes.now) }
 {
-    let mut text = String::from_str(alloc, "carried: use rqlog\n")?;
-    put_end(&mut text, end)?;
-    put_rest(&mut text, end, found)?;
-    Ok(text)
+    match log.at {
+        None => audit(rt, alloc, log.bytes, log.plan),
+        Some(at) => audit_at(rt, alloc, log.bytes, at, log.plan),
+    }
 }
 
-/// Whether a log is whole and each checkpoint of its front true, and what is wrong with it. Of a log
-/// that begins with a checkpoint it is not known whether this is true: the text says so, and where its
-/// front ends.
+/// Whether a log is whole and each checkpoint of its front true, and what is wrong with it. A
+/// checkpoint that the log begins with is taken at its word, and the text says where it stands.
 ///
 /// Refuses what a restart refuses, from there if the log begins so.
 #[tactic(auto, using(crate::proofs::Puts::resources_refused))]
@@ -127,20 +141,7 @@ pub fn check<R: Threads + Sync>(
 {
     let end = end_of(rt, alloc, log)?;
     let behind = standing_behind(alloc, log.bytes, &end)?;
-    match log.at {
-        None => {
-            let checkpoints = audit(rt, alloc, log.bytes, log.plan)?;
-            let found = whole_findings(alloc, &end, &behind, &checkpoints)?;
-            Ok(found)
-        }
-        // Its file alone does not tell whether the checkpoint is true.
-        Some(_) => {
-            let text = carried_text(alloc, &end, &behind)?;
-            Ok(Findings {
-                fine: false,
-                text,
-                diagnosis: diagnosis_of(&end, may_have_right(&behind), true),
-            })
-        }
-    }
+    let checkpoints = audited_from(rt, alloc, log)?;
+    let found = findings_of(alloc, log.at, &end, &behind, &checkpoints)?;
+    Ok(found)
 }

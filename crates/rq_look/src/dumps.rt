@@ -7,7 +7,7 @@ ghost use Rattle.rq_front.specs.Chains.{IsLog};
 ghost use Rattle.rq_record.specs.declared.fault.Fault.TheVariants.{Resources};
 ghost use Rattle.rq_found.specs.Ends.{IsRestartFrom, front_end_of};
 ghost use Rattle.rq_found.specs.Refusals.{IsBroken, StaysUnshown};
-ghost use Rattle.rq_look.specs.Findings.{EndsFrontOf};
+ghost use Rattle.rq_look.specs.Findings.{EndsWithin};
 ghost use Rattle.rq_look.specs.Looks.{AppendsSome, EndsDump, IsClosing};
 
 use crate::behind_fronts::{put_behind, standing_behind};
@@ -104,8 +104,8 @@ fn put_entry<W: io::Write>(
     Ok(is_wanted)
 }
 
-// Puts where the front ends in the form that is wanted.
-fn put_closing(alloc: Global, text: &mut String, end: &End, wanted: &Wanted<'_>) -> Put
+/// Puts where the front ends in the form that is wanted.
+pub(crate) fn put_closing(alloc: Global, text: &mut String, end: &End, wanted: &Wanted<'_>) -> Put
     ensures { OnOk result ((at : Option ℕ) (b : List ℕ) (r : Restarted)
         → IsRestartFrom at b r → IsEndOf r (front_end_of end.now)
         → (line : List ℕ) × IsClosing at b wanted.now.json line
@@ -145,8 +145,8 @@ fn put_records<W: io::Write>(
     Ok(left)
 }
 
-// Puts those frames that are wanted, so many at most.
-fn put_frames<W: io::Write>(
+/// Puts those frames that are wanted, so many at most.
+pub(crate) fn put_frames<W: io::Write>(
     alloc: Global,
     bytes: &[u8],
     spans: &[Span],
@@ -170,8 +170,8 @@ fn put_frames<W: io::Write>(
     Ok(())
 }
 
-// Puts how many frames there are in the form that is wanted.
-fn put_count(
+/// Puts how many frames there are in the form that is wanted.
+pub(crate) fn put_counted(
     alloc: Global,
     text: &mut String,
     found: &Found,
@@ -195,8 +195,7 @@ fn put_wanted_behind<W: io::Write>(
     text: &mut String,
     output: &mut W,
 ) -> Result<(), Trouble>
-    requires log { IsLog bytes.now }
-    requires end { EndsFrontOf bytes.now end.now }
+    requires { EndsWithin bytes.now end.now }
     ensures only { OnOk result (AppendsSome (W.contents output.old) (W.contents output.new)) }
     ensures refused { IfErr result IsBroken }
 {
@@ -205,12 +204,12 @@ fn put_wanted_behind<W: io::Write>(
     }
     let found = standing_behind(alloc, bytes, end)?;
     put_frames(alloc, bytes, &found.spans, wanted, most, text, output)?;
-    put_count(alloc, text, &found, end.total, wanted)?;
+    put_counted(alloc, text, &found, end.total, wanted)?;
     Ok(())
 }
 
-// Puts, before the last line, with which checkpoint the log begins. In JSON the last line has it.
-fn put_origin(text: &mut String, end: &End, wanted: &Wanted<'_>) -> Put {
+/// Puts, before the last line, with which checkpoint the log begins. In JSON the last line has it.
+pub(crate) fn put_origin(text: &mut String, end: &End, wanted: &Wanted<'_>) -> Put {
     if wanted.json {
         return Ok(());
     }
@@ -228,8 +227,7 @@ fn put_lines<W: io::Write>(
     text: &mut String,
     output: &mut W,
 ) -> Result<(), Trouble>
-    requires log { IsLog log.now.bytes.now }
-    requires end { (r : Restarted) × IsRestartFrom log.now.at log.now.bytes.now r
+    requires { (r : Restarted) × IsRestartFrom log.now.at log.now.bytes.now r
         × IsEndOf r (front_end_of end.now) }
     ensures last { OnOk result (EndsDump log.now.at log.now.bytes.now wanted.now.json
         (W.contents output.old) (W.contents output.new)) }

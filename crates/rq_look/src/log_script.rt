@@ -1,11 +1,13 @@
 //! The script of a log.
 
-ghost use Rattle.std.specs.Prelude.{◌≡◌, ◌∷◌, ◌++◌, ℕ, List, true, false, IfOk, IfErr, OnOk};
-ghost use Rattle.std.specs.Prelude.{string_bytes};
+ghost use Rattle.std.specs.Prelude.{◌≡◌, ◌∷◌, ◌++◌, ℕ, List, Some, None, true, false};
+ghost use Rattle.std.specs.Prelude.{IfOk, IfErr, OnOk, string_bytes};
 ghost use Rattle.std.specs.Fmt.{decimal};
 ghost use Rattle.std.specs.Io.KnownBytes.{Appends};
 ghost use Rattle.rq_model.specs.Frames.{AreBytes};
-ghost use Rattle.rq_model.specs.Fronts.{Restarted, IsRestart};
+ghost use Rattle.rq_model.specs.Fronts.{Restarted};
+ghost use Rattle.rq_model.specs.Checkpoints.{IsCheckpointAt};
+ghost use Rattle.rq_model.specs.States.{empty};
 ghost use Rattle.rq_model.specs.Records as model;
 ghost use Rattle.rq_model.specs.Records.{Two};
 ghost use Rattle.rq_model.specs.Spelling.{Spells};
@@ -15,7 +17,8 @@ ghost use Rattle.rq_front.specs.Chains.{IsLog};
 ghost use Rattle.rq_judged.specs.FrontEnds.{IsEndOf};
 ghost use Rattle.rq_writer.specs.Script.{record_text, who_name, who_tag, IsNamed, IsTellable};
 ghost use Rattle.rq_found.specs.Ends as ends;
-ghost use Rattle.rq_found.specs.Ends.{front_end_of};
+ghost use Rattle.rq_found.specs.Ends.{IsRestartFrom, front_end_of};
+ghost use Rattle.rq_found.specs.Records.{SpelledIn};
 ghost use Rattle.rq_look.specs.Looks.{BreaksOff, LacksScript};
 ghost use Rattle.rq_look.specs.Scripts.{IsDash, LeavesBody, LeavesOut, PutsScript, by_in};
 ghost use Rattle.rq_look.specs.Scripts.{script_line};
@@ -23,11 +26,12 @@ ghost use Rattle.rq_look.specs.Scripts.{script_line};
 use crate::sheet::{relieve, write_out};
 use crate::shown_records::by_of;
 use rq_found::{
-    End, Numbered, Placed, PlacedFrames, Put, ShownLog, Trouble, end_of, is_whole, put_digits,
+    End, Numbered, Placed, Put, ShownLog, Trouble, end_of, first_state, front_frames, is_whole,
+    put_digits,
 };
 use rq_record::{KeptBy, KeptName, KeptRecord, QueueNo, UnitNo};
 use rq_report::put_error;
-use rq_restart::Plan;
+use rq_state::State;
 use std::alloc::Global;
 use std::thread::Threads;
 use std::{fmt, io};
@@ -208,73 +212,73 @@ fn put_placed<W: io::Write>(
     Ok(())
 }
 
-/// Writes the script of the front, of so many bytes.
+/// Writes the script of the front, of so many bytes, whose records begin behind this state.
 pub(crate) fn put_records<W: io::Write>(
     alloc: Global,
-    bytes: &[u8],
+    log: &ShownLog<'_>,
+    first: &State,
     used: u64,
     output: &mut W,
 ) -> Result<(), Trouble>
-    requires { (r : Restarted) × IsRestart bytes.now r × (used ≡ r.used) }
-    ensures script { OnOk result
-        (PutsScript bytes.now (W.contents output.old) (W.contents output.new)) }
-    ensures untold { IfErr result
-        (LeavesOut bytes.now (W.contents output.old) (W.contents output.new)) }
+    requires restart { (r : Restarted) × IsRestartFrom log.now.at log.now.bytes.now r
+        × (used ≡ r.used) }
+    requires start { log.now.at ≡ None → first.now ≡ empty }
+    requires there { (offset : ℕ) (kept : List ℕ) → log.now.at ≡ Some offset
+        → IsCheckpointAt log.now.bytes.now offset kept → SpelledIn log.now.bytes.now kept first.now }
+    ensures script { OnOk result (PutsScript log.now.at log.now.bytes.now
+        (W.contents output.old) (W.contents output.new)) }
+    ensures untold { IfErr result (LeavesOut log.now.at log.now.bytes.now
+        (W.contents output.old) (W.contents output.new)) }
     ensures refused { IfErr result BreaksOff }
 {
     let mut text = String::new(alloc);
-    for placed in PlacedFrames::of(bytes, used) {
+    for placed in front_frames(log.bytes, first, log.at, used) {
         put_placed(alloc, &mut text, placed, output)?;
     }
     write_out(&mut text, output)?;
     Ok(())
 }
 
-/// Writes the script of the front of a log that was not carried on, and answers where it ends.
+/// Writes the script of the front of a log, from the checkpoint on that it begins with, if it was
+/// carried on, and answers where it ends.
 pub(crate) fn put_front_script<R: Threads + Sync, W: io::Write>(
     rt: &R,
     alloc: Global,
-    bytes: &[u8],
-    plan: &Plan,
+    log: &ShownLog<'_>,
     output: &mut W,
 ) -> Result<End, Trouble>
-    ensures end { IfOk result (λ end. (r : Restarted) × IsRestart bytes.now r
+    ensures end { IfOk result (λ end. (r : Restarted) × IsRestartFrom log.now.at log.now.bytes.now r
         × IsEndOf r (front_end_of end)) }
-    ensures log { OnOk result (IsLog bytes.now) }
-    ensures script { OnOk result
-        (PutsScript bytes.now (W.contents output.old) (W.contents output.new)) }
-    ensures refused { IfErr result
-        (LacksScript bytes.now (W.contents output.old) (W.contents output.new)) }
+    ensures log { OnOk result (IsLog log.now.bytes.now) }
+    ensures script { OnOk result (PutsScript log.now.at log.now.bytes.now
+        (W.contents output.old) (W.contents output.new)) }
+    ensures refused { IfErr result (LacksScript log.now.at log.now.bytes.now
+        (W.contents output.old) (W.contents output.new)) }
 {
-    let log = ShownLog {
-        bytes,
-        at: None,
-        plan,
-    };
-    let end = end_of(rt, alloc, &log)?;
-    put_records(alloc, bytes, end.used, output)?;
+    let end = end_of(rt, alloc, log)?;
+    let first = first_state(alloc, log.bytes, log.at)?;
+    put_records(alloc, log, &first, end.used, output)?;
     Ok(end)
 }
 
 /// Writes the script of the front of a log, a line for each record, and answers whether that is the
-/// whole log.
+/// whole log. Of a log that was carried on it begins with the line of its first checkpoint.
 ///
 /// Refuses with `Untold` the first operation of the registrant `-`, which no script tells, once the
 /// lines of the records before it are written; else as `dump` does.
 pub fn script<R: Threads + Sync, W: io::Write>(
     rt: &R,
     alloc: Global,
-    bytes: &[u8],
-    plan: &Plan,
+    log: &ShownLog<'_>,
     output: &mut W,
 ) -> Result<bool, Trouble>
-    ensures script { IfOk result (λ whole. (r : Restarted) × IsRestart bytes.now r
-        × (whole ≡ ends.is_whole r.why)) }
-    ensures told { OnOk result
-        (PutsScript bytes.now (W.contents output.old) (W.contents output.new)) }
-    ensures refused { IfErr result
-        (LacksScript bytes.now (W.contents output.old) (W.contents output.new)) }
+    ensures script { IfOk result (λ whole. (r : Restarted)
+        × IsRestartFrom log.now.at log.now.bytes.now r × (whole ≡ ends.is_whole r.why)) }
+    ensures told { OnOk result (PutsScript log.now.at log.now.bytes.now
+        (W.contents output.old) (W.contents output.new)) }
+    ensures refused { IfErr result (LacksScript log.now.at log.now.bytes.now
+        (W.contents output.old) (W.contents output.new)) }
 {
-    let end = put_front_script(rt, alloc, bytes, plan, output)?;
+    let end = put_front_script(rt, alloc, log, output)?;
     Ok(is_whole(end.why))
 }

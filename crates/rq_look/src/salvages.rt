@@ -2,12 +2,11 @@
 
 ghost use Rattle.std.specs.Prelude.{◌≡◌, ℕ, List, false, IfErr, IfOk, OnOk, string_bytes};
 ghost use Rattle.std.specs.Io.KnownBytes.{Appends};
-ghost use Rattle.rq_front.specs.Chains.{IsLog};
 ghost use Rattle.rq_record.specs.declared.fault.Fault.TheVariants.{Resources};
 ghost use Rattle.rq_judged.specs.Views.{why_of};
 ghost use Rattle.rq_found.specs.Ends as ends;
 ghost use Rattle.rq_found.specs.Refusals.{IsBroken};
-ghost use Rattle.rq_look.specs.Findings.{EndsFrontOf};
+ghost use Rattle.rq_look.specs.Findings.{EndsWithin};
 ghost use Rattle.rq_look.specs.Looks.{AppendsSome, LacksScript};
 ghost use Rattle.rq_look.specs.Scripts.{IsChoice, PutsSalvage};
 
@@ -16,9 +15,8 @@ use crate::log_script::{is_untold, put_front_script, put_line};
 use crate::sheet::{relieve, write_out};
 use crate::shown_records::ShownFrame;
 use rq_behind::Found;
-use rq_found::{End, Put, Trouble, form_reason, is_whole, put_end};
+use rq_found::{End, Put, ShownLog, Trouble, form_reason, is_whole, put_end};
 use rq_record::Fault;
-use rq_restart::Plan;
 use std::alloc::{AllocError, Global};
 use std::fmt::Write;
 use std::io;
@@ -74,8 +72,8 @@ fn put_gap(text: &mut String, from: usize, to: usize) -> Put {
     write!(text, "# {count} bytes at {from} fit nothing\n")
 }
 
-// Puts each frame that was found behind an offset, to choose it or not.
-fn put_spans<W: io::Write>(
+/// Puts each frame that was found behind an offset, to choose it or not.
+pub(crate) fn put_spans<W: io::Write>(
     alloc: Global,
     bytes: &[u8],
     found: &Found,
@@ -111,8 +109,8 @@ fn advice_of(alloc: Global, found: &Found, total: u64) -> Result<String, AllocEr
     Ok(text)
 }
 
-// Where the front ends, and what that means, behind `# `.
-fn words_of(alloc: Global, end: &End, found: &Found) -> Result<String, AllocError>
+/// Where the front ends, and what that means, behind `# `.
+pub(crate) fn words_of(alloc: Global, end: &End, found: &Found) -> Result<String, AllocError>
     ensures { IfOk result (λ text. IsChoice false (string_bytes text)) }
 {
     let advice = advice_of(alloc, found, end.total)?;
@@ -129,8 +127,7 @@ fn put_rest<W: io::Write>(
     end: &End,
     output: &mut W,
 ) -> Result<(), Trouble>
-    requires log { IsLog bytes.now }
-    requires end { EndsFrontOf bytes.now end.now }
+    requires { EndsWithin bytes.now end.now }
     ensures choice { OnOk result ((put : List ℕ) × IsChoice (ends.is_whole (why_of end.now.why)) put
         × Appends (W.contents output.old) (W.contents output.new) put) }
     ensures refused { IfErr result IsBroken }
@@ -155,16 +152,15 @@ fn put_rest<W: io::Write>(
 pub fn salvage<R: Threads + Sync, W: io::Write>(
     rt: &R,
     alloc: Global,
-    bytes: &[u8],
-    plan: &Plan,
+    log: &ShownLog<'_>,
     output: &mut W,
 ) -> Result<(), Trouble>
-    ensures told { OnOk result
-        (PutsSalvage bytes.now (W.contents output.old) (W.contents output.new)) }
-    ensures refused { IfErr result
-        (LacksScript bytes.now (W.contents output.old) (W.contents output.new)) }
+    ensures told { OnOk result (PutsSalvage log.now.at log.now.bytes.now
+        (W.contents output.old) (W.contents output.new)) }
+    ensures refused { IfErr result (LacksScript log.now.at log.now.bytes.now
+        (W.contents output.old) (W.contents output.new)) }
 {
-    let end = put_front_script(rt, alloc, bytes, plan, output)?;
-    put_rest(alloc, bytes, &end, output)?;
+    let end = put_front_script(rt, alloc, log, output)?;
+    put_rest(alloc, log.bytes, &end, output)?;
     Ok(())
 }

@@ -8,7 +8,7 @@ use Rattle.rq_model.specs.Records.{By, Record, Enqueue, Abort, Version}
 use Rattle.rq_model.specs.Spelling.{IsRecord}
 use Rattle.rq_model.specs.Frames.{log_limit, log_of, magic, header, frames_of, AreBytes}
 use Rattle.rq_model.specs.States.{Free, Element, Registrant, State, empty, is_free, definition_at}
-use Rattle.rq_model.specs.WellFormed.{IsWellFormed, IsElement}
+use Rattle.rq_model.specs.WellFormed.{IsWellFormed, IsElement, IsRegistrant}
 use Rattle.rq_model.specs.StateSpelling.{Fits, FitsDefinition, FitsRegistrant}
 use Rattle.rq_model.specs.WorkedLogs.{text_made}
 use Rattle.rq_model.specs.FateLaws.{element_lines, ReportAccounts, CheckpointReportAccounts, BeginningReportAccounts}
@@ -16,7 +16,9 @@ use Rattle.rq_model.specs.FateLaws.{IsAsEnqueued, Accounts, RestartAccounts, Beg
 use Rattle.rq_model.specs.FateLaws.{CheckpointAccounts}
 use Rattle.rq_model.specs.Fates.{requests, done, kills, shown, with_aborts, tries_at, hears, leavings, IsBounded}
 use Rattle.rq_model.specs.Fates.{remains}
+use Rattle.rq_model.specs.ClientLines.{BeginningTellsClients, CheckpointTellsClients, ReportTellsClients, TellsClients}
 use Rattle.rq_model.specs.Reports.{IsText}
+use Rattle.rq_model.specs.Appending.{MayFollow}
 use Rattle.rq_model.specs.Closing.{IsTail}
 use Rattle.rq_model.proofs.Lists.{each_weaker, each_append, each_both}
 use Rattle.rq_model.proofs.Kept.{runs_are_well_formed, empty_is_well_formed}
@@ -28,6 +30,7 @@ use Rattle.rq_model.proofs.FromCheckpoints.{true_says_the_same, one_restart_at, 
 use Rattle.rq_model.proofs.Appended.{front_follows}
 use Rattle.rq_model.proofs.Longest.{front_whole, one_front, front_ends, one_restart}
 use Rattle.rq_model.proofs.ReportLines.{IsNarrow, StandsIn, text_told}
+use Rattle.rq_model.proofs.ToldClients.{Asked, tells_clients}
 use Rattle.rq_model.specs.Machine.{all_lawful, latest, run, final, is_registered}
 use Rattle.rq_model.specs.Fronts.{IsFront, Restarted, IsRestart}
 use Rattle.rq_model.proofs.Found.{front_restart}
@@ -39,7 +42,7 @@ use Rattle.rq_model.proofs.Meaning.{who_is_registered}
 use Rattle.rq_model.proofs.Origins.{all_as_enqueued}
 use Rattle.rq_model.proofs.Clients.{how_far}
 
-accounts : (version : Version) (rs : List Record) → all_lawful version empty rs ≡ true
+pub accounts : (version : Version) (rs : List Record) → all_lawful version empty rs ≡ true
     → Accounts (with_aborts rs) (final (run empty rs))
 accounts version rs lawful =
     let all = with_aborts rs in
@@ -128,7 +131,7 @@ narrow rs s few e x =
     (run empty rs).units x.unit e.origin e.priority h.by e.payload h.there.whole in
     omega (arith, low, few, h.there.place)
 
-few_records : (b : List ℕ) (version : Version) (rs : List Record) (rest : List ℕ) → IsFront b version rs rest
+pub few_records : (b : List ℕ) (version : Version) (rs : List Record) (rest : List ℕ) → IsFront b version rs rest
     → length rs < 2 ^ 64
 few_records b version rs rest front =
     let many = frames_many (sha256 (magic version)) rs in
@@ -140,42 +143,90 @@ few_records b version rs rest front =
 stands_in : (s : State) (e : Element) → (e.mark ≡ Free) × IsElement s e → StandsIn s.definitions e
 stands_in s e x = record { free = ap is_free x.0; home = x.1.home }
 
--- the lines of a text for the state that the front ends in
-text_accounts : (b : List ℕ) (version : Version) (rs : List Record) (rest : List ℕ) (r : Restarted) (text : List ℕ)
-    (p : ℕ) → p < 2 ^ 64 → IsFront b version rs rest → r.state ≡ final (run empty rs) → IsText r text
+-- what the state after such records and the last aborts keeps
+record Ended (version : Version) (rs : List Record) : Type 0 where
+  account : Accounts (with_aborts rs) (final (run empty rs))
+  keeps : IsWellFormed (final (run empty rs))
+  fits : Fits (final (run empty rs))
+
+ended : (version : Version) (rs : List Record) → MayFollow version empty rs → Ended version rs
+ended version rs old =
+    let (too, joined) = runs_end version rs old.lawful in
+    record {
+      account = accounts version rs old.lawful;
+      keeps = subst IsWellFormed joined (runs_are_well_formed version empty (with_aborts rs) empty_is_well_formed too);
+      fits = subst Fits joined (runs_fit version empty (with_aborts rs) empty_fits
+          (each_append (IsRecord version) rs _ old.records (aborts_follow version rs old).records));
+    }
+
+-- the lines of a text for the state after such records and the last aborts
+pub text_accounts : (version : Version) (rs : List Record) (r : Restarted) (text : List ℕ) (p : ℕ) → p < 2 ^ 64
+    → MayFollow version empty rs → length rs < 2 ^ 64 → r.state ≡ final (run empty rs) → IsText r text
     → element_lines p text + (done p (with_aborts rs) + kills p (with_aborts rs)) ≡ requests p (with_aborts rs)
-text_accounts b version rs rest r text p low front same told =
-    let begins = front.longest.begins in
+text_accounts version rs r text p low old few same told =
     let s = final (run empty rs) in
-    let account = accounts version rs begins.lawful in
-    let (too, joined) = runs_end version rs begins.lawful in
-    let keeps : IsWellFormed s = subst IsWellFormed joined
-    (runs_are_well_formed version empty (with_aborts rs) empty_is_well_formed too) in
-    let fits : Fits s = subst Fits joined (runs_fit version empty (with_aborts rs) empty_fits
-    (each_append (IsRecord version) rs _ begins.records (aborts_follow version rs (front_follows b version rs rest front)).records)) in
-    let narrow_all = each_weaker (IsAsEnqueued (with_aborts rs) s) IsNarrow
-    (narrow rs s (few_records b version rs rest front)) s.elements account.elements in
+    let h = ended version rs old in
+    let account = h.account in
+    let narrow_all = each_weaker (IsAsEnqueued (with_aborts rs) s) IsNarrow (narrow rs s few) s.elements account.elements in
     let stand = each_weaker _ (StandsIn s.definitions) (stands_in s) s.elements
-    (each_both (λ (e : Element). e.mark ≡ Free) (IsElement s) s.elements account.free keeps.elements) in
+    (each_both (λ (e : Element). e.mark ≡ Free) (IsElement s) s.elements account.free h.keeps.elements) in
     let back = sym same in
     let lines : element_lines p (text_made r) ≡ shown p r.state = text_told p r low
-    (subst (λ (t : State). AllByRecursion FitsDefinition t.definitions) back fits.definitions)
-    (subst (λ (t : State). AllByRecursion FitsRegistrant t.registrants) back fits.registrants)
+    (subst (λ (t : State). AllByRecursion FitsDefinition t.definitions) back h.fits.definitions)
+    (subst (λ (t : State). AllByRecursion FitsRegistrant t.registrants) back h.fits.registrants)
     (subst (λ (t : State). AllByRecursion IsNarrow t.elements) back narrow_all)
     (subst (λ (t : State). AllByRecursion (StandsIn t.definitions) t.elements) back stand) in
-    let made = one_text r text (text_made r) told (is_text r (subst IsWellFormed back keeps)) in
+    let made = one_text r text (text_made r) told (is_text r (subst IsWellFormed back h.keeps)) in
     let count = ap (element_lines p) made ∙ lines ∙ ap (shown p) same in
     omega (arith, count, account.fates p)
 
+-- the clients' lines
+pub text_tells : (version : Version) (rs : List Record) (r : Restarted) (text : List ℕ) → MayFollow version empty rs
+    → r.state ≡ final (run empty rs) → IsText r text → TellsClients (with_aborts rs) text
+text_tells version rs r text old same told =
+    let h = ended version rs old in
+    let s = final (run empty rs) in
+    let back = sym same in
+    let asked : Asked (with_aborts rs) s =
+    record {
+      definitions = h.fits.definitions;
+      named = h.fits.registrants;
+      defined = each_weaker (IsRegistrant s) (λ (t : Registrant). t.queue < length s.definitions) (λ t x. x.queue)
+          s.registrants h.keeps.registrants;
+      few = h.keeps.few;
+      rise = h.keeps.registrants_rise;
+      registered = h.account.registered;
+      lasts = h.account.clients;
+    } in
+    let made = one_text r text (text_made r) told (is_text r (subst IsWellFormed back h.keeps)) in
+    subst (TellsClients (with_aborts rs)) (sym made)
+    (tells_clients (with_aborts rs) r (subst (Asked (with_aborts rs)) back asked))
+
 pub report_accounts : ReportAccounts
 report_accounts b version rs rest text p low front (r, restart, told) =
-    text_accounts b version rs rest r text p low front (restart_state b version rs rest r front restart) told
+    text_accounts version rs r text p low (front_follows b version rs rest front) (few_records b version rs rest front)
+    (restart_state b version rs rest r front restart) told
 
 pub beginning_report_accounts : BeginningReportAccounts
 beginning_report_accounts b tail part missing version rs rest text p low fits front tailed parts short told =
-    text_accounts b version rs rest told.0 text p low front
+    text_accounts version rs told.0 text p low (front_follows b version rs rest front)
+    (few_records b version rs rest front)
     (beginning_state b tail part missing version rs rest told.0 fits front tailed parts short told.1) told.2
 
 pub checkpoint_report_accounts : CheckpointReportAccounts
 checkpoint_report_accounts b offset version rs rest text p low front true_here told =
     report_accounts b version rs rest text p low front ((true_says_the_same b offset text true_here).0 told)
+
+pub report_tells : ReportTellsClients
+report_tells b version rs rest text front (r, restart, told) =
+    text_tells version rs r text (front_follows b version rs rest front) (restart_state b version rs rest r front restart)
+    told
+
+pub beginning_tells : BeginningTellsClients
+beginning_tells b tail part missing version rs rest text fits front tailed parts short told =
+    text_tells version rs told.0 text (front_follows b version rs rest front)
+    (beginning_state b tail part missing version rs rest told.0 fits front tailed parts short told.1) told.2
+
+pub checkpoint_tells : CheckpointTellsClients
+checkpoint_tells b offset version rs rest text front true_here told =
+    report_tells b version rs rest text front ((true_says_the_same b offset text true_here).0 told)

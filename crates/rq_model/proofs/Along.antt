@@ -1,5 +1,5 @@
 -- What is kept along with a log.
-use Rattle.std.proofs.Common.{◌≡◌, ℕ, List, [], ◌++◌, length, drop, refl, sym, ap, subst, ◌∙◌, append_assoc, arith}
+use Rattle.std.proofs.Common.{◌≡◌, ℕ, List, ◌++◌, length, drop, refl, sym, ap, subst, ◌∙◌, append_assoc, arith}
 use Rattle.std.proofs.lemmas.List.{length-append, length-drop}
 use Rattle.rq_model.specs.Frames.{header, start, log_of, frames_of, last_of, before}
 use Rattle.rq_model.specs.States.{empty}
@@ -41,9 +41,9 @@ window_goes_on b more window version records xs rest end old why h is high longe
     let p = last_of first records in
     let (kept, log_end, long) = log_ends version records in
     let left = drop end window in
-    let goes = goes_on version p (rest ++ more) [] long in
-    let ahead : before 72 window ≡ p = ap (before 72) is ∙ goes.at.ahead in
-    let behind : drop 72 window ≡ rest ++ more = ap (drop 72) is ∙ goes.at.behind in
+    let goes = goes_on version p (rest ++ more) window long is in
+    let ahead = goes.at.ahead in
+    let behind = goes.at.behind in
     let begins = longest.begins in
     let parts : rest ++ more ≡ frames_of p xs ++ left =
     sym behind ∙ begins.whole ∙ ap (λ (q : List ℕ). frames_of q xs ++ left) ahead in
@@ -61,7 +61,6 @@ window_goes_on b more window version records xs rest end old why h is high longe
       header_long version,
       ap length parts,
       length-append (frames_of p xs) left,
-      ap length is,
       goes.size,
       length-drop end window,
       high,

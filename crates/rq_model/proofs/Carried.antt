@@ -4,20 +4,19 @@ use Rattle.std.proofs.Common.{subst, append_assoc, inl, inr}
 use Rattle.std.proofs.lemmas.List.{append-nil, length-drop, take-append-le, drop-append-le, length-append, take_at}
 use Rattle.std.proofs.lemmas.List.{length-take, append_cancel_left}
 use Rattle.std.proofs.lemmas.Bool.{cases_lt}
-use Rattle.byteorder.specs.Numbers.{big_from-append}
 use Rattle.rq_model.specs.Records.{Record, Checkpoint, Version}
 use Rattle.rq_model.specs.Spelling.{body_of}
-use Rattle.rq_model.specs.Frames.{frames_of, before, HasHeader, log_limit, header, start, last_of, stated, Length}
-use Rattle.rq_model.specs.Frames.{IsBodyLength, Whole, frame, body_in}
+use Rattle.rq_model.specs.Frames.{frames_of, before, HasHeader, log_limit, header, start, last_of, Whole, frame, body_in}
 use Rattle.rq_model.specs.States.{State, empty}
 use Rattle.rq_model.specs.Machine.{run}
 use Rattle.rq_model.specs.StateSpelling.{state_bytes, SpellsState}
-use Rattle.rq_model.specs.Fronts.{Ends, Begins, IsWhy, Restarted, restarted, IsLongest}
+use Rattle.rq_model.specs.Fronts.{Ends, Begins, Restarted, restarted, IsLongest}
 use Rattle.rq_model.specs.Checkpoints.{IsRestartAt}
 use Rattle.rq_model.specs.Appending.{MayFollow}
-use Rattle.rq_model.specs.Carrying.{IsFrontAt, TrueHasFront, CrashWhileCarriedGrows, moved, moved_to, when_moved}
-use Rattle.rq_model.specs.Carrying.{MovesOn, GapIsLoud, begun_anew, StartsAnew, IsCarriedGap, FrontGoesOn}
+use Rattle.rq_model.specs.Carrying.{IsFrontAt, TrueHasFront, CrashWhileCarriedGrows, carried_header, carried_file, carried_at}
+use Rattle.rq_model.specs.Carrying.{as_log, moved, moved_log, when_moved, MovesOn, begun_anew, StartsAnew, FrontGoesOn}
 use Rattle.rq_model.specs.Carrying.{LaterSaysTheSame, FilesJoin, AnewJoins}
+use Rattle.rq_model.proofs.CarriedFiles.{read_header, read_whole, read_size}
 use Rattle.rq_model.proofs.RecordReaders.{body_fits}
 use Rattle.rq_model.proofs.Runs.{frame_reads, frames_assoc}
 use Rattle.rq_model.proofs.Longest.{front_stops, log_ends, frames_apart}
@@ -78,136 +77,115 @@ crash_while_carried_grows b offset version s kept after xs part missing h new pa
           grown.ahead g.ends;
     }
 
--- what is in such a file
-pub record GoesOn (version : Version) (new p bytes : List ℕ) (there : ℕ) : Type 0 where
-  pub header : HasHeader version new
-  pub at : IsLinked new there p bytes
-  pub size : length new ≡ there + length bytes
+-- what is in a carried file, read as a log
+pub record GoesOn (version : Version) (log p bytes : List ℕ) : Type 0 where
+  pub header : HasHeader version log
+  pub at : IsLinked log carried_at p bytes
+  pub size : length log ≡ carried_at + length bytes
 
-pub goes_on : (version : Version) (p bytes gap : List ℕ) → length p ≡ 32
-    → GoesOn version (header version ++ (gap ++ (p ++ bytes))) p bytes (moved_to gap)
-goes_on version p bytes gap long =
-    let left = header version ++ gap in
-    let parts = sym (append_assoc (header version) gap (p ++ bytes)) in
-    let left_long = length-append (header version) gap in
-    record {
-      header = take_at (header version) (gap ++ (p ++ bytes)) 40 (header_long version);
-      at = linked (header version ++ (gap ++ (p ++ bytes))) left p [] bytes (moved_to gap) long parts
-          (omega (arith, left_long, header_long version));
-      size = omega (
-        arith,
-        ap length parts,
-        length-append left (p ++ bytes),
-        length-append p bytes,
-        left_long,
-        header_long version,
-        long,
-      );
-    }
+pub goes_on : (version : Version) (p bytes log : List ℕ) → length p ≡ 32 → log ≡ header version ++ (p ++ bytes)
+    → GoesOn version log p bytes
+goes_on version p bytes log long parts = record {
+  header = ap (take 40) parts ∙ take_at (header version) (p ++ bytes) 40 (header_long version);
+  at = linked log (header version) p [] bytes carried_at long parts (omega (arith, header_long version));
+  size = omega (
+    arith,
+    ap length parts,
+    length-append (header version) (p ++ bytes),
+    length-append p bytes,
+    header_long version,
+    long,
+  );
+}
 
 -- A checkpoint and all bytes after it, moved.
 
 moved_goes : (b : List ℕ) (offset : ℕ) (version : Version) (s : State) (kept : List ℕ) (after : List Record)
-    (rest gap : List ℕ) → IsFrontAt b offset version s kept after rest
-    → GoesOn version (moved version b offset gap) (before offset b) (drop offset b) (moved_to gap)
-moved_goes b offset version s kept after rest gap h =
+    (rest : List ℕ) → IsFrontAt b offset version s kept after rest
+    → GoesOn version (moved_log version b offset) (before offset b) (drop offset b)
+moved_goes b offset version s kept after rest h =
     let past = h.checkpoint.past_header in
-    goes_on version (before offset b) (drop offset b) gap
+    let p = before offset b in
+    let bytes = drop offset b in
+    goes_on version p bytes (moved_log version b offset)
     (before_long b offset (omega (arith, past)) (within b offset version s kept after rest h))
+    (read_whole version p bytes)
+
+-- the log has as many bytes as the file
+moved_short : (b : List ℕ) (offset : ℕ) (version : Version) → length (moved version b offset) ≤ log_limit
+    → length (moved_log version b offset) ≤ log_limit
+moved_short b offset version short =
+    let file = moved version b offset in
+    omega (arith, short, read_size version file (read_header version (before offset b) (drop offset b)))
 
 moved_front : (b : List ℕ) (offset : ℕ) (version : Version) (s : State) (kept : List ℕ) (after : List Record)
-    (rest gap : List ℕ) → IsFrontAt b offset version s kept after rest
-    → length (moved version b offset gap) ≤ log_limit
-    → IsFrontAt (moved version b offset gap) (moved_to gap) version s kept after rest
-moved_front b offset version s kept after rest gap h short =
-    let goes = moved_goes b offset version s kept after rest gap h in
-    front_at (moved version b offset gap) (moved_to gap) version s kept after (before offset b) (drop offset b) rest short
-    goes.header (omega arith) goes.at h.spells h.front
+    (rest : List ℕ) → IsFrontAt b offset version s kept after rest
+    → length (moved version b offset) ≤ log_limit
+    → IsFrontAt (moved_log version b offset) carried_at version s kept after rest
+moved_front b offset version s kept after rest h short =
+    let goes = moved_goes b offset version s kept after rest h in
+    front_at (moved_log version b offset) carried_at version s kept after (before offset b) (drop offset b) rest
+    (moved_short b offset version short) goes.header (omega arith) goes.at h.spells h.front
 
 moved_restart : (b : List ℕ) (offset : ℕ) (version : Version) (s : State) (kept : List ℕ) (after : List Record)
-    (rest gap : List ℕ) (r : Restarted) → IsFrontAt b offset version s kept after rest
-    → length (moved version b offset gap) ≤ log_limit → IsRestartAt b offset r
-    → IsRestartAt (moved version b offset gap) (moved_to gap) (when_moved offset (moved_to gap) r)
-moved_restart b offset version s kept after rest gap r h short k =
+    (rest : List ℕ) (r : Restarted) → IsFrontAt b offset version s kept after rest
+    → length (moved version b offset) ≤ log_limit → IsRestartAt b offset r
+    → IsRestartAt (moved_log version b offset) carried_at (when_moved offset r)
+moved_restart b offset version s kept after rest r h short k =
     let xs : List Record = Checkpoint kept ∷ after in
     let t = run s xs in
     let p = before offset b in
-    let new = moved version b offset gap in
-    let there = moved_to gap in
+    let new = moved_log version b offset in
     let high = within b offset version s kept after rest h in
-    let goes = moved_goes b offset version s kept after rest gap h in
+    let goes = moved_goes b offset version s kept after rest h in
     let ended = ends_at b offset version s kept after rest r h k in
-    let front = moved_front b offset version s kept after rest gap h short in
+    let front = moved_front b offset version s kept after rest h short in
     let few : length rest ≤ length b - offset =
     omega (arith, ap length h.front.begins.whole, length-append (frames_of p xs) rest, length-drop offset b) in
-    let used : length b - length rest + there - offset ≡ length new - length rest =
+    let used : length b - length rest + carried_at - offset ≡ length new - length rest =
     omega (arith, goes.size, few, high, length-drop offset b) in
-    let total : length b + there - offset ≡ length new = omega (arith, goes.size, high, length-drop offset b) in
-    let answer : when_moved offset there r ≡ restarted t (length rest) (length new) ended.why =
-    ap (when_moved offset there) ended.answer
+    let total : length b + carried_at - offset ≡ length new = omega (arith, goes.size, high, length-drop offset b) in
+    let answer : when_moved offset r ≡ restarted t (length rest) (length new) ended.why =
+    ap (when_moved offset) ended.answer
     ∙ (λ i. record (restarted t (length rest) (length new) ended.why) { used = used i; total = total i }) in
-    subst (IsRestartAt new there) (sym answer)
-    (restart_at new there version s kept after p rest ended.why front goes.at.ahead ended.ends)
+    subst (IsRestartAt new carried_at) (sym answer)
+    (restart_at new carried_at version s kept after p rest ended.why front goes.at.ahead ended.ends)
 
 pub moves_on : MovesOn
 moves_on = record {
   front = moved_front;
   restart = moved_restart;
-  truth = λ b offset version s kept after rest gap r h short true_here restart.
-      moved_restart b offset version s kept after rest gap r h short (true_is_same b offset r true_here restart);
+  truth = λ b offset version s kept after rest r h short true_here restart.
+      moved_restart b offset version s kept after rest r h short (true_is_same b offset r true_here restart);
 }
 
 -- A log that goes on from a state.
 
 pub starts_anew : StartsAnew
-starts_anew version p s gap long spells small short =
+starts_anew version p s log long spells small short is =
     let kept = state_bytes s in
     let xs : List Record = Checkpoint kept ∷ [] in
     let bytes = frames_of p xs in
-    let goes = goes_on version p bytes gap long in
+    let file = begun_anew version p s in
+    let goes = goes_on version p bytes log long (is ∙ read_whole version p bytes) in
+    let size : length log ≡ length file = ap length is ∙ read_size version file (read_header version p bytes) in
     let begins : Begins version s p bytes xs [] =
     record { records = (small, tt); lawful = refl; whole = sym (append-nil bytes) } in
-    let front = front_at (begun_anew version p s gap) (moved_to gap) version s kept [] p bytes [] short goes.header
+    let front = front_at log carried_at version s kept [] p bytes [] (omega (arith, short, size)) goes.header
     (omega arith) goes.at spells (front_stops version s p bytes [] xs (Ends Whole) begins refl) in (
       front,
       goes.at.ahead,
-      restart_at (begun_anew version p s gap) (moved_to gap) version s kept [] p [] (Ends Whole) front goes.at.ahead refl,
+      subst (λ (n : ℕ). IsRestartAt log carried_at (restarted (run s xs) 0 n (Ends Whole))) size
+          (restart_at log carried_at version s kept [] p [] (Ends Whole) front goes.at.ahead refl),
     )
 
 pub front_goes_on : FrontGoesOn
-front_goes_on b version records rest gap front small short =
+front_goes_on b version records rest front small short =
     let (kept, log_end, size) = log_ends version records in
-    (starts_anew version (last_of (start version) records) (run empty records) gap size
-    (front_spelt b version records rest front) small short).0
-
--- A gap that is no frame.
-pub gap_is_loud : GapIsLoud
-gap_is_loud version gap bytes long none short =
-    let p = start version in
-    let all = gap ++ bytes in
-    let same : stated all ≡ stated gap = big_from-append 4 gap bytes long in
-    let why : IsWhy version empty p all (Ends Length) = (
-      omega (arith, long, length-append gap bytes),
-      λ fits. none (subst IsBodyLength same fits),
-    ) in
-    let begins : Begins version empty p all [] all = record { records = tt; lawful = refl; whole = refl } in
-    record {
-      version = version;
-      records = [];
-      rest = all;
-      why = Ends Length;
-      front = record {
-        short = short;
-        bytes = all;
-        whole = refl;
-        longest = front_stops version empty p all all [] (Ends Length) begins why;
-      };
-      ends = why;
-      answer = refl;
-    }
-
-pub is_carried_gap : IsCarriedGap
-is_carried_gap = record { there = refl; room = omega arith; loud = λ fits. omega (arith, fits.1) }
+    let p = last_of (start version) records in
+    let s = run empty records in
+    (starts_anew version p s (as_log version (begun_anew version p s)) size
+    (front_spelt b version records rest front) small short refl).0
 
 pub later_says_the_same : LaterSaysTheSame
 later_says_the_same b offset version s kept earlier again after rest r h spelled low k =
@@ -278,21 +256,21 @@ files_join b offset version s kept records after rest old front linked spelled =
 
 -- the checkpoint that the file begins with is read again, whatever follows it
 pub anew_joins : AnewJoins
-anew_joins b new more version records rest gap s kept after left front small whole h =
+anew_joins b new more version records rest s kept after left front small whole h =
     let p = last_of (start version) records in
     let t = run empty records in
     let first = Checkpoint (state_bytes t) in
     let made = frames_of p (first ∷ []) in
     let (log, log_end, long) = log_ends version records in
-    let goes = goes_on version p (made ++ more) gap long in
-    let parts : new ≡ header version ++ (gap ++ (p ++ (made ++ more))) =
-    whole ∙ append_assoc (header version) (gap ++ (p ++ made)) more
-    ∙ ap (λ (z : List ℕ). header version ++ z) (append_assoc gap (p ++ made) more)
-    ∙ ap (λ (z : List ℕ). header version ++ (gap ++ z)) (append_assoc p made more) in
-    let ahead : before (moved_to gap) new ≡ p = ap (before (moved_to gap)) parts ∙ goes.at.ahead in
-    let behind : drop (moved_to gap) new ≡ frame p (body_of first) ++ more =
-    ap (drop (moved_to gap)) parts ∙ goes.at.behind ∙ frames_assoc p (body_of first) [] more in
+    let file : new ≡ carried_file version p (made ++ more) =
+    whole ∙ append_assoc (carried_header version) (p ++ made) more
+    ∙ ap (λ (z : List ℕ). carried_header version ++ z) (append_assoc p made more) in
+    let read = as_log version new in
+    let goes = goes_on version p (made ++ more) read long
+    (ap (as_log version) file ∙ read_whole version p (made ++ more)) in
+    let behind : drop carried_at read ≡ frame p (body_of first) ++ more =
+    goes.at.behind ∙ frames_assoc p (body_of first) [] more in
     let body = (frame_reads p (body_of first) more (body_fits version first small)).body_is in
     let is : kept ≡ state_bytes t = ap (drop 1) (sym h.checkpoint.body ∙ ap body_in behind ∙ body) in
-    files_join new (moved_to gap) version s kept records after left (front_follows b version records rest front) h ahead
+    files_join read carried_at version s kept records after left (front_follows b version records rest front) h goes.at.ahead
     (subst (SpellsState version t) (sym is) (front_spelt b version records rest front))

@@ -28,7 +28,7 @@ abbrev first_last : List Registrant → Option Last
 first_last [] = None
 first_last (r ∷ rs) = r.last
 
-abbrev of_client : ℕ → List ℕ → List Registrant → List Registrant
+abbrev pub of_client : ℕ → List ℕ → List Registrant → List Registrant
 of_client q n rs = filter (is_registrant q n) rs
 
 -- what the state knows already: its line, and its notes of units that commit
@@ -42,7 +42,7 @@ latest-append : (l : Option Last) (xs ys : List Note) → latest l (xs ++ ys) �
 latest-append l [] ys = refl
 latest-append l (x ∷ xs) ys = latest-append (later l x.last) xs ys
 
-filter_and : {X : Type 0} (p g : X → Bool) (xs : List X) → filter p (filter g xs) ≡ filter (λ x. p x && g x) xs
+pub filter_and : {X : Type 0} (p g : X → Bool) (xs : List X) → filter p (filter g xs) ≡ filter (λ x. p x && g x) xs
 filter_and p g [] = refl
 filter_and p g (x ∷ xs) = grind (arith, filter_and p g xs, cases_Bool (g x), cases_Bool (p x))
 
@@ -93,7 +93,7 @@ same_key q n r t e k h =
     let both : registrant_before x x ≡ true = grind (arith, h, rq, tq, rn, tn) in
     registrant_asymmetric x x both both
 
-single : (q : ℕ) (n : List ℕ) (rs : List Registrant) → Ordered (λ r t. registrant_before r t ≡ true) rs
+pub single : (q : ℕ) (n : List ℕ) (rs : List Registrant) → Ordered (λ r t. registrant_before r t ≡ true) rs
     → (of_client q n rs ≡ []) ⊎ ((r : Registrant) × (of_client q n rs ≡ r ∷ []))
 single q n [] rise = inl refl
 single q n (r ∷ rs) rise =

@@ -37,9 +37,13 @@ mod Meaning
 mod Taken
 mod Accounts
 mod ReportLines
+mod ToldClients
 mod Marked
 mod Appended
 mod Carried
+mod CarriedFiles
+mod FilesTogether
+mod OneEnd
 mod Along
 pub mod StepParts
 pub mod UnitEnds

@@ -24,10 +24,10 @@ use Rattle.rq_model.proofs.Lists.{by_cases, each_append, each_filter}
 
 -- Bytes that end no line.
 
-abbrev inside : ℕ → Bool
+abbrev pub inside : ℕ → Bool
 inside b = not (b == 10)
 
-abbrev IsInside : List ℕ → Type 0
+abbrev pub IsInside : List ℕ → Type 0
 IsInside bytes = list_all inside bytes ≡ true
 
 both_inside : (xs ys : List ℕ) → IsInside xs → IsInside ys → IsInside (xs ++ ys)
@@ -90,7 +90,7 @@ payload_inside (b ∷ bytes) = hex_inside (b ∷ bytes)
 -- Lines.
 
 -- bytes that end no line, and an LF
-abbrev IsLine : List ℕ → Type 0
+abbrev pub IsLine : List ℕ → Type 0
 IsLine line = (body : List ℕ) × (line ≡ body ++ 10 ∷ []) × IsInside body
 
 ends_line : IsLine (codes "\n")
@@ -111,12 +111,12 @@ why_inside Law = refl
 number : (n : ℕ) {line : List ℕ} → IsLine line → IsLine (decimal n ++ line)
 number n is = further (decimal n) (decimal_inside n) is
 
-front_is_line : (r : Restarted) → IsLine (front_line r)
+pub front_is_line : (r : Restarted) → IsLine (front_line r)
 front_is_line r = further (codes "front ") refl (number r.records (further (codes " records, ") refl
     (number r.used (further (codes " of ") refl (number r.total (further (codes " bytes, ") refl
     (further (why_text r.why) (why_inside r.why) ends_line)))))))
 
-units_is_line : (r : Restarted) → IsLine (units_line r)
+pub units_is_line : (r : Restarted) → IsLine (units_line r)
 units_is_line r = further (codes "units ") refl (number r.committed (further (codes " committed, ") refl
     (number r.aborted (further (codes " aborted, ") refl (number r.cut_off (codes " cut off", refl, refl))))))
 
@@ -124,12 +124,12 @@ error_inside : (error : ℕ) → IsInside (error_text error)
 error_inside error = by_cases (error == 4294967295) (λ b. IsInside (if b then codes "-" else decimal error))
     (λ _. refl) (λ _. decimal_inside error)
 
-queue_is_line : (queue : ℕ) (d : Definition) → FitsDefinition d → IsLine (queue_line queue d)
+pub queue_is_line : (queue : ℕ) (d : Definition) → FitsDefinition d → IsLine (queue_line queue d)
 queue_is_line queue d fits = further (codes "queue ") refl (number queue (further (codes " ") refl
     (further d.name (name_inside d.name fits) (further (codes " limit ") refl (number d.limit
     (further (codes " error ") refl (further (error_text d.error) (error_inside d.error) ends_line)))))))
 
-element_is_line : (e : Element) → IsLine (element_line e)
+pub element_is_line : (e : Element) → IsLine (element_line e)
 element_is_line e = further (codes "e ") refl (number e.id (further (codes " from ") refl (number e.origin
     (further (codes " priority ") refl (number e.priority (further (codes " attempts ") refl (number e.attempts
     (further (codes " ") refl (further (payload_text e.payload) (payload_inside e.payload) ends_line)))))))))
@@ -151,7 +151,7 @@ last_inside (Some l) =
     kind Enqueued = refl
     kind Dequeued = refl
 
-registrant_is_line : (r : Registrant) → FitsRegistrant r → IsLine (registrant_line r)
+pub registrant_is_line : (r : Registrant) → FitsRegistrant r → IsLine (registrant_line r)
 registrant_is_line r fits = further (codes "r ") refl (further r.name (name_inside r.name fits.0)
     (further (codes " ") refl (further (last_text r.last) (last_inside r.last) ends_line)))
 
@@ -199,7 +199,7 @@ passed_line head line rest is other = after_line head line rest is
 not_space : (y : ℕ) → is_name_byte y ≡ true → y ≡ 32 → ⊥
 not_space y h e = let no : is_name_byte 32 ≡ true = subst (λ (z : ℕ). is_name_byte z ≡ true) e h in grind (arith, no)
 
-spaced : (xs ys more : List ℕ) → list_all is_name_byte xs ≡ true → list_all is_name_byte ys ≡ true
+pub spaced : (xs ys more : List ℕ) → list_all is_name_byte xs ≡ true → list_all is_name_byte ys ≡ true
     → bytes_eq (take (length (xs ++ 32 ∷ [])) (ys ++ 32 ∷ more)) (xs ++ 32 ∷ []) ≡ true → xs ≡ ys
 spaced [] [] more h k e = refl
 spaced [] (y ∷ ys) more h k e =
@@ -239,7 +239,7 @@ decimal_digits : (n : ℕ) → list_all is_name_byte (decimal n) ≡ true
 unfolding digits
 decimal_digits n = onto_digits 64 n [] refl
 
-begins_itself : (xs more : List ℕ) → take (length (xs ++ 32 ∷ [])) (xs ++ 32 ∷ more) ≡ xs ++ 32 ∷ []
+pub begins_itself : (xs more : List ℕ) → take (length (xs ++ 32 ∷ [])) (xs ++ 32 ∷ more) ≡ xs ++ 32 ∷ []
 begins_itself [] more = refl
 begins_itself (x ∷ xs) more = ap (λ (z : List ℕ). x ∷ z) (begins_itself xs more)
 
@@ -247,7 +247,7 @@ begins_itself (x ∷ xs) more = ap (λ (z : List ℕ). x ∷ z) (begins_itself x
 abbrev pub head_of : ℕ → List ℕ
 head_of p = codes "e " ++ (decimal p ++ codes " ")
 
-spaced_as : (p id : ℕ) (more : List ℕ) → p < 2 ^ 64 → id < 2 ^ 64
+pub spaced_as : (p id : ℕ) (more : List ℕ) → p < 2 ^ 64 → id < 2 ^ 64
     → bytes_eq (take (length (decimal p ++ 32 ∷ [])) (decimal id ++ 32 ∷ more)) (decimal p ++ 32 ∷ []) ≡ (id == p)
 spaced_as p id more low there =
     by_cases (id == p) (λ b. (id == p) ≡ b → meets id ≡ b)

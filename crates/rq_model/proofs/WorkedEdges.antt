@@ -9,6 +9,7 @@ use Rattle.sha2.specs.Sha256.{sha256}
 use Rattle.rq_model.specs.Frames.{magic, header, frame, digest, digest_in, body_in, AreBytes, IsBodyLength, stated}
 use Rattle.rq_model.specs.Frames.{HasFrame, IsRest, Whole, Cut, Length, Digest, before}
 use Rattle.rq_model.specs.Records.{One}
+use Rattle.rq_model.specs.WorkedFates.{WorkedClientLines}
 use Rattle.rq_model.specs.WorkedFormats.{WorkedNames, WorkedBodies, WorkedWidths, WorkedFrames, AllRests, WorkedStates}
 use Rattle.rq_model.specs.WorkedFormats.{WorkedMembers, WorkedLines, one_body, two_framed}
 use Rattle.rq_model.proofs.Runs.{length-sha256, right_at, stops}
@@ -127,4 +128,19 @@ lines = record {
   by_enqueue = refl;
   by_dequeue = refl;
   by_none = refl;
+}
+
+-- the lines of clients
+pub client_lines_worked : WorkedClientLines
+unfolding digits
+client_lines_worked = record {
+  its_line = refl;
+  other_queue = refl;
+  longer_name = refl;
+  not_there = refl;
+  all = refl;
+  no_queue = refl;
+  longer_number = refl;
+  far = refl;
+  far_from_none = refl;
 }

@@ -1,9 +1,10 @@
 -- A log from a checkpoint on, what a crash leaves of it as it grows, and how it is carried on in
--- another file: after a header, a gap and the 32 bytes that link the files.
+-- another file: after a header of its own and the 32 bytes that link the files.
 use Rattle.std.specs.Prelude.{◌≡◌, ◌≤◌, ℕ, List, [], ◌∷◌, ◌++◌, length, take, drop, ◌+◌, ◌-◌, codes}
+use Rattle.sha2.specs.Sha256.{sha256}
 use Rattle.rq_model.specs.Records.{Record, Checkpoint, Version}
 use Rattle.rq_model.specs.Frames.{log_limit, frames_of, last_of, before, HasHeader, Rest, header}
-use Rattle.rq_model.specs.Frames.{start, IsBodyLength, stated, Length, Whole}
+use Rattle.rq_model.specs.Frames.{start, version_byte, Whole}
 use Rattle.rq_model.specs.States.{State, empty}
 use Rattle.rq_model.specs.Machine.{run}
 use Rattle.rq_model.specs.StateSpelling.{SpellsState, state_bytes}
@@ -51,88 +52,118 @@ CrashWhileCarriedGrows =
     → frames_of (last_of (before offset b) (Checkpoint kept ∷ after)) xs ≡ part ++ missing
     → length (b ++ part) ≤ log_limit → IsLeftAt b offset version s kept after xs part
 
--- all bytes of b from a checkpoint on, and the 32 bytes before it, after a header and a gap
-abbrev pub moved : Version → List ℕ → ℕ → List ℕ → List ℕ
-moved version b offset gap = header version ++ (gap ++ (before offset b ++ drop offset b))
+-- `RQLOG`, a one, a zero byte, the version
+abbrev pub carried_magic : Version → List ℕ
+carried_magic version = codes "RQLOG" ++ 1 ∷ 0 ∷ version_byte version ∷ []
 
--- where the checkpoint is then
-abbrev pub moved_to : List ℕ → ℕ
-moved_to gap = 72 + length gap
+-- the header of a carried file
+abbrev pub carried_header : Version → List ℕ
+carried_header version = carried_magic version ++ sha256 (carried_magic version)
+
+abbrev pub HasCarriedHeader : Version → List ℕ → Type 0
+HasCarriedHeader version b = take 40 b ≡ carried_header version
+
+-- a carried file: its header, the 32 bytes that link it to the log before it, and frames
+abbrev pub carried_file : Version → List ℕ → List ℕ → List ℕ
+carried_file version link bytes = carried_header version ++ (link ++ bytes)
+
+-- where its first frame stands
+abbrev pub carried_at : ℕ
+carried_at = 72
+
+-- the log as which a carried file b is read: the header of a log stands in place of its own
+abbrev pub as_log : Version → List ℕ → List ℕ
+as_log version b = header version ++ drop 40 b
+
+-- No carried file begins as a log: there is no restart of it, whole or from a checkpoint
+pub record IsNoLog : Type 0 where
+  pub headed : (version other : Version) (b : List ℕ) → HasCarriedHeader version b
+      → HasHeader other b → ⊥
+  pub restart : (version : Version) (b : List ℕ) (r : Restarted) → HasCarriedHeader version b
+      → IsRestart b r → ⊥
+  pub at : (version : Version) (b : List ℕ) (offset : ℕ) (r : Restarted)
+      → HasCarriedHeader version b → IsRestartAt b offset r → ⊥
+
+-- It is read as a log of as many bytes, which are its own behind the header; so is what is written
+-- behind it; and no other file with that header is read as that log
+pub record ReadsAsLog : Type 0 where
+  pub headed : (version : Version) (link bytes : List ℕ)
+      → HasCarriedHeader version (carried_file version link bytes)
+  pub whole : (version : Version) (link bytes : List ℕ)
+      → as_log version (carried_file version link bytes) ≡ header version ++ (link ++ bytes)
+  pub version : (version other : Version) (b : List ℕ) → HasCarriedHeader version b
+      → HasCarriedHeader other b → version ≡ other
+  pub size : (version : Version) (b : List ℕ) → HasCarriedHeader version b
+      → length (as_log version b) ≡ length b
+  pub behind : (version : Version) (b : List ℕ) (offset : ℕ) → HasCarriedHeader version b
+      → 40 ≤ offset → drop offset (as_log version b) ≡ drop offset b
+  pub more : (version : Version) (b bytes : List ℕ) → HasCarriedHeader version b
+      → as_log version (b ++ bytes) ≡ as_log version b ++ bytes
+  pub back : (version : Version) (b : List ℕ) → HasCarriedHeader version b
+      → b ≡ carried_header version ++ drop 40 (as_log version b)
+
+-- all bytes of b from a checkpoint on, and the 32 bytes before it, in a carried file
+abbrev pub moved : Version → List ℕ → ℕ → List ℕ
+moved version b offset = carried_file version (before offset b) (drop offset b)
+
+-- the log as which it is read
+abbrev pub moved_log : Version → List ℕ → ℕ → List ℕ
+moved_log version b offset = as_log version (moved version b offset)
 
 -- what a restart from the checkpoint returns there: the same, apart from the numbers of bytes
-abbrev pub when_moved : ℕ → ℕ → Restarted → Restarted
-when_moved offset there r = record r {
-  used = r.used + there - offset;
-  total = r.total + there - offset;
+abbrev pub when_moved : ℕ → Restarted → Restarted
+when_moved offset r = record r {
+  used = r.used + carried_at - offset;
+  total = r.total + carried_at - offset;
 }
 
 -- A checkpoint that is moved keeps its front and its restart, whatever ends the front; if it was
 -- true, its restart is that of the whole log
 pub record MovesOn : Type 0 where
   pub front : (b : List ℕ) (offset : ℕ) (version : Version) (s : State) (kept : List ℕ)
-      (after : List Record) (rest gap : List ℕ) → IsFrontAt b offset version s kept after rest
-      → length (moved version b offset gap) ≤ log_limit
-      → IsFrontAt (moved version b offset gap) (moved_to gap) version s kept after rest
+      (after : List Record) (rest : List ℕ) → IsFrontAt b offset version s kept after rest
+      → length (moved version b offset) ≤ log_limit
+      → IsFrontAt (moved_log version b offset) carried_at version s kept after rest
   pub restart : (b : List ℕ) (offset : ℕ) (version : Version) (s : State) (kept : List ℕ)
-      (after : List Record) (rest gap : List ℕ) (r : Restarted)
+      (after : List Record) (rest : List ℕ) (r : Restarted)
       → IsFrontAt b offset version s kept after rest
-      → length (moved version b offset gap) ≤ log_limit → IsRestartAt b offset r
-      → IsRestartAt (moved version b offset gap) (moved_to gap)
-      (when_moved offset (moved_to gap) r)
+      → length (moved version b offset) ≤ log_limit → IsRestartAt b offset r
+      → IsRestartAt (moved_log version b offset) carried_at (when_moved offset r)
   pub truth : (b : List ℕ) (offset : ℕ) (version : Version) (s : State) (kept : List ℕ)
-      (after : List Record) (rest gap : List ℕ) (r : Restarted)
+      (after : List Record) (rest : List ℕ) (r : Restarted)
       → IsFrontAt b offset version s kept after rest
-      → length (moved version b offset gap) ≤ log_limit → TrueAt b offset → IsRestart b r
-      → IsRestartAt (moved version b offset gap) (moved_to gap)
-      (when_moved offset (moved_to gap) r)
+      → length (moved version b offset) ≤ log_limit → TrueAt b offset → IsRestart b r
+      → IsRestartAt (moved_log version b offset) carried_at (when_moved offset r)
 
--- a header, a gap, 32 bytes p and a checkpoint of the state, chained to p
-abbrev pub begun_anew : Version → List ℕ → State → List ℕ → List ℕ
-begun_anew version p s gap =
-    header version ++ (gap ++ (p ++ frames_of p (Checkpoint (state_bytes s) ∷ [])))
+-- a carried file of a checkpoint of the state, chained to the 32 bytes p
+abbrev pub begun_anew : Version → List ℕ → State → List ℕ
+begun_anew version p s =
+    carried_file version p (frames_of p (Checkpoint (state_bytes s) ∷ []))
 
 -- From there a restart begins with the state, and all is whole. The checkpoint was in no log
 -- before: the old one may be full
 abbrev pub StartsAnew : Type 0
 StartsAnew =
-    (version : Version) (p : List ℕ) (s : State) (gap : List ℕ) → length p ≡ 32
+    (version : Version) (p : List ℕ) (s : State) (log : List ℕ) → length p ≡ 32
     → SpellsState version s (state_bytes s) → FitsCheckpoint s
-    → length (begun_anew version p s gap) ≤ log_limit
-    → IsFrontAt (begun_anew version p s gap) (moved_to gap) version s (state_bytes s) [] []
-    × (before (moved_to gap) (begun_anew version p s gap) ≡ p)
-    × IsRestartAt (begun_anew version p s gap) (moved_to gap)
-    (restarted (run s (Checkpoint (state_bytes s) ∷ [])) 0
-    (length (begun_anew version p s gap)) (Ends Whole))
+    → length (begun_anew version p s) ≤ log_limit
+    → log ≡ as_log version (begun_anew version p s)
+    → IsFrontAt log carried_at version s (state_bytes s) [] []
+    × (before carried_at log ≡ p)
+    × IsRestartAt log carried_at (restarted (run s (Checkpoint (state_bytes s) ∷ [])) 0
+    (length (begun_anew version p s)) (Ends Whole))
 
 -- So the state after any front goes on: its open units, elements, registrants and numbers, and the
 -- chain of digests
 abbrev pub FrontGoesOn : Type 0
 FrontGoesOn =
-    (b : List ℕ) (version : Version) (records : List Record) (rest gap : List ℕ) →
+    (b : List ℕ) (version : Version) (records : List Record) (rest : List ℕ) →
     IsFront b version records rest → FitsCheckpoint (run empty records)
-    → length (begun_anew version (last_of (start version) records) (run empty records) gap)
+    → length (begun_anew version (last_of (start version) records) (run empty records))
     ≤ log_limit
-    → IsFrontAt (begun_anew version (last_of (start version) records) (run empty records) gap)
-    (moved_to gap) version (run empty records) (state_bytes (run empty records)) [] []
-
--- If the gap begins with a length that no body has, a restart of the whole file says so: it finds
--- no record, and the reason is `length`
-abbrev pub GapIsLoud : Type 0
-GapIsLoud =
-    (version : Version) (gap bytes : List ℕ) → 4 ≤ length gap → (IsBodyLength (stated gap) → ⊥)
-    → length (header version ++ (gap ++ bytes)) ≤ log_limit
-    → IsRestart (header version ++ (gap ++ bytes))
-    (restarted empty (length (gap ++ bytes)) (length (header version ++ (gap ++ bytes)))
-    (Ends Length))
-
--- the gap of a carried file: such a length, and words for whoever looks. The checkpoint is at 96
-abbrev pub carried_gap : List ℕ
-carried_gap = 255 ∷ 255 ∷ 255 ∷ 255 ∷ codes "rq carried log at 96"
-
-pub record IsCarriedGap : Type 0 where
-  pub there : moved_to carried_gap ≡ 96
-  pub room : 4 ≤ length carried_gap
-  pub loud : IsBodyLength (stated carried_gap) → ⊥
+    → IsFrontAt (as_log version
+    (begun_anew version (last_of (start version) records) (run empty records)))
+    carried_at version (run empty records) (state_bytes (run empty records)) [] []
 
 -- A later checkpoint that spells the state before it says the same, also if no log begins there
 abbrev pub LaterSaysTheSame : Type 0
@@ -146,9 +177,9 @@ LaterSaysTheSame =
     version (run s (Checkpoint kept ∷ earlier)) again after rest
     × IsRestartAt b (offset + length (frames_of (before offset b) (Checkpoint kept ∷ earlier))) r
 
--- Files join: let the link be the last 32 bytes of records that a log may begin with, and let the
--- checkpoint spell their state. Then the front there is that of all records in one log of any
--- length, and so is the state after it
+-- Files join: let the link in b, a carried file that is read as a log, be the last 32 bytes of records
+-- that a log may begin with, and let the checkpoint spell their state. Then the front there is that
+-- of all records in one log of any length, and so is the state after it
 abbrev pub FilesJoin : Type 0
 FilesJoin =
     (b : List ℕ) (offset : ℕ) (version : Version) (s : State) (kept : List ℕ)
@@ -160,15 +191,15 @@ FilesJoin =
     (records ++ Checkpoint kept ∷ after) rest
     × (run s (Checkpoint kept ∷ after) ≡ run empty (records ++ Checkpoint kept ∷ after))
 
--- So a file that was begun anew after a front joins it, whatever was written there since
+-- So a carried file that was begun anew after a front joins it, whatever was written there since
 abbrev pub AnewJoins : Type 0
 AnewJoins =
-    (b new more : List ℕ) (version : Version) (records : List Record) (rest gap : List ℕ)
+    (b new more : List ℕ) (version : Version) (records : List Record) (rest : List ℕ)
     (s : State) (kept : List ℕ) (after : List Record) (left : List ℕ) →
     IsFront b version records rest → FitsCheckpoint (run empty records)
-    → new ≡ begun_anew version (last_of (start version) records) (run empty records) gap ++ more
-    → IsFrontAt new (moved_to gap) version s kept after left
+    → new ≡ begun_anew version (last_of (start version) records) (run empty records) ++ more
+    → IsFrontAt (as_log version new) carried_at version s kept after left
     → IsLongest version empty (start version)
-    (frames_of (start version) records ++ drop (moved_to gap) new)
+    (frames_of (start version) records ++ drop carried_at (as_log version new))
     (records ++ Checkpoint kept ∷ after) left
     × (run s (Checkpoint kept ∷ after) ≡ run empty (records ++ Checkpoint kept ∷ after))

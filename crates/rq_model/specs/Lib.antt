@@ -20,6 +20,9 @@ pub mod Carrying
 pub mod Reading
 pub mod Fates
 pub mod FateLaws
+pub mod AllFiles
+pub mod Tampering
+pub mod ClientLines
 pub mod WorkedLogs
 pub mod WorkedMachine
 pub mod WorkedFates

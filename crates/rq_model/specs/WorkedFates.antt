@@ -6,6 +6,7 @@ use Rattle.rq_model.specs.States.{Free, Enqueued, Dequeued, Registrant, empty}
 use Rattle.rq_model.specs.Machine.{all_lawful, run, final}
 use Rattle.rq_model.specs.Fates.{with_aborts, requests, takes, done, kills, shown, tries, tries_at}
 use Rattle.rq_model.specs.Fates.{leavings, remains, hears}
+use Rattle.rq_model.specs.ClientLines.{client_lines, registrant_lines, how_far_line}
 use Rattle.rq_model.specs.WorkedLogs.{jobs, ann, nobody, by_ann}
 use Rattle.rq_model.specs.WorkedMachine.{element, last, note, registrant}
 
@@ -128,3 +129,24 @@ pub record WorkedClients : Type 0 where
       ≡ registrant 0 ann (Some (last 3 Enqueued 7 (Some 3))) ∷ []
   pub found_none : clients (takes_it ++ Dequeue 2 0 (by_ann 9) ∷ Commit 2 ∷ [])
       ≡ registrant 0 ann (Some (last 7 Dequeued 9 None)) ∷ []
+
+-- The lines of clients in a report.
+
+abbrev pub two_queues : List ℕ
+two_queues =
+    codes "front 9 records, 462 of 462 bytes, whole\nunits 1 committed, 0 aborted, 0 cut off\n"
+    ++ (codes "queue 0 jobs limit 0 error -\ne 3 from 0 priority 5 attempts 0 -\n"
+    ++ (codes "r ann enqueue tag 7 element 3\nr anna none\n"
+    ++ codes "queue 1 late limit 2 error 0\nr ann none\n"))
+
+pub record WorkedClientLines : Type 0 where
+  pub its_line : client_lines 0 ann two_queues ≡ codes "r ann enqueue tag 7 element 3\n" ∷ []
+  pub other_queue : client_lines 1 ann two_queues ≡ codes "r ann none\n" ∷ []
+  pub longer_name : client_lines 0 (codes "anna") two_queues ≡ codes "r anna none\n" ∷ []
+  pub not_there : client_lines 1 (codes "anna") two_queues ≡ []
+  pub all : registrant_lines 0 two_queues
+      ≡ codes "r ann enqueue tag 7 element 3\n" ∷ codes "r anna none\n" ∷ []
+  pub no_queue : registrant_lines 2 two_queues ≡ []
+  pub longer_number : registrant_lines 1 (codes "queue 10 late limit 0 error -\nr ann none\n") ≡ []
+  pub far : how_far_line 0 ann (takes_it ++ Commit 2 ∷ []) ≡ codes "r ann dequeue tag 8 element 3\n"
+  pub far_from_none : how_far_line 0 ann named ≡ codes "r ann none\n"

@@ -20,11 +20,18 @@ ghost use Rattle.rq_model.specs.FateLaws.{HowFar, WhoIsRegistered, CountIsNone, 
 ghost use Rattle.rq_model.specs.FateLaws.{OutcomeIsAhead, RestartAccounts, BeginningAccounts};
 ghost use Rattle.rq_model.specs.FateLaws.{ClosedAccounts, CheckpointAccounts, ReportAccounts};
 ghost use Rattle.rq_model.specs.FateLaws.{BeginningReportAccounts, CheckpointReportAccounts};
+ghost use Rattle.rq_model.specs.AllFiles.{BegunFileCarriesOn, FilesAccount, ClosedFilesAccount};
+ghost use Rattle.rq_model.specs.AllFiles.{FilesReportAccounts};
+ghost use Rattle.rq_model.specs.Tampering.{FramesWithOneEnd, RecordsWithOneEnd, TamperingShows};
+ghost use Rattle.rq_model.specs.Tampering.{LinkWitnesses, FilesWithOneEnd};
+ghost use Rattle.rq_model.specs.ClientLines.{ReportTellsClients, BeginningTellsClients};
+ghost use Rattle.rq_model.specs.ClientLines.{CheckpointTellsClients, FilesTellClients};
 ghost use Rattle.rq_model.specs.WorkedLogs.{WorkedBytes, WorkedLogs, UnlawfulLogs};
 ghost use Rattle.rq_model.specs.WorkedLogs.{WorkedCheckpoint, WorkedEnds};
 ghost use Rattle.rq_model.specs.WorkedMachine.{WorkedLaw, WorkedSteps, WorkedOrders, WorkedQueues};
 ghost use Rattle.rq_model.specs.WorkedMachine.{WorkedRedo};
 ghost use Rattle.rq_model.specs.WorkedFates.{WorkedRequests, WorkedTries, WorkedClients};
+ghost use Rattle.rq_model.specs.WorkedFates.{WorkedClientLines};
 ghost use Rattle.rq_model.specs.WorkedFormats.{WorkedNames, WorkedBodies, WorkedWidths};
 ghost use Rattle.rq_model.specs.WorkedFormats.{WorkedFrames, AllRests, WorkedStates, WorkedMembers};
 ghost use Rattle.rq_model.specs.WorkedFormats.{WorkedLines};
@@ -40,9 +47,9 @@ ghost use Rattle.rq_model.specs.Laws.{RedoSteps, CrashIsHarmless, MovesRise, Arr
 ghost use Rattle.rq_model.specs.Appending.{CrashInFrames, CrashWhileAppending, AppendedIsFront};
 ghost use Rattle.rq_model.specs.Appending.{WrittenStays, CheckpointIsTrue, CheckpointSaysTheSame};
 ghost use Rattle.rq_model.specs.Appending.{FrontGrows, FrontStays, AlongIsFront, WindowGoesOn};
-ghost use Rattle.rq_model.specs.Carrying.{TrueHasFront, CrashWhileCarriedGrows, MovesOn, GapIsLoud};
+ghost use Rattle.rq_model.specs.Carrying.{TrueHasFront, CrashWhileCarriedGrows, MovesOn, IsNoLog};
 ghost use Rattle.rq_model.specs.Carrying.{LaterSaysTheSame, FilesJoin, StartsAnew, FrontGoesOn};
-ghost use Rattle.rq_model.specs.Carrying.{AnewJoins, IsCarriedGap};
+ghost use Rattle.rq_model.specs.Carrying.{AnewJoins, ReadsAsLog};
 
 /// A body spells at most one record, a record has one body, and the bytes of a state spell no other
 /// state.
@@ -229,24 +236,28 @@ pub fn carried_logs()
     ensures crash { CrashWhileCarriedGrows }
 {}
 
-/// A checkpoint and all bytes after it restart to the same in another file, and so does a later
-/// checkpoint there. A restart of the whole file finds no record, and says so. The files join: the
-/// last one has the front of all records together.
+/// No carried file begins as a log, so there is no restart of it. It is read as one: with the header
+/// of a log in place of its own.
+pub fn carried_headers()
+    ensures apart { IsNoLog }
+    ensures read { ReadsAsLog }
+{}
+
+/// A checkpoint and all bytes after it restart to the same in a carried file, and so does a later
+/// checkpoint there. The files join: the last one has the front of all records together.
 pub fn continued_logs()
     ensures moves { MovesOn }
-    ensures loud { GapIsLoud }
     ensures later { LaterSaysTheSame }
     ensures join { FilesJoin }
 {}
 
-/// The state after the front of a log, full or not, begins a new file with a checkpoint: its open
+/// The state after the front of a log, full or not, begins a carried file with a checkpoint: its open
 /// units, elements, registrants and numbers go on, and so do the digests. Whatever is written
 /// there, the files join.
 pub fn logs_begun_anew()
     ensures starts { StartsAnew }
     ensures front { FrontGoesOn }
     ensures join { AnewJoins }
-    ensures gap { IsCarriedGap }
 {}
 
 /// What stays in a queue at an abort and what arrives have distinct ids, and can be put in in any
@@ -380,6 +391,37 @@ pub fn reports_account()
     ensures checkpoint { CheckpointReportAccounts }
 {}
 
+/// The report of a log has one line for each client that is registered, with the latest operation
+/// that it hears of, and no line of others. So has the report of its front with a beginning of the
+/// tail, the report from a true checkpoint, and that of the last of several files.
+pub fn reports_tell_clients()
+    ensures report { ReportTellsClients }
+    ensures beginning { BeginningTellsClients }
+    ensures checkpoint { CheckpointTellsClients }
+    ensures files { FilesTellClients }
+{}
+
+/// Of a log that was carried on in other files, a restart of the last file accounts for each request
+/// and client of the records of all files. So does a restart of the last file closed, and of each
+/// beginning of that which holds its front. The report of the last file says so. A file that begins
+/// with a checkpoint of the state after these records, linked to them, carries them on.
+pub fn all_files_account()
+    ensures begun { BegunFileCarriesOn }
+    ensures restart { FilesAccount }
+    ensures closed { ClosedFilesAccount }
+    ensures report { FilesReportAccounts }
+{}
+
+/// Two logs with different fronts and the same last 32 bytes show two different messages with one
+/// SHA-256. So do two old logs that one file is linked to, and two rows of files with the same end.
+pub fn tampering_shows()
+    ensures frames { FramesWithOneEnd }
+    ensures records { RecordsWithOneEnd }
+    ensures fronts { TamperingShows }
+    ensures link { LinkWitnesses }
+    ensures files { FilesWithOneEnd }
+{}
+
 /// Three bodies and two states, byte by byte.
 pub fn worked_bytes()
     ensures { WorkedBytes }
@@ -420,9 +462,10 @@ pub fn worked_ends()
     ensures { WorkedEnds }
 {}
 
-/// Requests and clients with each fate, each limit of tries on both sides.
+/// Requests and clients with each fate, each limit of tries on both sides, the lines of clients.
 pub fn worked_fates()
     ensures requests { WorkedRequests }
     ensures tries { WorkedTries }
     ensures clients { WorkedClients }
+    ensures lines { WorkedClientLines }
 {}

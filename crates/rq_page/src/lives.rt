@@ -2,7 +2,7 @@
 
 ghost use Rattle.std.specs.Prelude.{◌≡◌, IfErr};
 ghost use Rattle.rq_record.specs.declared.fault.Fault.TheVariants.{Resources};
-ghost use Rattle.rq_found.specs.Refusals.{IsBroken};
+ghost use Rattle.rq_found.specs.declared.trouble.Trouble.TheVariants.{Log};
 
 use crate::records::{Happening, put_row};
 use crate::shown::{Linkable, Linked};
@@ -273,7 +273,7 @@ pub(crate) fn lives_of(
     shown: &Linked<'_>,
     checkpoints: &[(u64, bool)],
 ) -> Result<Lives, Trouble>
-    ensures { IfErr result IsBroken }
+    ensures { IfErr result (λ e. e ≡ Log Resources) }
 {
     let mut lives = Lives::new(alloc, shown)?;
     if shown.is_nobody() {

@@ -3,9 +3,11 @@
 ghost use Rattle.std.specs.Prelude.{ℕ, ◌≡◌, ◌++◌, ◌⊎◌, List, IfOk, IfErr, OnOk, string_bytes};
 ghost use Rattle.std.specs.Io.KnownBytes.{Appends};
 ghost use Rattle.rq_model.specs.Fronts as fronts;
+ghost use Rattle.rq_record.specs.declared.fault.Fault.TheVariants.{Resources};
 ghost use Rattle.rq_front.specs.Chains.{IsLog};
 ghost use Rattle.rq_found.specs.Ends.{IsRestartFrom};
-ghost use Rattle.rq_found.specs.Refusals.{IsBroken, IsRefusal, RefusedFrom, StaysUnshown};
+ghost use Rattle.rq_found.specs.Refusals.{IsBroken, IsRefusal, StaysUnshown};
+ghost use Rattle.rq_found.specs.declared.trouble.Trouble.TheVariants.{Log};
 ghost use Rattle.rq_page.specs.Markup.{page_foot, page_head};
 
 use crate::histories::put_histories;
@@ -20,8 +22,8 @@ use crate::tables::put_queue_table;
 use crate::units::put_open;
 use rq_behind::Found;
 use rq_found::{End, Put, ShownLog, Trouble, diagnosis_of, end_after, first_state, restarted_from};
-use rq_look::{may_have_right, standing_behind};
-use rq_restart::{Fault, Restarted, audit, audit_at};
+use rq_look::{audited_from, may_have_right, standing_behind};
+use rq_restart::Restarted;
 use rq_state::State;
 use std::alloc::Global;
 use std::io::Write;
@@ -85,20 +87,6 @@ struct PageContents {
     all: bool,
 }
 
-// Which checkpoints are true, from the one on that the log begins with, if there is one.
-fn audited_from<R: Threads + Sync>(
-    rt: &R,
-    alloc: Global,
-    log: &ShownLog<'_>,
-) -> Result<Vec<(u64, bool)>, Fault>
-    ensures { IfErr result (RefusedFrom log.now.at log.now.bytes.now) }
-{
-    match log.at {
-        None => audit(rt, alloc, log.bytes, log.plan),
-        Some(at) => audit_at(rt, alloc, log.bytes, at, log.plan),
-    }
-}
-
 fn found_in<R: Threads + Sync>(
     rt: &R,
     alloc: Global,
@@ -107,7 +95,7 @@ fn found_in<R: Threads + Sync>(
     ensures log { OnOk result (IsLog log.now.bytes.now) }
     ensures restart { IfOk result
         (λ found. IsRestartFrom log.now.at log.now.bytes.now found.restarted) }
-    ensures refused { IfErr result (λ e. (IsLog log.now.bytes.now × IsBroken e)
+    ensures refused { IfErr result (λ e. (IsLog log.now.bytes.now × (e ≡ Log Resources))
         ⊎ IsRefusal log.now.at log.now.bytes.now e) }
 {
     let restarted = restarted_from(rt, alloc, log)?;
@@ -128,7 +116,7 @@ fn contents_of(
     found: RestartedLog,
     asked: &Asked<'_>,
 ) -> Result<Contents, Trouble>
-    ensures { IfErr result IsBroken }
+    ensures { IfErr result (λ e. e ≡ Log Resources) }
 {
     let elements = asked.elements.to_vec(alloc)?;
     let units = asked.units.to_vec(alloc)?;
@@ -158,7 +146,7 @@ fn begun(contents: &Contents) -> Linked<'_> {
 
 // The lives of all, or of those that were asked for.
 fn gathered(alloc: Global, bytes: &[u8], contents: &Contents, all: bool) -> Result<Lives, Trouble>
-    ensures { IfErr result IsBroken }
+    ensures { IfErr result (λ e. e ≡ Log Resources) }
 {
     let mut shown = begun(contents);
     shown.all = all;
@@ -175,7 +163,7 @@ fn gathered(alloc: Global, bytes: &[u8], contents: &Contents, all: bool) -> Resu
 
 // Shows the lives of all, if they may be shown and fit.
 fn told_of(alloc: Global, bytes: &[u8], contents: Contents) -> Result<PageContents, Trouble>
-    ensures { IfErr result IsBroken }
+    ensures { IfErr result (λ e. e ≡ Log Resources) }
 {
     let may_be_all = begun(&contents).all;
     let mut lives = gathered(alloc, bytes, &contents, may_be_all)?;

@@ -2,7 +2,7 @@
 
 ghost use Rattle.std.specs.Prelude.{◌≡◌, IfErr};
 ghost use Rattle.rq_record.specs.declared.fault.Fault.TheVariants.{Resources};
-ghost use Rattle.rq_found.specs.Refusals.{IsBroken};
+ghost use Rattle.rq_found.specs.declared.trouble.Trouble.TheVariants.{Log};
 
 use crate::curves::{Curve, bin_of};
 use rq_found::{Effect, End, Event, FollowedQueues, Numbered, Trouble, front_frames, kind_of};
@@ -197,7 +197,7 @@ pub(crate) fn surveyed(
     end: &End,
     state: &State,
 ) -> Result<Survey, Trouble>
-    ensures { IfErr result IsBroken }
+    ensures { IfErr result (λ e. e ≡ Log Resources) }
 {
     let mut seen = Survey::new(alloc)?;
     seen.begin_units(first, end)?;

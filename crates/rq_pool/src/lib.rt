@@ -15,4 +15,5 @@ mod vault;
 
 pub use countdown::{Arrival, Closing, Countdown, Entry, Fits, Pass};
 pub use room::{Left, Room};
+pub use rq_plan::{Gate, Open, Plan};
 pub use seat::Seat;

@@ -1,5 +1,5 @@
 -- The front of a log, and the aborts behind it.
-use Rattle.std.proofs.Common.{◌≡◌, ℕ, ◌+◌, ◌-◌, ◌*◌, ◌/◌, ◌<◌, ◌≤◌, List, get_or, [], ◌∷◌, ◌++◌, length, map, take}
+use Rattle.std.proofs.Common.{◌≡◌, ℕ, ◌+◌, ◌*◌, ◌<◌, ◌≤◌, List, get_or, [], ◌∷◌, ◌++◌, length, map, take}
 use Rattle.std.proofs.Common.{drop, refl, sym, ap, subst, ◌∙◌, append_assoc, arith}
 use Rattle.std.proofs.lemmas.List.{drop_more, take_at, length-append, length-take, length-drop}
 use Rattle.rq_model.specs.Records.{Record, Abort, Version}
@@ -17,8 +17,7 @@ use Rattle.rq_record.specs.declared.fault.Fault.TheVariants as faults
 use Rattle.rq_record.specs.declared.record.UnitNo.{UnitNo}
 use Rattle.rq_state.specs.Views.{unit_of}
 use Rattle.rq_judged.specs.FrontEnds.{IsFrontFrom}
-use Rattle.rq_restart.specs.Tails.{IsEnding, StaysOpen}
-use Rattle.rq_restart.specs.declared.tails.Ending.{Ending}
+use Rattle.rq_restart.specs.Tails.{StaysOpen}
 use Rattle.rq_judged.proofs.Starts.{before_is, started, whole_front}
 
 -- of the aborts of units, one is written, and the others are still to come
@@ -100,55 +99,6 @@ closed_by version b tail rs end h is = record {
   aborts = record { version = version; records = rs; rest = drop end b; front = h.front; bytes = is };
   bytes = ap (λ (z : List ℕ). z ++ tail) h.bytes;
 }
-
--- how long it is then
-pub closed_long : (version : Version) (b : List ℕ) (rs : List Record) (end : ℕ) (tail : List ℕ) → end ≤ length b
-    → tail ≡ frames_of (last_of (start version) rs) (aborts (run empty rs))
-    → length (take end b ++ tail) ≡ end + 45 * length (run empty rs).units
-closed_long version b rs end tail within is =
-    omega (
-      arith,
-      within,
-      length-append (take end b) tail,
-      length-take end b,
-      ap length is,
-      aborts_long (last_of (start version) rs) (run empty rs).units,
-    )
-
--- more units are open than there is room for, so the log stays open
-pub too_large : (version : Version) → LogEnds
-    → (b : List ℕ) (rs : List Record) (end : ℕ) (why : Why) (units : List ℕ) (count : ℕ) → length b ≤ log_limit
-    → HasHeader version b → IsFrontFrom version empty b 40 rs end why
-    → units ≡ (run empty rs).units → count ≡ length units → (4294967295 - end) / 45 < count
-    → StaysOpen b faults.TooLarge
-too_large version law b rs end why units count short head h are_open count_is more =
-    let tail = frames_of (last_of (start version) rs) (aborts (run empty rs)) in
-    let long = closed_long version b rs end tail h.within refl in
-    let many : count ≡ length (run empty rs).units = count_is ∙ ap length are_open in (
-      (short, (version, head)),
-      take end b ++ tail,
-      (tail, closed_by version b tail rs end (front_of version law b rs end why short head h) refl),
-      omega (arith, long, many, more),
-    )
-
--- no more are, so this closes it
-pub is_ending : (version : Version) → LogEnds
-    → (b : List ℕ) (rs : List Record) (e : Ending) (why : Why) (units : List ℕ) (count : ℕ) → length b ≤ log_limit
-    → HasHeader version b → IsFrontFrom version empty b 40 rs e.end why
-    → units ≡ (run empty rs).units → count ≡ length units → count ≤ (4294967295 - e.end) / 45
-    → e.tail.items ≡ frames_of (before e.end b) (map Abort units) → IsEnding b e
-is_ending version law b rs e why units count short head h are_open count_is fits wrote =
-    let front = front_of version law b rs e.end why short head h in
-    let is : e.tail.items ≡ frames_of (last_of (start version) rs) (aborts (run empty rs)) =
-    wrote ∙ (λ i. frames_of (front.last i) (map Abort (are_open i))) in
-    let long = closed_long version b rs e.end e.tail.items h.within is in
-    let many : count ≡ length (run empty rs).units = count_is ∙ ap length are_open in
-    record {
-      log = (short, (version, head));
-      closed = closed_by version b e.tail.items rs e.end front is;
-      room =
-          omega (arith, long, many, fits, h.within, short);
-    }
 
 -- refused memory leaves it open
 pub no_memory : (b : List ℕ) (e : Fault) → e ≡ faults.Resources → StaysOpen b e

@@ -4,4 +4,5 @@ pub mod Upgradings
 pub mod Walks
 pub mod Keepers
 pub mod RedoneFronts
+pub mod TailEnds
 pub mod Audited

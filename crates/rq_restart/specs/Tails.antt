@@ -1,11 +1,20 @@
--- The tail of a log, and the log closed.
-use Rattle.std.specs.Prelude.{ℕ, ◌<◌, ◌≤◌, List, ◌++◌, length, take, Result, Ok, Err}
+-- Where the front of a log ends, its tail, and the log closed.
+use Rattle.std.specs.Prelude.{◌≡◌, ◌⊎◌, ℕ, ◌+◌, ◌<◌, ◌≤◌, List, ◌∷◌, ◌++◌, length, map, take, drop, Result, Ok, Err}
 use Rattle.std.specs.Global.{Vec}
-use Rattle.rq_model.specs.Frames.{log_limit}
+use Rattle.rq_model.specs.Records.{Record, Checkpoint, Version}
+use Rattle.rq_model.specs.Frames.{log_limit, start, log_of, frames_of, last_of, before}
+use Rattle.rq_model.specs.States.{State, empty}
+use Rattle.rq_model.specs.Machine.{run, aborts}
+use Rattle.rq_model.specs.Fronts.{IsFront, IsWhy}
+use Rattle.rq_model.specs.Carrying.{IsFrontAt}
 use Rattle.rq_model.specs.Closing.{IsClosedBy, IsClosed}
 use Rattle.rq_record.specs.declared.fault.Fault.{Fault}
-use Rattle.rq_record.specs.declared.fault.Fault.TheVariants.{TooLarge}
+use Rattle.rq_record.specs.declared.fault.Fault.TheVariants.{TooLarge, Resources}
+use Rattle.rq_record.specs.Views.{record_of, version_of}
 use Rattle.rq_front.specs.Chains.{IsLog, Refused}
+use Rattle.rq_judged.specs.Refusals.{RefusedAt}
+use Rattle.rq_judged.specs.Views.{why_of}
+use Rattle.rq_restart.specs.declared.restarts.FoundFront.{FoundFront}
 use Rattle.rq_restart.specs.declared.tails.Ending.{Ending}
 
 -- why b is not closed: its front and its tail together are longer than a log may be, or b is too
@@ -15,11 +24,91 @@ StaysOpen b TooLarge = IsLog b
     × (closed : List ℕ) × IsClosed b closed × (log_limit < length closed)
 StaysOpen b e = Refused b e
 
--- where the front of b ends, and the tail that closes it
+-- where the front of b ends, for this reason, and the tail that closes it; so many units are open
+-- there
 pub record IsEnding (b : List ℕ) (e : Ending) : Type 0 where
   pub log : IsLog b
-  pub closed : IsClosedBy b e.tail.items (take e.end b ++ e.tail.items)
-  pub room : length (take e.end b ++ e.tail.items) ≤ log_limit
+  pub records : List Record
+  pub front : IsFront b (version_of e.version) records (drop e.used b)
+  pub ends : IsWhy (version_of e.version) (run empty records)
+      (last_of (start (version_of e.version)) records) (drop e.used b) (why_of e.why)
+  pub used : e.used ≡ length (log_of (version_of e.version) records)
+  pub after : 40 ≤ e.used
+  pub within : e.used ≤ length b
+  pub units : e.units ≡ length (run empty records).units
+  pub closed : IsClosedBy b e.tail.items (take e.used b ++ e.tail.items)
+  pub room : length (take e.used b ++ e.tail.items) ≤ log_limit
+
+-- that, or why b is not closed
+abbrev pub EndsLog : List ℕ → Result Ending Fault → Type 0
+EndsLog b (Ok e) = IsEnding b e
+EndsLog b (Err e) = StaysOpen b e
+
+-- the frames of the aborts of the units that are open behind the front of b from a checkpoint on
+abbrev pub tail_at : List ℕ → ℕ → State → List ℕ → List Record → List ℕ
+tail_at b offset base kept after =
+    frames_of (last_of (before offset b) (Checkpoint kept ∷ after))
+    (aborts (run base (Checkpoint kept ∷ after)))
+
+-- where the front of b from the checkpoint at an offset ends, for this reason, and these frames
+pub record IsEndingAt (b : List ℕ) (offset : ℕ) (e : Ending) : Type 0 where
+  pub base : State
+  pub kept : List ℕ
+  pub after : List Record
+  pub front : IsFrontAt b offset (version_of e.version) base kept after (drop e.used b)
+  pub ends : IsWhy (version_of e.version) (run base (Checkpoint kept ∷ after))
+      (last_of (before offset b) (Checkpoint kept ∷ after)) (drop e.used b) (why_of e.why)
+  pub used : e.used
+      ≡ offset + length (frames_of (before offset b) (Checkpoint kept ∷ after))
+  pub past_header : 40 ≤ e.used
+  pub within : e.used ≤ length b
+  pub units : e.units ≡ length (run base (Checkpoint kept ∷ after)).units
+  pub tail : e.tail.items ≡ tail_at b offset base kept after
+  pub room : e.used + length e.tail.items ≤ log_limit
+
+-- with these frames the log would be too long
+pub record IsCrowdedAt (b : List ℕ) (offset : ℕ) : Type 0 where
+  pub version : Version
+  pub base : State
+  pub kept : List ℕ
+  pub after : List Record
+  pub rest : List ℕ
+  pub front : IsFrontAt b offset version base kept after rest
+  pub long : log_limit < offset
+      + (length (frames_of (before offset b) (Checkpoint kept ∷ after))
+      + length (tail_at b offset base kept after))
+
+-- why there is no such end
+abbrev pub StaysOpenAt : List ℕ → ℕ → Fault → Type 0
+StaysOpenAt b offset TooLarge = IsCrowdedAt b offset
+StaysOpenAt b offset e = RefusedAt b offset e
+
+abbrev pub EndsLogAt : List ℕ → ℕ → Result Ending Fault → Type 0
+EndsLogAt b offset (Ok e) = IsEndingAt b offset e
+EndsLogAt b offset (Err e) = StaysOpenAt b offset e
+
+-- Of a front of b that was found: the frames of the aborts behind it.
+abbrev pub tail_behind : List ℕ → FoundFront → List ℕ
+tail_behind b f = frames_of (before f.front.end b)
+    (aborts (run f.state (map record_of f.front.records.items)))
+
+-- its end, with them
+pub record IsEndingOf (b : List ℕ) (f : FoundFront) (e : Ending) : Type 0 where
+  pub is : e ≡ record {
+    version = f.version;
+    used = f.front.end;
+    why = f.front.why;
+    units = e.units;
+    tail = e.tail;
+  }
+  pub units : e.units ≡ length (run f.state (map record_of f.front.records.items)).units
+  pub tail : e.tail.items ≡ tail_behind b f
+  pub room : f.front.end + length e.tail.items ≤ log_limit
+
+-- why there is none: the log would be too long with them, or memory was refused
+abbrev pub IsCrowded : List ℕ → FoundFront → Fault → Type 0
+IsCrowded b f e = ((e ≡ TooLarge) × (log_limit < f.front.end + length (tail_behind b f)))
+    ⊎ (e ≡ Resources)
 
 -- the tail of b, which closes it, or why there is none
 abbrev pub Tails : List ℕ → Result (Vec ℕ) Fault → Type 0

@@ -21,5 +21,5 @@ pub use restarts::{restart, restart_at, restart_of, restart_of_at, restart_own, 
 pub use rq_judged::Why;
 pub use rq_plan::{Gate, Open, Plan};
 pub use rq_record::{Fault, LogBytes, Version};
-pub use tails::{closed, tail};
+pub use tails::{Ending, closed, ending_at, ending_of, tail};
 pub use upgrades::upgrade;

@@ -11,12 +11,13 @@ ghost use Rattle.rq_record.specs.declared.fault.Fault.TheVariants.{Resources};
 ghost use Rattle.rq_state.specs.Views.{unit_of};
 ghost use Rattle.rq_catalog.specs.Analyses.{IsAnalysis, open_in};
 ghost use Rattle.rq_exchange.specs.Agendas.{IsAgenda};
+ghost use Rattle.rq_exchange.specs.Courses.{StartsByLast};
 ghost use Rattle.rq_restart.specs.Restarts.{first_cleared};
 ghost use Rattle.rq_restart.specs.RedoneFronts.{IsFoundFrom};
 
 use crate::restarts::FoundFront;
 use rq_catalog::Analysis;
-use rq_exchange::{Agenda, redo_agenda};
+use rq_exchange::{Agenda, Course, redo_agenda};
 use rq_judged::{Front, Why};
 use rq_plan::{Gate, Plan};
 use rq_record::{Fault, KeptRecord, UnitNo, Version};
@@ -26,7 +27,7 @@ use std::marker::{Model, Sync};
 use std::thread::Threads;
 
 /// What a restart answers: the state after the units that were open were aborted, and numbers of
-/// the front.
+/// the front. It keeps how the queues of the state were redone, only for contracts.
 #[derive(Drop)]
 pub struct Restarted {
     pub(crate) state: State,
@@ -37,11 +38,14 @@ pub struct Restarted {
     pub(crate) committed: u64,
     pub(crate) aborted: u64,
     pub(crate) cut_off: u64,
+    pub(crate) course: Course,
 }
 
 impl Model for Restarted {
+    ghost use Rattle.std.specs.Prelude.{map};
     ghost use Rattle.rq_model.specs.Fronts as fronts;
     ghost use Rattle.rq_judged.specs.Views.{why_of};
+    ghost use Rattle.rq_exchange.specs.Courses.{StartsByLast};
 
     ghost Value = { fronts.Restarted };
 
@@ -55,6 +59,8 @@ impl Model for Restarted {
       aborted = r.aborted;
       cut_off = r.cut_off;
     } };
+
+    ghost invariant = { λ r. StartsByLast (map (λ d. d.error) r.state.definitions) r.course };
 }
 
 impl Restarted {
@@ -113,6 +119,14 @@ impl Restarted {
     {
         self.cut_off
     }
+
+    /// How the queues of the state were redone, only for contracts: each by one thread, once, and
+    /// each error queue by the one thread whose arrival was the last of its sources.
+    pub fn course(&self) -> &Course
+        ensures { StartsByLast (map (λ d. d.error) self.now.state.definitions) result.now }
+    {
+        &self.course
+    }
 }
 
 // Lets go of what the first record spells, if that is a checkpoint. A redo does not look at it, and
@@ -163,9 +177,9 @@ fn closing_agenda(
     Ok((agenda, units))
 }
 
-// The state behind the records, whose agenda this is. It lets go of both, and of the state before
-// them, before the state is gathered. So these never stand in memory at once, and a caller that is
-// refused has none to drop.
+// The state behind the records, whose agenda this is, and how its queues were redone. It lets go of
+// the records and the agenda, and of the state before them, before the state is gathered. So these
+// never stand in memory at once, and a caller that is refused has none to drop.
 fn redone<R: Threads + Sync, G: Gate + Sync>(
     rt: &R,
     alloc: Global,
@@ -174,19 +188,21 @@ fn redone<R: Threads + Sync, G: Gate + Sync>(
     agenda: Agenda,
     plan: &Plan,
     gate: &G,
-) -> Result<State, Fault>
+) -> Result<(State, Course), Fault>
     requires lawful { all_lawful model.Two state (map record_of records.items) ≡ true }
     requires fits { state.next + length records.items < 2 ^ 64 }
     requires agenda { IsAgenda state (map record_of records.items) agenda }
-    ensures state { IfOk result (λ t. t ≡ run state (map record_of records.items)) }
+    ensures state { IfOk result (λ r. r.0 ≡ run state (map record_of records.items)) }
+    ensures course { IfOk result (λ r. StartsByLast
+        (map (λ d. d.error) (run state (map record_of records.items)).definitions) r.1) }
     ensures refused { IfErr result (λ e. e ≡ Resources) }
 {
     clear_first(alloc, &mut records);
     let (all, course) = redo_agenda(rt, alloc, &state, &records, agenda, plan, gate)?;
-    drop(course);
     drop(records);
     drop(state);
-    all.gather(alloc)
+    let after = all.gather(alloc)?;
+    Ok((after, course))
 }
 
 /// What a restart answers of a front of `total` bytes: its open units are aborted, rising, and records
@@ -221,7 +237,7 @@ pub(crate) fn finish<R: Threads + Sync, G: Gate + Sync>(
     let (agenda, units) = closing_agenda(alloc, &state, &records, analysis)?;
     let cut_off = units.len() as u64;
     append_aborts(&mut records, units)?;
-    let state = redone(rt, alloc, state, records, agenda, plan, gate)?;
+    let (state, course) = redone(rt, alloc, state, records, agenda, plan, gate)?;
     Ok(Restarted {
         state,
         records: next,
@@ -231,5 +247,6 @@ pub(crate) fn finish<R: Threads + Sync, G: Gate + Sync>(
         committed,
         aborted,
         cut_off,
+        course,
     })
 }

@@ -1,19 +1,19 @@
-//! The tail of a log: the aborts that close it.
+//! Where the front of a log ends, and its tail: the aborts that close it.
 
-ghost use Rattle.std.specs.Prelude.{◌≡◌, ◌≤◌, ◌++◌, length, map, IfOk, IfErr, OnOk};
+ghost use Rattle.std.specs.Prelude.{◌≡◌, ◌≤◌, ◌++◌, ℕ, length, map, take, IfOk, IfErr, OnOk};
 ghost use Rattle.rq_model.specs.Frames.{digest, frame, frames_of};
 ghost use Rattle.rq_model.specs.Records as model;
 ghost use Rattle.rq_model.specs.Spelling.{body_of};
 ghost use Rattle.rq_record.specs.declared.fault.Fault.TheVariants.{Resources};
 ghost use Rattle.rq_state.specs.Views.{unit_of};
-ghost use Rattle.rq_restart.specs.RedoneFronts.{IsFoundFront};
-ghost use Rattle.rq_restart.specs.Tails.{Closes, IsEnding, StaysOpen, Tails};
+ghost use Rattle.rq_restart.specs.RedoneFronts.{IsFoundFrom};
+ghost use Rattle.rq_restart.specs.Tails.{Closes, EndsLog, EndsLogAt, IsCrowded, IsEndingOf, Tails};
 
-use crate::restarts::{FoundFront, whole_front};
+use crate::restarts::{FoundFront, front_from, whole_front};
 use rq_front::LOG_LIMIT;
-use rq_judged::{append_frame, before};
+use rq_judged::{Why, append_frame, before};
 use rq_plan::Plan;
-use rq_record::{Fault, LogBytes, Record, UnitNo, encode};
+use rq_record::{Fault, LogBytes, Record, UnitNo, Version, encode};
 use std::alloc::Global;
 use std::marker::Sync;
 use std::thread::Threads;
@@ -60,18 +60,41 @@ fn append_aborts(
     Ok(())
 }
 
-// Where the front of a log ends, and the tail behind it.
+/// Where the front of a log ends, why, and the tail that closes it.
 #[derive(Drop)]
-struct Ending {
-    end: usize,
-    tail: Vec<u8>,
+pub struct Ending {
+    /// The version of the log.
+    pub version: Version,
+    /// How many of the log's bytes the front takes, and all that stands before it.
+    pub used: usize,
+    /// Why it ends.
+    pub why: Why,
+    /// How many units are open there.
+    pub units: usize,
+    /// The frames of their ABORTs, rising, chained to the front's last 32 bytes.
+    pub tail: Vec<u8>,
+}
+
+impl Ending {
+    /// The log whose front ends here, closed: its bytes up to there, and the tail behind them. What
+    /// stood behind the front is dropped. `Resources` is returned if memory is refused.
+    pub fn close(mut self, bytes: Vec<u8>) -> Result<Vec<u8>, Fault>
+        ensures closed { IfOk result
+            (λ closed. closed.items ≡ take self.used bytes.items ++ self.tail.items) }
+        ensures refused { IfErr result (λ e. e ≡ Resources) }
+    {
+        let mut bytes = bytes;
+        bytes.truncate(self.used);
+        bytes.append(&mut self.tail)?;
+        Ok(bytes)
+    }
 }
 
 // Where this front of the log ends, and its tail.
 fn ending_behind(alloc: Global, from: &FoundFront, bytes: &[u8]) -> Result<Ending, Fault>
-    requires { IsFoundFront bytes.now from.now }
-    ensures ending { IfOk result (IsEnding bytes.now) }
-    ensures refused { IfErr result (StaysOpen bytes.now) }
+    requires { (offset : ℕ) × IsFoundFrom bytes.now offset from.now }
+    ensures ending { IfOk result (IsEndingOf bytes.now from.now) }
+    ensures refused { IfErr result (IsCrowded bytes.now from.now) }
 {
     let front = &from.front;
     let units = front.analysis.open_units(alloc)?;
@@ -81,21 +104,43 @@ fn ending_behind(alloc: Global, from: &FoundFront, bytes: &[u8]) -> Result<Endin
     let mut tail = Vec::new(alloc);
     append_aborts(alloc, before(bytes, front.end), &units, &mut tail)?;
     Ok(Ending {
-        end: front.end,
+        version: from.version,
+        used: front.end,
+        why: front.why,
+        units: units.len(),
         tail,
     })
 }
 
-fn ending_of<R: Threads + Sync>(
+/// Where the front of a log ends, why, and its tail. No queue is redone.
+///
+/// Refused as `tail` is.
+pub fn ending_of<R: Threads + Sync>(
     rt: &R,
     alloc: Global,
     bytes: &[u8],
     plan: &Plan,
 ) -> Result<Ending, Fault>
-    ensures ending { IfOk result (IsEnding bytes.now) }
-    ensures refused { IfErr result (StaysOpen bytes.now) }
+    ensures { EndsLog bytes.now result }
 {
     let from = whole_front(rt, alloc, &LogBytes::borrowed(bytes), plan)?;
+    ending_behind(alloc, &from, bytes)
+}
+
+/// The same of the front from the checkpoint at an offset on, which is taken at its word.
+///
+/// Refuses with `TooLarge` if the front followed by the tail would have more than 4,294,967,295
+/// bytes, and else as `restart_at` does.
+pub fn ending_at<R: Threads + Sync>(
+    rt: &R,
+    alloc: Global,
+    bytes: &[u8],
+    offset: u64,
+    plan: &Plan,
+) -> Result<Ending, Fault>
+    ensures { EndsLogAt bytes.now offset result }
+{
+    let from = front_from(rt, alloc, &LogBytes::borrowed(bytes), offset, plan)?;
     ending_behind(alloc, &from, bytes)
 }
 
@@ -128,9 +173,5 @@ pub fn closed<R: Threads + Sync>(
 ) -> Result<Vec<u8>, Fault>
     ensures { Closes bytes.items result }
 {
-    let mut ending = ending_of(rt, alloc, &bytes, plan)?;
-    let mut bytes = bytes;
-    bytes.truncate(ending.end);
-    bytes.append(&mut ending.tail)?;
-    Ok(bytes)
+    ending_of(rt, alloc, &bytes, plan)?.close(bytes)
 }

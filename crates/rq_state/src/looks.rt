@@ -5,7 +5,7 @@ ghost use Rattle.rq_model.specs.States as model;
 
 use crate::kept_element::KeptElement;
 use crate::kept_registrant::KeptRegistrant;
-use crate::members::{Definition, Note};
+use crate::members::{Definition, Note, Registrant};
 use crate::state::State;
 use rq_record::UnitNo;
 
@@ -48,8 +48,17 @@ impl State {
         self.registrants().len()
     }
 
-    /// The registrant at an index in their list.
-    pub fn registrant(&self, index: usize) -> &KeptRegistrant
+    /// The registrant at an index in their list. It takes no memory.
+    pub fn registrant(&self, index: usize) -> Registrant
+        requires { index < length self.now.registrants }
+        ensures { (x : model.Registrant) →
+            result ≡ slice_index_or self.now.registrants index x }
+    {
+        self.kept_registrant(index).registrant()
+    }
+
+    /// The same registrant as the state keeps it.
+    pub fn kept_registrant(&self, index: usize) -> &KeptRegistrant
         requires { index < length self.now.registrants }
         ensures { (x : model.Registrant) →
             result.now ≡ slice_index_or self.now.registrants index x }

@@ -2,11 +2,13 @@
 
 ghost use Rattle.std.specs.Prelude.{◌≡◌, ◌++◌, ℕ, List, IfOk, IfErr, OnOk, codes, string_bytes};
 ghost use Rattle.rq_model.specs.Fronts as fronts;
+ghost use Rattle.rq_record.specs.declared.fault.Fault.TheVariants.{Resources};
 ghost use Rattle.rq_front.specs.Chains.{IsLog};
 ghost use Rattle.rq_judged.specs.FrontEnds.{IsEndOf};
 ghost use Rattle.rq_judged.specs.Views.{why_of};
 ghost use Rattle.rq_found.specs.Ends.{IsRestartFrom, beginning_text, end_text, front_end_of};
-ghost use Rattle.rq_found.specs.Refusals.{IsBroken, StaysUnshown};
+ghost use Rattle.rq_found.specs.Refusals.{StaysUnshown};
+ghost use Rattle.rq_found.specs.declared.trouble.Trouble.TheVariants.{Log};
 ghost use Rattle.rq_stats.specs.Statistics.{AreNumbers, PutsNumbers};
 
 use crate::measures::{Measures, counted};
@@ -40,7 +42,7 @@ fn text_of(
 fn json_of(alloc: Global, end: &End, measures: &Measures) -> Result<String, Trouble>
     ensures line { IfOk result
         (λ text. (object : List ℕ) × (string_bytes text ≡ object ++ codes "\n")) }
-    ensures refused { IfErr result IsBroken }
+    ensures refused { IfErr result (λ e. e ≡ Log Resources) }
 {
     let (front, rows) = (front_shown(end), rows_of(alloc, measures)?);
     let mut text = serde_json::to_string_pretty(alloc, &StatisticsShown { front, rows: &rows })?;
@@ -54,7 +56,7 @@ fn numbers_of(alloc: Global, log: &ShownLog<'_>, end: &End, json: bool) -> Resul
         × IsEndOf r (front_end_of end.now) }
     ensures numbers { IfOk result
         (λ text. AreNumbers log.now.at log.now.bytes.now json (string_bytes text)) }
-    ensures refused { IfErr result IsBroken }
+    ensures refused { IfErr result (λ e. e ≡ Log Resources) }
 {
     let measures: Measures = counted(alloc, log, end)?;
     if json {

@@ -1,3 +1,4 @@
 pub mod Reading
 pub mod Made
 pub mod Plans
+mod Accounted

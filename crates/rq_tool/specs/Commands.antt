@@ -8,7 +8,7 @@ use Rattle.rq_front.specs.Chains.{IsLog, Refused}
 use Rattle.rq_plan.specs.Plans.{workers_of, grain_of}
 use Rattle.rq_plan.specs.declared.plan.Plan.{Plan}
 use Rattle.rq_restart.specs.Tails.{StaysOpen}
-use Rattle.rq_tool.specs.Headline.{Runs, RunsAt, WritesOnly, WritesReport}
+use Rattle.rq_tool.specs.Headline.{AccountsForFiles, AccountsForFront, Runs, RunsAt, WritesOnly, WritesReport}
 use Rattle.rq_tool.specs.Streams.{Writes}
 use Rattle.rq_tool.specs.Works.{IsAuditText, IsClosedLog, IsUpgradedLog, Makes}
 use Rattle.rq_tool.specs.declared.commands.Command.{Command}
@@ -97,6 +97,15 @@ ActsOn (Close log out workers grain) b old new result =
     Writes (IsClosedLog b) (StaysOpen b) old new result
 ActsOn (Upgrade log out workers grain) b old new result =
     Writes (IsUpgradedLog b) (Refused b) old new result
+
+-- a report that it writes accounts for requests and clients: for those of the front, from a checkpoint
+-- if that is true; and for those of all files, if b is the last of several and begins with it
+abbrev pub AccountsOn : CommandLine → List ℕ → Option (List ℕ)
+    → Option (List ℕ) → Result (Unit {0}) Fault → Type 0
+AccountsOn (Restart log workers grain) b old new result = AccountsForFront b old new result
+AccountsOn (RestartAt log offset workers grain) b old new result =
+    (TrueAt b offset → AccountsForFront b old new result) × AccountsForFiles b offset old new result
+AccountsOn line b old new result = ⊤
 
 -- also where the reader tells no bytes
 abbrev pub ActsOnly : CommandLine → Option (List ℕ)

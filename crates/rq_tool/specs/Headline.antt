@@ -1,9 +1,14 @@
 -- What a run of the engine does.
 use Rattle.std.specs.Prelude.{◌≡◌, ℕ, ◌<◌, ◌≤◌, List, length, Option, Result, Ok, Err, ⊤}
 use Rattle.std.specs.Io.KnownBytes.{Keeps, Appends}
+use Rattle.rq_model.specs.Records.{Record, Version}
 use Rattle.rq_model.specs.Frames.{log_limit}
+use Rattle.rq_model.specs.Fronts.{IsFront}
 use Rattle.rq_model.specs.Reports.{IsReport}
 use Rattle.rq_model.specs.Checkpoints.{IsReportAt}
+use Rattle.rq_model.specs.Fates.{with_aborts}
+use Rattle.rq_model.specs.AllFiles.{File, AreFiles}
+use Rattle.rq_model.specs.ClientLines.{TextAccounts}
 use Rattle.rq_front.specs.Chains.{IsHeaded, IsLog}
 use Rattle.rq_judged.specs.Refusals.{RefusedAt}
 use Rattle.rq_record.specs.declared.fault.Fault.{Fault}
@@ -54,3 +59,28 @@ RunsAt b offset = Writes (λ text. IsLog b × IsReportAt b offset text) (Refused
 abbrev pub WritesReport : List ℕ → Option (List ℕ)
     → Option (List ℕ) → Result (Unit {0}) Fault → Type 0
 WritesReport b = Writes (IsReport b) (λ e. e ≡ Resources)
+
+-- What is written accounts for requests and clients.
+
+-- a report that is written accounts for these records
+abbrev pub WritesAccount : List Record → Option (List ℕ)
+    → Option (List ℕ) → Result (Unit {0}) Fault → Type 0
+WritesAccount records old new (Ok done) = (text : List ℕ) × Appends old new text
+    × TextAccounts (with_aborts records) text
+WritesAccount records old new (Err e) = ⊤
+
+-- for those of the front of b
+abbrev pub AccountsForFront : List ℕ → Option (List ℕ)
+    → Option (List ℕ) → Result (Unit {0}) Fault → Type 0
+AccountsForFront b old new (Ok done) =
+    (version : Version) × (records : List Record) × (rest : List ℕ)
+    × IsFront b version records rest × WritesAccount records old new (Ok done)
+AccountsForFront b old new (Err e) = ⊤
+
+-- if b is the last file of several, and its checkpoint stands at the offset: for those of all files
+abbrev pub AccountsForFiles : List ℕ → ℕ → Option (List ℕ)
+    → Option (List ℕ) → Result (Unit {0}) Fault → Type 0
+AccountsForFiles b offset old new result =
+    (version : Version) (log : List ℕ) (files : List File) (newest : File) (records : List Record)
+    → AreFiles version log files newest records → newest.bytes ≡ b → newest.offset ≡ offset
+    → WritesAccount records old new result

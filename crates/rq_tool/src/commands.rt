@@ -1,7 +1,7 @@
 //! The commands of the program, and what each does, over a reader and a writer.
 
 ghost use Rattle.std.specs.Prelude.{◌≡◌, ℕ, ◌<◌, List, Some};
-ghost use Rattle.rq_tool.specs.Commands.{ActsOn, ActsOnly, command_line};
+ghost use Rattle.rq_tool.specs.Commands.{AccountsOn, ActsOn, ActsOnly, command_line};
 ghost use Rattle.rq_tool.specs.Streams.{ReadFaults, TakesInput, WriteFaults};
 
 use crate::door::{run, run_at, through};
@@ -71,6 +71,9 @@ pub fn act<R: Threads + Sync, I: Input, O: Output, G: Gate + Sync>(
     requires writes { O.faults output.old < 18446744073709551615 }
     ensures acts { (b : List ℕ) → I.remaining input.old ≡ Some b
         → ActsOn (command_line command.now) b
+        (O.contents output.old) (O.contents output.new) result }
+    ensures accounts { (b : List ℕ) → I.remaining input.old ≡ Some b
+        → AccountsOn (command_line command.now) b
         (O.contents output.old) (O.contents output.new) result }
     ensures quiet { ActsOnly (command_line command.now)
         (O.contents output.old) (O.contents output.new) result }

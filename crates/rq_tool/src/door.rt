@@ -2,7 +2,8 @@
 
 ghost use Rattle.std.specs.Prelude.{◌≡◌, ℕ, ◌<◌, List, Some};
 ghost use Rattle.rq_model.specs.Checkpoints.{TrueAt};
-ghost use Rattle.rq_tool.specs.Headline.{Runs, RunsAt, WritesOnly, WritesReport};
+ghost use Rattle.rq_tool.specs.Headline.{AccountsForFiles, AccountsForFront, Runs, RunsAt, WritesOnly};
+ghost use Rattle.rq_tool.specs.Headline.{WritesReport};
 ghost use Rattle.rq_tool.specs.Streams.{PutsText, ReadFaults, TakesInput, WriteFaults, Writes};
 ghost use Rattle.rq_tool.specs.Works.{IsTextOf, IsWhyNot};
 
@@ -75,7 +76,8 @@ pub fn through<R: Threads + Sync, I: Input, O: Output, G: Gate + Sync>(
     put(rt, alloc, bytes, output, work, plan, gate)
 }
 
-/// Reads the input to its end, but at most 4,294,967,296 bytes, restarts, and writes the report.
+/// Reads the input to its end, but at most 4,294,967,296 bytes, restarts, and writes the report. It
+/// accounts for each request and client of the log's front.
 ///
 /// Nothing else is written. Refuses with `ReadFailed`, `TooLong`, `NotALog` or `Resources`, and
 /// then writes nothing, and with `WriteFailed`, and then has written a beginning of the report.
@@ -91,17 +93,22 @@ pub fn run<R: Threads + Sync, I: Input, O: Output, G: Gate + Sync>(
     requires writes { O.faults output.old < 18446744073709551615 }
     ensures runs { (b : List ℕ) → I.remaining input.old ≡ Some b
         → Runs b (O.contents output.old) (O.contents output.new) result }
+    ensures accounts { (b : List ℕ) → I.remaining input.old ≡ Some b
+        → AccountsForFront b (O.contents output.old) (O.contents output.new) result }
     ensures quiet { WritesOnly (O.contents output.old) (O.contents output.new) result }
     ensures takes { TakesInput (I.remaining input.old) (I.remaining input.new) result }
     ensures read_faults { ReadFaults (I.faults input.old) (I.faults input.new) result }
     ensures write_faults { WriteFaults (O.faults output.old) (O.faults output.new) result }
 {
+    rq_model::reports_account();
+    rq_model::reports_tell_clients();
     through(rt, alloc, input, output, Work::Report, plan, gate)
 }
 
 /// Reads the input to its end, but at most 4,294,967,296 bytes, restarts from the checkpoint at an
 /// offset, and writes the report. From a true checkpoint it is the report of the log, and only
-/// memory, the reader or the writer refuse it.
+/// memory, the reader or the writer refuse it. If the log carries on others, from the checkpoint
+/// that it begins with the report accounts for each request and client of all these logs.
 ///
 /// Nothing else is written. Refuses with `NoCheckpoint` where no checkpoint begins at the offset,
 /// with `BadCheckpoint` where it spells no well-formed state, and else as `run` does.
@@ -120,6 +127,10 @@ pub fn run_at<R: Threads + Sync, I: Input, O: Output, G: Gate + Sync>(
         → RunsAt b offset (O.contents output.old) (O.contents output.new) result }
     ensures same { (b : List ℕ) → I.remaining input.old ≡ Some b → TrueAt b offset
         → WritesReport b (O.contents output.old) (O.contents output.new) result }
+    ensures accounts { (b : List ℕ) → I.remaining input.old ≡ Some b → TrueAt b offset
+        → AccountsForFront b (O.contents output.old) (O.contents output.new) result }
+    ensures files { (b : List ℕ) → I.remaining input.old ≡ Some b
+        → AccountsForFiles b offset (O.contents output.old) (O.contents output.new) result }
     ensures quiet { (b : List ℕ)
         × RunsAt b offset (O.contents output.old) (O.contents output.new) result }
     ensures takes { TakesInput (I.remaining input.old) (I.remaining input.new) result }
@@ -127,5 +138,8 @@ pub fn run_at<R: Threads + Sync, I: Input, O: Output, G: Gate + Sync>(
     ensures write_faults { WriteFaults (O.faults output.old) (O.faults output.new) result }
 {
     rq_model::true_checkpoints_report_the_same();
+    rq_model::reports_account();
+    rq_model::reports_tell_clients();
+    rq_model::all_files_account();
     through(rt, alloc, input, output, Work::ReportAt(offset), plan, gate)
 }

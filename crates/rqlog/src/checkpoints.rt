@@ -1,8 +1,10 @@
 //! The checkpoint of a state, and the ABORTs of open units.
 
-use crate::fronts::{OpenLog, front_of, opened_front, redone_behind};
+use crate::damage::LeftOut;
+use crate::fronts::{OpenLog, opened_front, redone_behind};
+use crate::inputs::ReadLog;
 use crate::refusal::Refusal;
-use rq_journal::{NotTaken, Plan, checkpoint_of};
+use rq_journal::{NotTaken, Plan, checkpoint_of, write_as_carried};
 use rq_record::{Fault, Record, kept_records};
 use rq_restart::{RedoneFront, go_on};
 use rq_standing::Standing;
@@ -82,27 +84,32 @@ fn mark_behind<R: Threads + Sync>(
 pub(crate) fn mark<R: Threads + Sync>(
     rt: &R,
     alloc: Global,
-    bytes: &[u8],
+    read: &ReadLog,
     plan: &Plan,
     ends_units: bool,
+    drops: bool,
 ) -> Result<(OpenLog, usize), Refusal> {
-    let mut log = opened_front(rt, alloc, bytes, plan)?;
-    let front = redone_behind(rt, alloc, bytes, plan)?;
+    let mut log = opened_front(rt, alloc, read, plan, drops)?;
+    let front = redone_behind(rt, alloc, read, plan)?;
     let offset = mark_behind(rt, alloc, &mut log, front, plan, ends_units)?;
     Ok((log, offset))
 }
 
-/// Makes of a log that was carried on the closed one.
-pub(crate) fn close_carried<R: Threads + Sync>(
+/// The closed file of a carried one that was read, and what is left out of it behind its front, if that
+/// is to be told. Refuses to leave out what is not to be dropped.
+pub(crate) fn closed_carried<R: Threads + Sync>(
     rt: &R,
     alloc: Global,
-    bytes: &mut Vec<u8>,
+    read: ReadLog,
     plan: &Plan,
-) -> Result<(), Refusal> {
-    let mut log = front_of(rt, alloc, bytes, plan)?;
-    let aborts = aborts_of(alloc, &redone_behind(rt, alloc, bytes, plan)?.state)?;
+    drops: bool,
+) -> Result<(Vec<u8>, Option<LeftOut>), Refusal> {
+    let mut log = opened_front(rt, alloc, &read, plan, drops)?;
+    let aborts = aborts_of(alloc, &redone_behind(rt, alloc, &read, plan)?.state)?;
     append_all(alloc, &mut log, &aborts)?;
-    bytes.truncate(log.opened.used);
-    bytes.append(&mut log.frames)?;
-    Ok(())
+    let mut made = read.bytes;
+    made.truncate(log.opened.used);
+    made.append(&mut log.frames)?;
+    write_as_carried(&mut made);
+    Ok((made, log.left_out))
 }

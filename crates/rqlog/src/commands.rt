@@ -1,17 +1,23 @@
 //! What the program does for each of its commands.
 
-use crate::checkpoints::{close_carried, mark};
+use crate::checkpoints::{closed_carried, mark};
+use crate::damage::{EndOfFront, LastBytes, LeftOut, expect_end};
 use crate::files::{HeldLog, Hold, put_whole};
 use crate::fronts::{OpenLog, front_in, next_behind};
-use crate::inputs::{begun_log, log_from, opened, rest_of_log, script_in};
+use crate::inputs::{ReadLog, begun_log, log_from, opened, rest_of_log, script_in};
 use crate::lines::append_script;
-use crate::messages::{audit_text, tell_appended, tell_carried, tell_marked, warn_of_end};
+use crate::messages::{
+    audit_text, tell_appended, tell_carried, tell_left_out, tell_marked, warn_of_end,
+};
 use crate::new_log::{expect_free, put_new};
+use crate::recovery::recover;
 use crate::refusal::{Refusal, Stream, failed};
 use clap::ArgMatches;
 use rq_file::{Patient, Replaces, expect_replaceable, name_one_file, put_over};
-use rq_journal::{CARRIED_AT, Fault, Plan, audit_carried, carried, carried_again, is_carried};
-use rq_restart::closed;
+use rq_front::header_of;
+use rq_journal::{CARRIED_AT, Fault, Plan, audit_carried, carried, carried_again};
+use rq_record::Version;
+use rq_restart::ending_of;
 use rq_tool::{Open, OverRead, OverWrite, Work, through};
 use std::fs::File;
 use std::io::{self, Read};
@@ -38,6 +44,18 @@ fn told(done: io::Result<()>) -> Result<(), Refusal> {
     }
 }
 
+// Makes the file of a log that has no record yet.
+fn new_log<R>(rt: &R, words: &ArgMatches<'_>) -> Result<(), Refusal>
+where
+    R: Files<File = File> + AllocGlobal,
+{
+    let new = words.get_str("NEW").unwrap_or("-");
+    expect_free(rt, new)?;
+    let mut log = Vec::new(rt.alloc());
+    header_of(Version::Two, &mut log)?;
+    put_new(rt, new, &log)
+}
+
 // Appends the frames of a script behind an open log, if any of its lines are kept, and tells so; or says
 // why a line is refused.
 fn append_lines<R>(
@@ -48,11 +66,12 @@ fn append_lines<R>(
     words: &ArgMatches<'_>,
 ) -> Result<(), Refusal>
 where
-    R: Files<File = File> + Print + AllocGlobal,
+    R: Files<File = File> + Print + Eprint + AllocGlobal,
 {
     let made = append_script(rt.alloc(), log, script, words.get_flag("each"))?;
     if made.is_kept() {
         held.append(rt, log)?;
+        tell_left_out(rt, log.left_out);
         let (used, len) = (log.opened.used as u64, log.len() as u64);
         let json = words.get_flag("json");
         told(tell_appended(rt, json, made.count, used, len))?;
@@ -62,49 +81,58 @@ where
 
 fn append<R>(rt: &R, path: &str, plan: &Plan, words: &ArgMatches<'_>) -> Result<(), Refusal>
 where
-    R: Files<File = File> + Input + Print + AllocGlobal + Threads + Sync,
+    R: Files<File = File> + Input + Print + Eprint + AllocGlobal + Threads + Sync,
 {
     let script = script_in(rt, words.get_str("SCRIPT").unwrap_or("-"))?;
     let mut held = HeldLog::open(rt, path, Hold::ToWrite)?;
-    let mut log = front_in(rt, held.file(), plan)?;
+    let mut log = front_in(rt, held.file(), plan, words.get_flag("drop"))?;
     append_lines(rt, &mut held, &mut log, &script, words)
 }
 
 // Writes a checkpoint of the state behind a log, and tells so.
 fn checkpoint<R>(rt: &R, path: &str, plan: &Plan, words: &ArgMatches<'_>) -> Result<(), Refusal>
 where
-    R: Files<File = File> + Print + AllocGlobal + Threads + Sync,
+    R: Files<File = File> + Print + Eprint + AllocGlobal + Threads + Sync,
 {
     let mut held = HeldLog::open(rt, path, Hold::ToWrite)?;
-    let bytes = rest_of_log(rt, held.file())?;
-    let (log, offset) = mark(rt, rt.alloc(), &bytes, plan, words.get_flag("close"))?;
+    let read = rest_of_log(rt, held.file())?;
+    let (closes, drops) = (words.get_flag("close"), words.get_flag("drop"));
+    let (log, offset) = mark(rt, rt.alloc(), &read, plan, closes, drops)?;
     held.append(rt, &log)?;
+    tell_left_out(rt, log.left_out);
     let json = words.get_flag("json");
     told(tell_marked(rt, json, offset as u64, log.len() as u64))
 }
 
-// A log that goes on from this one.
-fn carried_on<R>(rt: &R, bytes: &[u8], plan: &Plan) -> Result<Vec<u8>, Fault>
+// The carried file that goes on from this log.
+fn carried_on<R>(rt: &R, log: &ReadLog, plan: &Plan) -> Result<Vec<u8>, Fault>
 where
     R: AllocGlobal + Threads + Sync,
 {
-    if is_carried(bytes) {
-        carried_again(rt, rt.alloc(), bytes, plan)
+    if log.is_carried {
+        carried_again(rt, rt.alloc(), &log.bytes, plan)
     } else {
-        carried(rt, rt.alloc(), bytes, plan)
+        carried(rt, rt.alloc(), &log.bytes, plan)
     }
 }
 
-// Makes the file of a log that goes on from this one, and tells how many records stand before it.
-fn carry_bytes<R>(rt: &R, bytes: &[u8], plan: &Plan, new: &str, json: bool) -> Result<(), Refusal>
+// Makes the carried file that goes on from this log, and tells how many records stand before it.
+fn carry_log<R>(
+    rt: &R,
+    read: &ReadLog,
+    plan: &Plan,
+    new: &str,
+    words: &ArgMatches<'_>,
+) -> Result<(), Refusal>
 where
     R: Files<File = File> + Print + Eprint + AllocGlobal + Threads + Sync,
 {
-    let next = next_behind(rt, rt.alloc(), bytes, plan)?;
-    let made = carried_on(rt, bytes, plan)?;
+    let log = next_behind(rt, rt.alloc(), read, plan, words.get_flag("drop"))?;
+    let made = carried_on(rt, read, plan)?;
     put_new(rt, new, &made)?;
-    warn_of_end(rt, next);
-    told(tell_carried(rt, json, next, made.len() as u64))
+    tell_left_out(rt, log.left_out);
+    warn_of_end(rt, log.next);
+    told(tell_carried(rt, words.get_flag("json"), log.next, made.len() as u64))
 }
 
 fn carry<R>(rt: &R, path: &str, plan: &Plan, words: &ArgMatches<'_>) -> Result<(), Refusal>
@@ -114,8 +142,8 @@ where
     let new = words.get_str("NEW").unwrap_or("-");
     expect_free(rt, new)?;
     let mut held = HeldLog::open(rt, path, Hold::ToRead)?;
-    let bytes = rest_of_log(rt, held.file())?;
-    carry_bytes(rt, &bytes, plan, new, words.get_flag("json"))
+    let read = rest_of_log(rt, held.file())?;
+    carry_log(rt, &read, plan, new, words)
 }
 
 // Prints what is made of a log.
@@ -145,30 +173,45 @@ where
     Ok(print_log(rt, work, from, plan)?)
 }
 
-// The closed log, plain or carried on.
-fn closed_of<R>(rt: &R, bytes: Vec<u8>, plan: &Plan) -> Result<Vec<u8>, Refusal>
+// The file of the closed log, plain or carried on, and what of the log it leaves out, if that is to be told. What is
+// not to be dropped stays.
+fn closed_of<R>(
+    rt: &R,
+    log: ReadLog,
+    plan: &Plan,
+    drops: bool,
+) -> Result<(Vec<u8>, Option<LeftOut>), Refusal>
 where
     R: AllocGlobal + Threads + Sync,
 {
-    if is_carried(&bytes) {
-        let mut bytes = bytes;
-        close_carried(rt, rt.alloc(), &mut bytes, plan)?;
-        return Ok(bytes);
+    let alloc = rt.alloc();
+    if log.is_carried {
+        return closed_carried(rt, alloc, log, plan, drops);
     }
-    Ok(closed(rt, rt.alloc(), bytes, plan)?)
+    let bytes = log.bytes;
+    let ending = ending_of(rt, alloc, &bytes, plan)?;
+    let left = expect_end(
+        alloc,
+        LastBytes::all(&bytes),
+        EndOfFront::of(&ending),
+        drops,
+    )?;
+    Ok((ending.close(bytes)?, left))
 }
 
 // Closes a log in its own place, while no other program writes it, if it is still as it was read.
-fn close_in_place<R>(rt: &R, path: &str, plan: &Plan) -> Result<(), Refusal>
+fn close_in_place<R>(rt: &R, path: &str, plan: &Plan, drops: bool) -> Result<(), Refusal>
 where
-    R: Files<File = File> + AllocGlobal + Threads + Sync,
+    R: Files<File = File> + Eprint + AllocGlobal + Threads + Sync,
 {
     let mut held = HeldLog::open(rt, path, Hold::ToReplace)?;
-    let bytes = rest_of_log(rt, held.file())?;
-    let read = bytes.len();
-    let made = closed_of(rt, bytes, plan)?;
+    let log = rest_of_log(rt, held.file())?;
+    let read = log.bytes.len();
+    let (made, left) = closed_of(rt, log, plan, drops)?;
     held.expect_as_read(rt, read)?;
-    put_whole(rt, path, Stream::Out, &made)
+    put_whole(rt, path, Stream::Out, &made)?;
+    tell_left_out(rt, left);
+    Ok(())
 }
 
 // What of the files that are there gives way to a closed log.
@@ -182,27 +225,29 @@ fn replaced_by(words: &ArgMatches<'_>) -> Replaces<'static> {
 
 fn close<R>(rt: &R, path: &str, plan: &Plan, words: &ArgMatches<'_>) -> Result<(), Refusal>
 where
-    R: Files<File = File> + AllocGlobal + Threads + Sync,
+    R: Files<File = File> + Eprint + AllocGlobal + Threads + Sync,
 {
     let out = words.get_str("OUT").unwrap_or("-");
     if name_one_file(rt, path, out) {
-        return close_in_place(rt, out, plan);
+        return close_in_place(rt, out, plan, words.get_flag("drop"));
     }
     let rule = replaced_by(words);
     expect_replaceable(rt, out, &rule).map_err(|error| failed(Stream::Out, error))?;
-    let bytes = log_from(rt, opened(rt, path, Stream::Log)?)?;
-    let made = closed_of(rt, bytes, plan)?;
-    put_over(rt, out, &made, &rule).map_err(|error| failed(Stream::Out, error))
+    let log = log_from(rt, opened(rt, path, Stream::Log)?)?;
+    let (made, left) = closed_of(rt, log, plan, true)?;
+    put_over(rt, out, &made, &rule).map_err(|error| failed(Stream::Out, error))?;
+    tell_left_out(rt, left);
+    Ok(())
 }
 
-// Tells which checkpoints of a log are true that was carried on.
+// Tells which checkpoints of a carried file are true, of which these are the bytes as they are read.
 fn tell_audit<R, F>(rt: &R, from: F, plan: &Plan) -> Result<(), Refusal>
 where
     R: Print + AllocGlobal + Threads + Sync,
     F: Read + Drop,
 {
-    let bytes = log_from(rt, from)?;
-    let found = audit_carried(rt, rt.alloc(), &bytes, plan)?;
+    let log = log_from(rt, from)?;
+    let found = audit_carried(rt, rt.alloc(), &log.bytes, plan)?;
     let text = audit_text(rt.alloc(), &found)?;
     Ok(rt.write_all(text.as_bytes())?)
 }
@@ -226,6 +271,9 @@ where
     let Some((name, words)) = matches.subcommand() else {
         return Ok(());
     };
+    if name == "new" {
+        return new_log(rt, words);
+    }
     let plan = plan_of(words)?;
     let path = words.get_str("LOG").unwrap_or("-");
     match name {
@@ -234,6 +282,10 @@ where
         "carry" => carry(rt, path, &plan, words),
         "restart" => restart(rt, path, &plan),
         "close" => close(rt, path, &plan, words),
+        "recover" => {
+            let (drops, json) = (words.get_flag("drop"), words.get_flag("json"));
+            told(recover(rt, path, &plan, drops, json)?)
+        }
         _ => audit(rt, path, &plan),
     }
 }

@@ -3,6 +3,7 @@
 use crate::fronts::OpenLog;
 use crate::refusal::{Refusal, Stream, failed};
 use rq_file::NamedFile;
+use rq_journal::Ending;
 use std::fs::{File, Files, OpenFile, OpenOptions, TryLockError};
 use std::io::{self, ErrorKind, Seek, SeekFrom, Write};
 
@@ -91,24 +92,38 @@ impl HeldLog {
         R: Files<File = File>,
     {
         self.expect_as_read(rt, log.read)?;
-        match write_behind(self.place.file_mut(), log) {
+        let used = log.opened.used;
+        match write_behind(self.place.file_mut(), log.read, used, &log.frames) {
             Ok(()) => Ok(()),
             Err(error) => {
-                let left = self.take_back(log.opened.used);
+                let left = self.take_back(used);
                 Err(Refusal::Failed(left, error))
             }
         }
     }
+
+    /// Cuts the log, of which so many bytes were read, to its front, writes the tail behind that, and
+    /// tells the disk. A log that is left between is recovered again.
+    pub(crate) fn recover<R>(&mut self, rt: &R, read: usize, ending: &Ending) -> Result<(), Refusal>
+    where
+        R: Files<File = File>,
+    {
+        self.expect_as_read(rt, read)?;
+        match write_behind(self.place.file_mut(), read, ending.used, &ending.tail) {
+            Ok(()) => Ok(()),
+            Err(error) => Err(Refusal::Failed(Stream::LogToRecover, error)),
+        }
+    }
 }
 
-// Cuts the file of a log to its front, if it has more, and writes the frames behind that.
-fn write_behind(file: &mut File, log: &OpenLog) -> io::Result<()> {
-    let used = log.opened.used;
-    if used < log.read {
+// Cuts the file of a log of so many bytes to its front, if it has more, and writes the frames behind
+// that.
+fn write_behind(file: &mut File, read: usize, used: usize, frames: &[u8]) -> io::Result<()> {
+    if used < read {
         OpenFile::set_len(file, used as u64)?;
     }
     file.seek(SeekFrom::Start(used as u64))?;
-    file.write_all(&log.frames)?;
+    file.write_all(frames)?;
     OpenFile::sync_all(file)
 }
 

@@ -1,10 +1,11 @@
 //! Where the front of a log ends, plain or carried on.
 
-use crate::inputs::{begins_carried, feed_file, rest_of_log};
+use crate::damage::{EndOfFront, LINK_LEN, LastBytes, LeftOut, expect_end};
+use crate::inputs::{ReadLog, begins_carried, feed_file, last_of_log, rest_of_log};
 use crate::refusal::Refusal;
 use byteorder::{BigEndian, ByteOrder};
 use rq_journal::{
-    CARRIED_AT, Fault, Opened, Plan, Why, is_carried, open, open_carried, opened_behind,
+    CARRIED_AT, Fault, Opened, Plan, TORN_LEN, Why, open, open_carried, opened_behind,
 };
 use rq_judged::GrowingFront;
 use rq_record::Version;
@@ -24,12 +25,31 @@ pub(crate) struct OpenLog {
     pub(crate) next: u64,
     /// The frames that are to be written behind the front.
     pub(crate) frames: Vec<u8>,
+    /// What stands behind the front and is left out, if that is to be told.
+    pub(crate) left_out: Option<LeftOut>,
 }
 
 impl OpenLog {
     /// The version by whose rules records follow.
     pub(crate) fn version(&self) -> Version {
         self.opened.appender.version()
+    }
+
+    // Refuses the end of the front, by the last bytes of the log, if nothing is written behind it,
+    // unless what stands there is to be dropped.
+    fn expect_end(
+        &mut self,
+        alloc: Global,
+        last: LastBytes<'_>,
+        drops: bool,
+    ) -> Result<(), Refusal> {
+        let end = EndOfFront {
+            version: self.version(),
+            used: self.opened.used,
+            why: self.opened.why,
+        };
+        self.left_out = expect_end(alloc, last, end, drops)?;
+        Ok(())
     }
 
     /// How many bytes the log has with the frames.
@@ -54,12 +74,12 @@ impl OpenLog {
 
 // How many records were numbered before the first frame of a log. If it was carried on, the spelling
 // of the state that it begins with tells it first, behind the length and the kind of its checkpoint.
-fn numbered_before(bytes: &[u8]) -> u64 {
+fn numbered_before(log: &ReadLog) -> u64 {
     let at = CARRIED_AT + 5;
-    if !is_carried(bytes) || bytes.len() < at + 8 {
+    if !log.is_carried || log.bytes.len() < at + 8 {
         return 0;
     }
-    BigEndian::read_u64(&bytes[at..])
+    BigEndian::read_u64(&log.bytes[at..])
 }
 
 // Where a log of so many bytes was opened, before whose first frame so many records were numbered.
@@ -70,81 +90,114 @@ fn open_at(alloc: Global, opened: Opened, read: usize, before: u64) -> OpenLog {
         read,
         next,
         frames: Vec::new(alloc),
+        left_out: None,
     }
 }
 
-/// Where the front of a log ends.
-pub(crate) fn front_of<R: Threads + Sync>(
+// Where the front of a log ends.
+fn front_of<R: Threads + Sync>(
     rt: &R,
     alloc: Global,
-    bytes: &[u8],
+    log: &ReadLog,
     plan: &Plan,
 ) -> Result<OpenLog, Fault> {
-    let opened = if is_carried(bytes) {
+    let bytes = &log.bytes;
+    let opened = if log.is_carried {
         open_carried(rt, alloc, bytes, plan)?
     } else {
         open(rt, alloc, bytes, plan)?
     };
-    Ok(open_at(alloc, opened, bytes.len(), numbered_before(bytes)))
+    Ok(open_at(alloc, opened, bytes.len(), numbered_before(log)))
 }
 
-// Refuses a front behind which bytes stand that are no beginning of a frame: they hide records, or
-// a fault of the writer.
-fn undamaged(found: OpenLog) -> Result<OpenLog, Refusal> {
-    match found.opened.why {
-        Why::Whole | Why::Cut => Ok(found),
-        why => Err(Refusal::Damaged(why)),
-    }
-}
-
-/// Where the front of a log ends, behind which records may follow.
+/// Where the front of a log ends, behind which records may follow, or do if what stands there is to be
+/// dropped.
 pub(crate) fn opened_front<R: Threads + Sync>(
     rt: &R,
     alloc: Global,
-    bytes: &[u8],
+    read: &ReadLog,
     plan: &Plan,
+    drops: bool,
 ) -> Result<OpenLog, Refusal> {
-    undamaged(front_of(rt, alloc, bytes, plan)?)
+    let mut log = front_of(rt, alloc, read, plan)?;
+    log.expect_end(alloc, LastBytes::all(&read.bytes), drops)?;
+    Ok(log)
 }
 
-/// Where the front of the log in an open file ends, behind which records may follow. Of a plain log no
-/// more is held than a window.
-pub(crate) fn front_in<R>(rt: &R, file: &mut File, plan: &Plan) -> Result<OpenLog, Refusal>
+// How many bytes behind a front that ends for this reason tell whether something is written there.
+fn telling(why: Why, drops: bool) -> usize {
+    if drops || matches!(why, Why::Cut) {
+        usize::MAX
+    } else {
+        TORN_LEN + 1
+    }
+}
+
+// Where the front of a plain log ends, which is read from its start. No more is held than a window.
+fn plain_front<R>(rt: &R, file: &mut File, plan: &Plan) -> Result<OpenLog, Refusal>
+where
+    R: AllocGlobal + Threads + Sync,
+{
+    let mut front = GrowingFront::new(rt.alloc());
+    let read = feed_file(rt, file, &mut front, plan)?;
+    let judged = front.judged(rt, rt.alloc(), plan)?;
+    Ok(open_at(rt.alloc(), opened_behind(judged), read, 0))
+}
+
+/// Where the front of the log in an open file ends, behind which records may follow, or do if what
+/// stands there is to be dropped. Of a plain log no more is held than a window, and what tells of its
+/// end.
+pub(crate) fn front_in<R>(
+    rt: &R,
+    file: &mut File,
+    plan: &Plan,
+    drops: bool,
+) -> Result<OpenLog, Refusal>
 where
     R: AllocGlobal + Threads + Sync,
 {
     if begins_carried(file) {
-        let bytes = rest_of_log(rt, file)?;
-        return opened_front(rt, rt.alloc(), &bytes, plan);
+        let read = rest_of_log(rt, file)?;
+        return opened_front(rt, rt.alloc(), &read, plan, drops);
     }
-    let mut front = GrowingFront::new(rt.alloc());
-    let read = feed_file(rt, file, &mut front, plan)?;
-    let judged = front.judged(rt, rt.alloc(), plan)?;
-    undamaged(open_at(rt.alloc(), opened_behind(judged), read, 0))
+    let mut log = plain_front(rt, file, plan)?;
+    if !matches!(log.opened.why, Why::Whole) {
+        let before = log.opened.used.saturating_sub(LINK_LEN);
+        let most = telling(log.opened.why, drops).saturating_add(LINK_LEN);
+        let bytes = last_of_log(rt, file, before, most)?;
+        let last = LastBytes {
+            bytes: &bytes,
+            before,
+            total: log.read,
+        };
+        log.expect_end(rt.alloc(), last, drops)?;
+    }
+    Ok(log)
 }
 
-/// How many records stand before a log that goes on from this one.
+/// The end of a log's front from which another log goes on, and how many records stand before that.
 pub(crate) fn next_behind<R: Threads + Sync>(
     rt: &R,
     alloc: Global,
-    bytes: &[u8],
+    read: &ReadLog,
     plan: &Plan,
-) -> Result<u64, Refusal> {
-    let log = opened_front(rt, alloc, bytes, plan)?;
+    drops: bool,
+) -> Result<OpenLog, Refusal> {
+    let log = opened_front(rt, alloc, read, plan, drops)?;
     log.expect_numbers(1)?;
-    Ok(log.next)
+    Ok(log)
 }
 
 /// The state behind the front of a log. Open units stay open.
 pub(crate) fn redone_behind<R: Threads + Sync>(
     rt: &R,
     alloc: Global,
-    bytes: &[u8],
+    log: &ReadLog,
     plan: &Plan,
 ) -> Result<RedoneFront, Fault> {
-    if is_carried(bytes) {
-        redone_front_at(rt, alloc, bytes, CARRIED_AT as u64, plan)
+    if log.is_carried {
+        redone_front_at(rt, alloc, &log.bytes, CARRIED_AT as u64, plan)
     } else {
-        redone_front(rt, alloc, bytes, plan)
+        redone_front(rt, alloc, &log.bytes, plan)
     }
 }

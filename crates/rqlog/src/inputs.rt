@@ -5,19 +5,28 @@ ghost use Rattle.rq_judged.specs.GrowingFronts.{GoesAlong};
 
 use crate::refusal::{Refusal, Stream, failed};
 use rq_file::{LIMIT, read_limited};
-use rq_journal::{Fault, Plan, is_carried};
+use rq_journal::{Fault, Plan, is_carried, read_as_log};
 use rq_judged::GrowingFront;
 use std::alloc::{AllocError, Global};
 use std::fs::{self, File, Files};
-use std::io::{self, Chain, Cursor, ErrorKind, Read};
+use std::io::{self, Chain, Cursor, ErrorKind, Read, Seek, SeekFrom};
 use std::os::unix::fs::FileExt;
 use std::thread::Threads;
 
-// So many bytes tell whether a log was carried on.
-const BEGINNING: usize = 64;
+// So many bytes tell a carried file from a log: those of their headers.
+const BEGINNING: usize = 40;
 
 // So many bytes of a log are read at a time.
 const PIECE: usize = 1_048_576;
+
+/// A log that was read.
+#[derive(Drop)]
+pub(crate) struct ReadLog {
+    /// Its bytes; those of a carried file as they are read, with the header of a log.
+    pub(crate) bytes: Vec<u8>,
+    /// Whether they are those of a carried file.
+    pub(crate) is_carried: bool,
+}
 
 // The bytes that were read, if they are not too many.
 fn within(read: io::Result<Vec<u8>>, stream: Stream) -> Result<Vec<u8>, Refusal> {
@@ -28,8 +37,8 @@ fn within(read: io::Result<Vec<u8>>, stream: Stream) -> Result<Vec<u8>, Refusal>
     }
 }
 
-/// The bytes of a log that is read from here.
-pub(crate) fn log_from<A, F>(rt: &A, from: F) -> Result<Vec<u8>, Refusal>
+/// Bytes of a log, or what was cut off of one, as they stand here.
+pub(crate) fn bytes_from<A, F>(rt: &A, from: F) -> Result<Vec<u8>, Refusal>
 where
     A: AllocGlobal,
     F: Read + Drop,
@@ -37,24 +46,51 @@ where
     within(read_limited(rt, from), Stream::Log)
 }
 
-/// The bytes of a log from its open file, read from where that stands.
-pub(crate) fn rest_of_log<A: AllocGlobal>(rt: &A, file: &mut File) -> Result<Vec<u8>, Refusal> {
+/// The log that is read from here.
+pub(crate) fn log_from<A, F>(rt: &A, from: F) -> Result<ReadLog, Refusal>
+where
+    A: AllocGlobal,
+    F: Read + Drop,
+{
+    let mut bytes = bytes_from(rt, from)?;
+    let is_carried = read_as_log(&mut bytes).is_some();
+    Ok(ReadLog { bytes, is_carried })
+}
+
+/// The log of an open file, read from where that stands.
+pub(crate) fn rest_of_log<A: AllocGlobal>(rt: &A, file: &mut File) -> Result<ReadLog, Refusal> {
     log_from(rt, &*file)
 }
 
-/// Whether the log of an open file or pipe was carried on, and all its bytes, to be read.
+/// The bytes of a log from an offset of its open file on, at most so many.
+pub(crate) fn last_of_log<A: AllocGlobal>(
+    rt: &A,
+    file: &mut File,
+    offset: usize,
+    most: usize,
+) -> Result<Vec<u8>, Refusal> {
+    if let Err(error) = file.seek(SeekFrom::Start(offset as u64)) {
+        return Err(failed(Stream::Log, error));
+    }
+    bytes_from(rt, (&*file).take(most as u64))
+}
+
+/// Whether an open file or pipe is a carried file, and all its bytes as they are read, to be read.
 pub(crate) fn begun_log<A: AllocGlobal>(
     rt: &A,
     file: File,
 ) -> Result<(bool, Chain<Cursor<Vec<u8>>, File>), Refusal> {
     let mut beginning = Vec::new(rt.alloc());
     match (&file).take(BEGINNING as u64).read_to_end(&mut beginning) {
-        Ok(_) => Ok((is_carried(&beginning), Cursor::new(beginning).chain(file))),
+        Ok(_) => {
+            let is_carried = read_as_log(&mut beginning).is_some();
+            Ok((is_carried, Cursor::new(beginning).chain(file)))
+        }
         Err(error) => Err(failed(Stream::Log, error)),
     }
 }
 
-/// Whether the log of an open file was carried on.
+/// Whether an open file is a carried file.
 pub(crate) fn begins_carried(file: &File) -> bool {
     let mut beginning = [0; BEGINNING];
     match file.read_at(&mut beginning, 0) {

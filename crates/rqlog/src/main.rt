@@ -1,9 +1,10 @@
-//! The program `rqlog`: appends to logs, marks them with checkpoints, and carries them on into new
-//! files.
+//! The program `rqlog`: begins logs, appends to them, makes them whole after a crash, marks them with
+//! checkpoints, and carries them on into new files.
 #![tactic(auto)]
 
 mod checkpoints;
 mod commands;
+mod damage;
 mod expected;
 mod files;
 mod fronts;
@@ -11,6 +12,7 @@ mod inputs;
 mod lines;
 mod messages;
 mod new_log;
+mod recovery;
 mod refusal;
 mod words;
 

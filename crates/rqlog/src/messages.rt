@@ -1,6 +1,7 @@
 //! What was done, as it is told.
 
-use rq_journal::Truth;
+use crate::damage::LeftOut;
+use rq_journal::{CARRIED_AT, MadeWhole, Truth};
 use std::alloc::{AllocError, Global};
 use std::fmt::Write;
 use std::io;
@@ -38,10 +39,46 @@ pub(crate) fn tell_marked<R: Print>(rt: &R, json: bool, offset: u64, bytes: u64)
 /// Says how many records stand before the new log, and how long that is.
 pub(crate) fn tell_carried<R: Print>(rt: &R, json: bool, next: u64, bytes: u64) -> io::Result<()> {
     if json {
-        println!(rt; "{{\"next\":{next},\"offset\":96,\"bytes\":{bytes}}}")
+        let offset = CARRIED_AT;
+        println!(rt; "{{\"next\":{next},\"offset\":{offset},\"bytes\":{bytes}}}")
     } else {
         println!(rt; "carried on behind {next} records, {bytes} bytes")
     }
+}
+
+/// Says what of the log was left out behind its front, if that is to be told.
+pub(crate) fn tell_left_out<R: Eprint>(rt: &R, left: Option<LeftOut>) {
+    if let Some(LeftOut { bytes, frames }) = left {
+        let _ = eprintln!(rt;
+            "rqlog: left out {bytes} bytes behind the front, with {frames} right frames"
+        );
+    }
+}
+
+/// Says what was cut off where, how many units were aborted, and how long the log is then.
+pub(crate) fn tell_recovered<R: Print>(
+    rt: &R,
+    json: bool,
+    kept: &Option<String>,
+    made: &MadeWhole,
+) -> io::Result<()> {
+    let (offset, cut) = (made.ending.used, made.cut.len());
+    let (units, bytes) = (
+        made.ending.units,
+        offset.saturating_add(made.ending.tail.len()),
+    );
+    if json {
+        return println!(rt;
+            "{{\"offset\":{offset},\"cut\":{cut},\"aborted\":{units},\"bytes\":{bytes}}}"
+        );
+    }
+    if let Some(name) = kept {
+        println!(rt; "cut {cut} bytes at {offset}, kept in {name}")?;
+    }
+    if units > 0 {
+        println!(rt; "aborted {units} units")?;
+    }
+    println!(rt; "whole, {bytes} bytes")
 }
 
 /// A line for each checkpoint that an audit found.

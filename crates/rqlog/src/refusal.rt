@@ -1,12 +1,11 @@
 //! Why the program ends before it is done.
 
+use crate::damage::BadEnd;
 use crate::lines::{LineRefused, Reason};
 use clap::ArgMatches;
 use clap::error::ErrorKind;
 use rq_found::Seen;
 use rq_journal::Fault;
-use rq_report::why_word;
-use rq_restart::Why;
 use std::alloc::AllocError;
 use std::io;
 
@@ -33,6 +32,10 @@ pub(crate) enum Stream {
     LogAsItWas,
     /// The log, where some of what was to be appended may stand.
     LogUnknown,
+    /// The log, which may be cut to its front already.
+    LogToRecover,
+    /// The file that keeps what is cut off at an offset.
+    Kept(usize),
     Output,
     /// The output that was to tell what is done all the same.
     Telling,
@@ -55,8 +58,10 @@ pub(crate) enum Refusal {
     There,
     /// Another file came into the log's place, or its bytes changed meanwhile.
     Changed,
-    /// The front of the log ends for a reason that hides records or a fault of its writer.
-    Damaged(Why),
+    /// The front of the log ends where nothing is written behind it.
+    Damaged(BadEnd),
+    /// What is to be kept of the log from an offset on has a name under which other bytes stand.
+    KeptOther(usize),
     /// A line is not appended.
     Line(LineRefused),
     /// There is no room behind the log.
@@ -112,7 +117,11 @@ impl Stream {
     // The word of the command that names it, if one does.
     fn word(self) -> Option<&'static str> {
         match self {
-            Stream::Log | Stream::LogAsItWas | Stream::LogUnknown => Some("LOG"),
+            Stream::Log
+            | Stream::LogAsItWas
+            | Stream::LogUnknown
+            | Stream::LogToRecover
+            | Stream::Kept(_) => Some("LOG"),
             Stream::Script => Some("SCRIPT"),
             Stream::New => Some("NEW"),
             Stream::Out => Some("OUT"),
@@ -137,6 +146,7 @@ impl Stream {
         match self {
             Stream::LogAsItWas => ": nothing was appended",
             Stream::LogUnknown => ": some records may stand there: rqlook check tells",
+            Stream::LogToRecover => ": use rqlog recover again",
             Stream::Telling => ": it is done all the same",
             _ => "",
         }
@@ -172,6 +182,7 @@ impl Refusal {
             Refusal::Held => "another program writes it: try again",
             Refusal::There => "it is there already: name a file that is not",
             Refusal::Changed => "it changed meanwhile: try again",
+            Refusal::KeptOther(_) => "other bytes stand there: move it away",
             Refusal::Full => "log is full: carry it on",
             Refusal::Ended => "numbers end at 4294967295: begin a new log",
             _ => "resources",
@@ -181,7 +192,11 @@ impl Refusal {
     fn exit(&self) -> u8 {
         match self {
             Refusal::Words(_) | Refusal::NoText | Refusal::Plan => USAGE,
-            Refusal::Failed(..) | Refusal::Held | Refusal::There | Refusal::Changed => STREAM,
+            Refusal::Failed(..)
+            | Refusal::Held
+            | Refusal::There
+            | Refusal::KeptOther(_)
+            | Refusal::Changed => STREAM,
             Refusal::Damaged(_) | Refusal::Full | Refusal::Ended => REFUSED,
             Refusal::Line(refused) if matches!(refused.reason, Reason::Memory) => MEMORY,
             Refusal::Line(_) => REFUSED,
@@ -195,6 +210,7 @@ impl Refusal {
         match self {
             Refusal::Failed(stream, _) | Refusal::Refused(stream, _) => Some(*stream),
             Refusal::There => Some(Stream::New),
+            Refusal::KeptOther(offset) => Some(Stream::Kept(*offset)),
             Refusal::Held | Refusal::Changed | Refusal::Damaged(_) => Some(Stream::Log),
             _ => None,
         }
@@ -208,10 +224,7 @@ impl Refusal {
                 let left = stream.left();
                 eprintln!(rt; "{error}{left}")
             }
-            Refusal::Damaged(why) => {
-                let why = why_word(*why);
-                eprintln!(rt; "its front ends by {why}: rqlook check tells where")
-            }
+            Refusal::Damaged(bad) => eprintln!(rt; "{bad}"),
             Refusal::Line(refused) => eprintln!(rt; "{refused}"),
             Refusal::Refused(_, fault) => {
                 let advice = advice(*fault);
@@ -231,7 +244,10 @@ impl Refusal {
             None => eprint!(rt; "rqlog: "),
             Some(stream) => {
                 let name = stream.name(words);
-                eprint!(rt; "rqlog: {name}: ")
+                match stream {
+                    Stream::Kept(offset) => eprint!(rt; "rqlog: {name}.cut-{offset}: "),
+                    _ => eprint!(rt; "rqlog: {name}: "),
+                }
             }
         }
     }

@@ -12,7 +12,19 @@ const LOG: Word = Word(
     "The file of the log, plain or carried on",
 );
 
+const NEW: Word = Word(
+    "NEW",
+    Value(TEXT),
+    "The file of the new log, which is not there yet",
+);
+
 const JSON: Word = Word("json", Flag, "Says what was done as an object of JSON");
+
+const DROP: Word = Word(
+    "drop",
+    Flag,
+    "Leaves out what stands behind the front, whatever it is, and says how much",
+);
 
 const COUNT: Word = Word(
     "WORKERS",
@@ -20,7 +32,12 @@ const COUNT: Word = Word(
     "How many threads work, 1 to 64",
 );
 
-static COMMANDS: [Subcommand; 6] = [
+static COMMANDS: [Subcommand; 8] = [
+    Subcommand {
+        name: "new",
+        about: "Makes a log that has no record yet, in version 2",
+        words: &[NEW],
+    },
     Subcommand {
         name: "append",
         about: "Appends the records of a script to a log, all of them or none",
@@ -36,9 +53,15 @@ static COMMANDS: [Subcommand; 6] = [
                 Flag,
                 "Appends the records before the first that is not lawful, in place of none",
             ),
+            DROP,
             JSON,
             WORKERS,
         ],
+    },
+    Subcommand {
+        name: "recover",
+        about: "Makes a log whole that a crash left: keeps what it cuts off, and aborts open units",
+        words: &[LOG, DROP, JSON, WORKERS],
     },
     Subcommand {
         name: "checkpoint",
@@ -46,6 +69,7 @@ static COMMANDS: [Subcommand; 6] = [
         words: &[
             LOG,
             Word("close", Flag, "Ends each open unit before, by an ABORT"),
+            DROP,
             JSON,
             WORKERS,
         ],
@@ -53,16 +77,7 @@ static COMMANDS: [Subcommand; 6] = [
     Subcommand {
         name: "carry",
         about: "Makes a new log that goes on where a log ends, with its state alone",
-        words: &[
-            LOG,
-            Word(
-                "NEW",
-                Value(TEXT),
-                "The file of the new log, which is not there yet",
-            ),
-            JSON,
-            WORKERS,
-        ],
+        words: &[LOG, NEW, DROP, JSON, WORKERS],
     },
     Subcommand {
         name: "restart",
@@ -88,6 +103,7 @@ static COMMANDS: [Subcommand; 6] = [
                 "The file of the closed log, which may be LOG",
             ),
             Word("force", Flag, "Replaces OUT if it is there"),
+            DROP,
             COUNT,
         ],
     },

@@ -3,11 +3,13 @@
 use crate::failures::{Failure, FileTrouble, of_file};
 use crate::log_files::{read_log_file, typed_name};
 use crate::made_files::make_file;
+use crate::mended_files::mend_file;
 use crate::narrow_lines::Narrow;
 use crate::progress::{Watch, Watched};
 use crate::words::{columns_asked, records_asked, subject_asked};
 use clap::ArgMatches;
-use rq_found::{Diagnosis, Plan, Seen, ShownLog, Trouble, begins_at, put_diagnosis};
+use rq_found::{Diagnosis, Fault, Plan, Seen, ShownLog, Trouble, begins_at, put_diagnosis};
+use rq_look::Findings;
 use std::alloc::{AllocError, Global};
 use std::io::{self, ErrorKind, Write};
 use std::os::fd::AsFd;
@@ -52,13 +54,49 @@ fn verdict_line(alloc: Global, file: &str, diagnosis: Diagnosis) -> Result<Strin
     Ok(line)
 }
 
+/// Whether a log is refused that was carried on, since no checkpoint with which it begins is right.
+pub(crate) fn is_frontless(log: &ShownLog<'_>, trouble: &Trouble) -> bool {
+    let is_refused = matches!(
+        trouble,
+        Trouble::Log(Fault::NoCheckpoint) | Trouble::Log(Fault::BadCheckpoint)
+    );
+    log.at.is_some() && is_refused
+}
+
+// Prints a line for each record that is wanted; of a carried log without a front, for each right frame,
+// if what stands behind a front is wanted.
+fn dump<R: AllocGlobal + Threads + Sync, W: Write>(
+    rt: &R,
+    asked: &Request<'_, '_>,
+    output: &mut W,
+) -> Result<(), Trouble> {
+    let wanted = records_asked(asked.words);
+    match rq_look::dump(rt, rt.alloc(), &asked.log, &wanted, output) {
+        Err(trouble) if wanted.behind && is_frontless(&asked.log, &trouble) => {
+            rq_look::dump_frontless(rt.alloc(), &asked.log, &wanted, output)
+        }
+        done => done,
+    }
+}
+
+/// What a check finds of a log, also of a carried one without a front.
+pub(crate) fn found_of<R: AllocGlobal + Threads + Sync>(
+    rt: &R,
+    log: &ShownLog<'_>,
+) -> Result<Findings, Trouble> {
+    match rq_look::check(rt, rt.alloc(), log) {
+        Err(trouble) if is_frontless(log, &trouble) => { rq_look::check_frontless(rt.alloc(), log) }
+        found => found,
+    }
+}
+
 // Prints what a check finds, unless it is to say nothing. Answers whether it finds nothing.
 fn check<R: AllocGlobal + Threads + Sync, W: Write>(
     rt: &R,
     asked: &Request<'_, '_>,
     output: &mut W,
 ) -> Result<bool, Trouble> {
-    let found = rq_look::check(rt, rt.alloc(), &asked.log)?;
+    let found = found_of(rt, &asked.log)?;
     if !asked.words.get_flag("quiet") {
         let verdict = verdict_line(rt.alloc(), asked.file, found.diagnosis)?;
         print_found(found.text.as_str(), output)?;
@@ -101,8 +139,8 @@ fn perform<R: Eprint + Clock + AllocGlobal + Threads + Sync, W: Write>(
     let (alloc, log, words) = (rt.alloc(), &asked.log, asked.words);
     match asked.name {
         "check" => return check(rt, asked, output),
-        "script" => return rq_look::script(rt, alloc, log.bytes, log.plan, output),
-        "dump" => rq_look::dump(rt, alloc, log, &records_asked(words), output)?,
+        "script" => return rq_look::script(rt, alloc, log, output),
+        "dump" => dump(rt, asked, output)?,
         "report" => {
             let (queue, json) = (words.get_one::<u32>("queue"), words.get_flag("json"));
             rq_look::report(rt, alloc, log, queue, json, output)?
@@ -151,10 +189,6 @@ where
         file,
         log,
     };
-    // These begin with the first record, and so show no log that was carried on.
-    if asked.log.at.is_some() && matches!(name, "script" | "salvage") {
-        return Err(of_file(rt, file, FileTrouble::Carried));
-    }
     if let Some(to) = words.get_str("OUT") {
         return make_file(rt, &asked, to);
     }
@@ -184,11 +218,16 @@ where
     let Some(plan) = plan_of(words) else {
         return Err(Failure::Workers);
     };
-    let bytes = read_log_file(rt, file_of(words), watch)?;
+    if name == "mend" {
+        let to = words.get_str("OUT").unwrap_or("-");
+        return mend_file(rt, file_of(words), to, &plan, watch);
+    }
+    let mut bytes = read_log_file(rt, file_of(words), watch)?;
     watch.begins(rt, &bytes);
+    let at = begins_at(&mut bytes);
     let log = ShownLog {
         bytes: &bytes,
-        at: begins_at(&bytes),
+        at,
         plan: &plan,
     };
     act_on(rt, name, words, log, watch)

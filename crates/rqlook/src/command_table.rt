@@ -48,7 +48,7 @@ pub(crate) fn subcommands() -> &'static [Subcommand] {
     COMMANDS.as_slice()
 }
 
-static COMMANDS: [Subcommand; 9] = [
+static COMMANDS: [Subcommand; 10] = [
     Subcommand {
         name: "dump",
         about: "Shows a line for each record, and where the front ends and why",
@@ -123,6 +123,19 @@ static COMMANDS: [Subcommand; 9] = [
                 "The file of the script, or - for standard output",
             ),
             FORCE,
+            WORKERS,
+        ],
+    },
+    Subcommand {
+        name: "mend",
+        about: "Makes a log of a damaged one, with the bytes put back that a digest proves",
+        words: &[
+            LOG,
+            Word(
+                "OUT",
+                Value(TEXT),
+                "The file of the mended log, where none may be yet, or - for standard output",
+            ),
             WORKERS,
         ],
     },

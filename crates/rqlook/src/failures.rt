@@ -6,8 +6,7 @@ use rq_found::{Seen, Trouble};
 use std::alloc::AllocError;
 use std::io;
 
-// The exit status if there is no such thing in the log, a record that no script tells, or a log
-// that was carried on.
+// The exit status if there is no such thing in the log, or a record that no script tells.
 const REFUSED: u8 = 1;
 
 // The exit status of words that are no command.
@@ -29,8 +28,6 @@ pub(crate) enum FileTrouble {
     Stream(io::Error),
     /// It was read and is refused.
     Refused(Trouble),
-    /// The log was carried on: what is asked for begins with the first record.
-    Carried,
 }
 
 /// Why the program ends before it is done.
@@ -126,10 +123,6 @@ fn tell_file(rt: &HostRuntime, file: &str, trouble: &FileTrouble) -> u8 {
                 Trouble::Log(fault) => fault.exit(),
                 _ => REFUSED,
             }
-        }
-        FileTrouble::Carried => {
-            let _ = eprintln!(rt; "rqlook: {name}: carried: use rqlog restart");
-            REFUSED
         }
     }
 }

@@ -1,6 +1,6 @@
 //! The files that the program makes of a log.
 
-use crate::acts::Request;
+use crate::acts::{Request, is_frontless};
 use crate::failures::{Failure, FileTrouble, of_file};
 use crate::log_files::{is_over_log, shown_name, typed_name};
 use crate::words::{numbers_asked, order_asked};
@@ -32,6 +32,21 @@ fn put_page<R: AllocGlobal + Threads + Sync>(
     rq_page::page(rt, rt.alloc(), &page, &asked.log, made)
 }
 
+// Puts the script of a log into memory, with what stands behind its front; of a carried log without a
+// front, with what is right in it.
+fn salvage<R: AllocGlobal + Threads + Sync>(
+    rt: &R,
+    asked: &Request<'_, '_>,
+    made: &mut Vec<u8>,
+) -> Result<(), Trouble> {
+    match rq_look::salvage(rt, rt.alloc(), &asked.log, made) {
+        Err(trouble) if is_frontless(&asked.log, &trouble) => {
+            rq_look::salvage_frontless(rt.alloc(), &asked.log, made)
+        }
+        done => done,
+    }
+}
+
 // Puts the page of a log, or its script with what stands behind its front, into memory.
 fn put_made<R: AllocGlobal + Threads + Sync>(
     rt: &R,
@@ -40,7 +55,7 @@ fn put_made<R: AllocGlobal + Threads + Sync>(
 ) -> Result<(), Trouble> {
     let done = match asked.name {
         "page" => put_page(rt, asked, made),
-        _ => rq_look::salvage(rt, rt.alloc(), asked.log.bytes, asked.log.plan, made),
+        _ => salvage(rt, asked, made),
     };
     match done {
         // A write into memory fails for want of it alone.
@@ -68,8 +83,8 @@ fn not_made<R: AllocGlobal>(rt: &R, to: &str, error: io::Error) -> Failure {
     of_file(rt, to, FileTrouble::Stream(error))
 }
 
-// Refuses what stands where the file is to be made, unless that gives way.
-fn expect_free<R>(rt: &R, to: &str, rule: &Replaces<'_>) -> Result<(), Failure>
+/// Refuses what stands where the file is to be made, unless that gives way.
+pub(crate) fn expect_place<R>(rt: &R, to: &str, rule: &Replaces<'_>) -> Result<(), Failure>
 where
     R: Files + AllocGlobal,
 {
@@ -79,8 +94,13 @@ where
     expect_replaceable(rt, to, rule).map_err(|error| not_made(rt, to, error))
 }
 
-// Writes what was made to the file of this name, or to standard output for `-`.
-fn write_made<R>(rt: &R, to: &str, made: &[u8], rule: &Replaces<'_>) -> Result<bool, Failure>
+/// Writes what was made to the file of this name, or to standard output for `-`.
+pub(crate) fn write_made<R>(
+    rt: &R,
+    to: &str,
+    made: &[u8],
+    rule: &Replaces<'_>,
+) -> Result<bool, Failure>
 where
     R: Files + Print + AllocGlobal,
     R::File: AsFd,
@@ -106,7 +126,7 @@ where
         return Err(Failure::Same);
     }
     let rule = replaced_by(asked);
-    expect_free(rt, to, &rule)?;
+    expect_place(rt, to, &rule)?;
     let mut made = Vec::new(rt.alloc());
     match put_made(rt, asked, &mut made) {
         Ok(()) => write_made(rt, to, &made, &rule),

@@ -6,6 +6,7 @@ mod command_table;
 mod failures;
 mod log_files;
 mod made_files;
+mod mended_files;
 mod narrow_lines;
 mod progress;
 mod words;

@@ -1,5 +1,5 @@
-use Rattle.rq_model.proofs.Carried.{starts_anew, front_goes_on, is_carried_gap, anew_joins}
+use Rattle.rq_model.proofs.Carried.{starts_anew, front_goes_on, anew_joins}
 use Rattle.rq_model.proofs.logs_begun_anew.Goals as goal
 
 pub returns : goal.returns
-returns c = record { starts = starts_anew; front = front_goes_on; join = anew_joins; gap = is_carried_gap }
+returns c = record { starts = starts_anew; front = front_goes_on; join = anew_joins }

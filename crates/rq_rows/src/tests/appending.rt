@@ -1,7 +1,9 @@
 //! What is written behind the front of a log: records, a checkpoint, and a log that goes on from it.
 
 use super::{ONE_ELEMENT, log_of, records_of};
-use rq_journal::{Appender, NotTaken, Opened, carried, frames_behind, is_carried, marked, open};
+use rq_journal::{
+    Appender, NotTaken, Opened, carried, frames_behind, is_carried, marked, open, read_as_log,
+};
 use rq_record::{KeptRecord, QueueNo, Record, UnitNo, Version};
 use rq_restart::{Fault, Open, Plan, Restarted, Why, audit, restart, restart_at};
 use sha2::{Digest, Sha256};
@@ -91,6 +93,14 @@ fn has_five(restarted: Result<Restarted, Fault>) -> bool {
     }
 }
 
+// Whether a restart finds no log.
+fn is_no_log(restarted: Result<Restarted, Fault>) -> bool {
+    match restarted {
+        Ok(_) => false,
+        Err(fault) => fault == Fault::NotALog,
+    }
+}
+
 // Whether the log has a true checkpoint there and no other one, and a restart from it finds what one
 // from the beginning finds.
 fn goes_on_from<R: Threads + Sync + AllocGlobal>(rt: &R, log: &[u8], at: u64, plan: &Plan) -> bool {
@@ -102,15 +112,17 @@ fn goes_on_from<R: Threads + Sync + AllocGlobal>(rt: &R, log: &[u8], at: u64, pl
         && has_five(restart_at(rt, rt.alloc(), log, at, plan, &Open))
 }
 
-// The log is carried on by a new one, which is restarted from its checkpoint; and it is marked where
-// its front ends.
+// The log is carried on by a file that is none, and is read as one that is restarted from its
+// checkpoint; and it is marked where its front ends.
 #[test]
 fn a_log_is_marked_and_carried_on(rt: HostRuntime) -> Result<(), Fail> {
     let plan = Plan::new(1, 1).ok_or("plan")?;
     let log = log_of(&rt, ONE_ELEMENT)?;
-    let new = carried(&rt, rt.alloc(), &log, &plan)?;
+    let mut new = carried(&rt, rt.alloc(), &log, &plan)?;
     assert!(rt; is_carried(&new) && !is_carried(&log));
-    assert!(rt; has_five(restart_at(&rt, rt.alloc(), &new, 96, &plan, &Open)));
+    assert!(rt; is_no_log(restart(&rt, rt.alloc(), &new, &plan, &Open)));
+    assert!(rt; read_as_log(&mut new).is_some());
+    assert!(rt; has_five(restart_at(&rt, rt.alloc(), &new, 72, &plan, &Open)));
     let at = log.len() as u64;
     let marked = marked(&rt, rt.alloc(), log, &plan)?;
     assert!(rt; goes_on_from(&rt, &marked, at, &plan));

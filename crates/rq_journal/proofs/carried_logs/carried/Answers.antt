@@ -24,5 +24,5 @@ returns g c =
     c.begun.ensures in
     record {
       carries = carries c.args.bytes.now f c.in_ok-body.body.items c.in_ok-front.ensures c.in_ok-body.ensures.1 c.begun.result
-          c.fronts_are_spelt.ensures c.logs_begun_anew.ensures.starts c.continued_logs.ensures.loud c.logs_begun_anew.ensures.gap c.logs_begun_anew.ensures.join begun;
+          c.fronts_are_spelt.ensures c.logs_begun_anew.ensures.starts c.carried_headers.ensures.apart c.carried_headers.ensures.read c.logs_begun_anew.ensures.join begun;
     }

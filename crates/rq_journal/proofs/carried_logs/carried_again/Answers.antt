@@ -32,6 +32,6 @@ returns g c =
     c.begun.ensures in
     record {
       carries = carries_again c.args.bytes.now f c.in_ok-front.ensures body c.in_ok-checkpoint.ensures.0 c.in_ok-checkpoint.ensures.1
-          c.begun.result c.one_spelling.ensures.state c.logs_begun_anew.ensures.starts c.continued_logs.ensures.loud
-          c.logs_begun_anew.ensures.gap c.continued_logs.ensures.join begun;
+          c.begun.result c.one_spelling.ensures.state c.logs_begun_anew.ensures.starts
+          c.carried_headers.ensures.apart c.carried_headers.ensures.read c.continued_logs.ensures.join begun;
     }

@@ -29,6 +29,6 @@ returns g c =
     c.framed.ensures in
     record {
       marks = marks b f c.in_ok-body.body.items redone c.in_ok-body.ensures.1 c.framed.result
-          (subst AreBytes c.deref.ensures.value c.are_bytes.ensures) c.appended_checkpoints.ensures.truth
+          (subst AreBytes c.deref.ensures.value c.are_octets.ensures) c.appended_checkpoints.ensures.truth
           c.appended_checkpoints.ensures.queues c.true_checkpoints_report_the_same.ensures framed;
     }

@@ -1,11 +1,12 @@
 use Rattle.std.proofs.Common.{◌++◌, string_bytes}
 use Rattle.rq_look.proofs.Puts.{both_put, put_last}
+use Rattle.rq_look.proofs.FrontEnds.{ends_within}
 use Rattle.rq_look.proofs.dumps.put_lines.Goals as goal
 
 pub returns-clause-last : goal.returns-clause-last
 returns-clause-last g c =
     let held = g.W.Write.contents in
-    let end = c.requires.end in
+    let end = c.requires in
     let front = c.in_ok-left.ensures.only in
     let behind = c.in_ok-put_wanted_behind.ensures.only in
     let records = both_put (held c.args.output.now) (held c.put_records.new.output)
@@ -19,6 +20,7 @@ returns-clause-last g c =
           (held c.write_out.new.output) records.0 text closing.0 _ records.1 c.in_ok-write_out.ensures.0 closing.2,
     )
 
-pub put_wanted_behind-requires-clause-end : goal.put_wanted_behind-requires-clause-end
-put_wanted_behind-requires-clause-end g c =
-    let end = c.requires.end in (c.args.log.now.at, end.0, end.1, end.2)
+pub put_wanted_behind-requires : goal.put_wanted_behind-requires
+put_wanted_behind-requires g c =
+    let end = c.requires in
+    ends_within c.args.log.now.at c.args.log.now.bytes.now end.0 c.args.end.now end.1 end.2

@@ -1,18 +1,26 @@
 use Rattle.std.proofs.Common.{ℕ, ◌∙◌, string_bytes, drop, take, ap, arith, ◌≡◌}
 use Rattle.std.proofs.lemmas.Result.{err_from_is_err_and}
+use Rattle.rq_found.specs.Records.{front_at}
 use Rattle.rq_found.specs.declared.frames.PlacedFrames.{PlacedFrames}
-use Rattle.rq_look.proofs.Scripts.{used_fits, begun, goes_on, ended, left_out}
+use Rattle.rq_look.proofs.FrontEnds.{used_within}
+use Rattle.rq_look.proofs.Scripts.{first_is, begun, goes_on, ended, left_out}
 use Rattle.rq_look.proofs.log_script.put_records.Goals as goal
 
 pub loop-placed-init : goal.loop-placed-init
 loop-placed-init g c =
     let held = g.W.Write.contents in
-    let used = c.requires.2 in
-    let fits = used_fits c.args.bytes.now c.requires.0 c.requires.1 in
-    let walk = c.of-placed-items.ensures in
+    let at = c.args.log.now.at in
+    let b = c.args.log.now.bytes.now in
+    let s = c.args.first.now in
+    let restart = c.requires.restart in
+    let used = restart.2 in
+    let fits = used_within at b restart.0 restart.1 in
+    let walk = c.front_frames-placed-items.ensures in
     let same = c.into_iter-placed-iterator.ensures.into_iter_gives in
-    begun c.args.bytes.now _ _ _ (held c.args.output.now) c.requires.0 c.requires.1
-    (ap (λ (w : PlacedFrames). w.rest.now) same ∙ walk.0 (omega (arith, fits.1, used)) ∙ ap (λ (n : ℕ). drop 40 (take n c.args.bytes.now)) used)
+    begun at b _ _ _ (held c.args.output.now) restart.0 s restart.1
+    (first_is at b s c.requires.start c.requires.there)
+    (ap (λ (w : PlacedFrames). w.rest.now) same ∙ walk.0 (omega (arith, fits.1, used))
+    ∙ ap (λ (n : ℕ). drop (front_at at) (take n b)) used)
     (ap (λ (w : PlacedFrames). w.number) same ∙ walk.1) c.new-text.ensures.bytes
 
 pub loop-placed-preserved : goal.loop-placed-preserved
@@ -21,18 +29,18 @@ loop-placed-preserved g c =
     let it = c.loop-placed.placed-iterator in
     let step = c.in-Some.ensures.steps in
     let line = c.in_ok-put_placed.ensures.line in
-    goes_on c.args.bytes.now it.rest.now it.number (string_bytes c.loop-placed.text) (held c.args.output.now)
-    (held c.loop-placed.output) c.next.new.self.rest.now c.next.new.self.number (string_bytes c.put_placed.new.text)
-    (held c.put_placed.new.output) c.in-Some.placed.body.now line.1 line.0 c.loop-placed.invariant step.0 step.1 step.2
-    step.4 line.2 line.3 line.4 line.5
+    goes_on c.args.log.now.at c.args.log.now.bytes.now it.rest.now it.number (string_bytes c.loop-placed.text)
+    (held c.args.output.now) (held c.loop-placed.output) c.next.new.self.rest.now c.next.new.self.number
+    (string_bytes c.put_placed.new.text) (held c.put_placed.new.output) c.in-Some.placed.body.now line.1 line.0
+    c.loop-placed.invariant step.0 step.1 step.2 step.4 line.2 line.3 line.4 line.5
 
 pub returns-clause-script : goal.returns-clause-script
 returns-clause-script g c =
     let held = g.W.Write.contents in
     let it = c.loop-placed.placed-iterator in
-    ended c.args.bytes.now it.rest.now it.number (string_bytes c.loop-placed.text) (held c.args.output.now)
-    (held c.loop-placed.output) (held c.write_out.new.output) c.loop-placed.invariant c.in-None.ensures.steps
-    c.in_ok-write_out.ensures.0
+    ended c.args.log.now.at c.args.log.now.bytes.now it.rest.now it.number (string_bytes c.loop-placed.text)
+    (held c.args.output.now) (held c.loop-placed.output) (held c.write_out.new.output) c.loop-placed.invariant
+    c.in-None.ensures.steps c.in_ok-write_out.ensures.0
 
 pub returns-in_err-put_placed-clause-untold : goal.returns-in_err-put_placed-clause-untold
 returns-in_err-put_placed-clause-untold g c =
@@ -43,7 +51,7 @@ returns-in_err-put_placed-clause-untold g c =
     let told = c.in_err-put_placed in
     let p = err_from_is_err_and c.from_residual.result c.from_residual.ensures.1 in
     let e : p.0 ≡ told.field-0.0 = p.2 in
-    rw (p.1, e) (left_out c.args.bytes.now it.rest.now it.number (string_bytes c.loop-placed.text)
-    (held c.args.output.now) (held c.loop-placed.output) (held c.put_placed.new.output) placed.number
-    placed.body.now told.field-0.0
+    rw (p.1, e) (left_out c.args.log.now.at c.args.log.now.bytes.now it.rest.now it.number
+    (string_bytes c.loop-placed.text) (held c.args.output.now) (held c.loop-placed.output)
+    (held c.put_placed.new.output) placed.number placed.body.now told.field-0.0
     c.loop-placed.invariant step.0 step.1 step.3 told.ensures.untold)

@@ -4,5 +4,5 @@ use Rattle.rq_look.proofs.log_script.put_records.Given as goal
 
 abbrev pub invariant-loop-placed : goal.invariant-loop-placed
 invariant-loop-placed g l =
-    IsUnderWay l.bytes l.placed-iterator.rest.now l.placed-iterator.number (string_bytes l.text)
+    IsUnderWay l.log.at l.log.bytes.now l.placed-iterator.rest.now l.placed-iterator.number (string_bytes l.text)
     (g.W.Write.contents l.fn.output) (g.W.Write.contents l.output)

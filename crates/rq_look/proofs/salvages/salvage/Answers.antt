@@ -1,12 +1,15 @@
-use Rattle.std.proofs.Common.{None, subst}
+use Rattle.std.proofs.Common.{subst}
 use Rattle.std.proofs.KnownBytes.{Appends-trans}
 use Rattle.rq_model.specs.Fronts.{Why}
 use Rattle.rq_found.specs.Ends.{is_whole}
 use Rattle.rq_look.specs.Scripts.{IsChoice}
+use Rattle.rq_look.proofs.FrontEnds.{ends_within}
 use Rattle.rq_look.proofs.salvages.salvage.Goals as goal
 
-pub put_rest-requires-clause-end : goal.put_rest-requires-clause-end
-put_rest-requires-clause-end g c = let end = c.in_ok-end.ensures.end in (None, end.0, end.1, end.2)
+pub put_rest-requires : goal.put_rest-requires
+put_rest-requires g c =
+    let end = c.in_ok-end.ensures.end in
+    ends_within c.args.log.now.at c.args.log.now.bytes.now end.0 c.in_ok-end.end end.1 end.2
 
 pub returns-clause-told : goal.returns-clause-told
 returns-clause-told g c =

@@ -1,12 +1,14 @@
 use Rattle.std.proofs.Common.{◌≡◌, ◌≤◌, ◌+◌, true, List, ◌++◌, ℕ, length, map, ap, refl, sym, subst, ◌∙◌, arith}
 use Rattle.std.proofs.lemmas.List.{length-map}
 use Rattle.rq_model.specs.Records as model
+use Rattle.rq_model.specs.States.{Definition, State}
 use Rattle.rq_model.specs.Machine.{run, all_lawful}
 use Rattle.rq_record.specs.Views.{record_of, version_of}
 use Rattle.rq_state.specs.Views.{unit_of}
 use Rattle.rq_catalog.specs.Analyses.{open_in}
 use Rattle.rq_catalog.proofs.Runs.{front_whole}
 use Rattle.rq_catalog.proofs.Fronts.{analysis_is_wider, lawful_in_two}
+use Rattle.rq_exchange.specs.Courses.{StartsByLast}
 use Rattle.rq_judged.specs.Views.{why_of}
 use Rattle.rq_restart.proofs.Closings.{AreClosed, closed, answered}
 use Rattle.rq_restart.proofs.restart_ends.finish.Goals as goal
@@ -113,3 +115,9 @@ returns-clause-answer g c =
     ∙ ap (λ (xs : List model.Record). (run s xs).committed) here)
     (c.aborted-aborted.ensures ∙ c.requires.front.2.analysis.aborted
     ∙ ap (λ (xs : List model.Record). (run s xs).aborted) here) (are_open g d) cut
+
+-- the course is that of the state that is answered
+pub invariant_of-result : goal.invariant_of-result
+invariant_of-result g c =
+    subst (λ (t : State). StartsByLast (map (λ (d : Definition). d.error) t.definitions) c.in_ok-state.course)
+    (sym c.in_ok-state.ensures.state) c.in_ok-state.ensures.course

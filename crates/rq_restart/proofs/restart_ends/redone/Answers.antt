@@ -1,10 +1,11 @@
 use Rattle.std.proofs.Common.{◌≡◌, true, List, length, map, sym, ap, ◌∙◌, subst, arith}
 use Rattle.std.proofs.lemmas.List.{length-map}
 use Rattle.rq_model.specs.Records as model
-use Rattle.rq_model.specs.States.{State}
+use Rattle.rq_model.specs.States.{Definition, State}
 use Rattle.rq_model.specs.Machine.{run, all_lawful}
 use Rattle.rq_record.specs.Views.{record_of}
 use Rattle.rq_exchange.specs.Agendas.{IsAgenda}
+use Rattle.rq_exchange.specs.Courses.{StartsByLast}
 use Rattle.rq_exchange.specs.Gathering.{IsRedoneTo}
 use Rattle.rq_restart.specs.Restarts.{first_cleared}
 use Rattle.rq_restart.proofs.Closings.{run_cleared, lawful_cleared, agenda_cleared, length_cleared}
@@ -45,11 +46,19 @@ pub gather-requires : goal.gather-requires
 gather-requires g c =
     record { redone = (run c.args.state (map record_of c.deref.result.now), c.in_ok-all.ensures.redone) }
 
+-- they come to the state behind the records
+comes : (g : _) (c : After-deref g)
+    → run c.args.state (map record_of c.deref.result.now) ≡ run c.args.state (map record_of c.args.records.items)
+comes g c = ap (run c.args.state) (whole g c) ∙ run_cleared c.args.state (map record_of c.args.records.items)
+
 pub returns-clause-state : goal.returns-clause-state
 returns-clause-state g c =
     let d = (goal.at.returns-clause-state g c).After-deref in
-    let s = c.args.state in
-    let rs = map record_of c.args.records.items in
-    c.gather.ensures.state (run s rs)
-    (subst (λ (t : State). IsRedoneTo t c.in_ok-all.all) (ap (run s) (whole g d) ∙ run_cleared s rs)
-    c.in_ok-all.ensures.redone)
+    c.in_ok-after.ensures.state (run c.args.state (map record_of c.args.records.items))
+    (subst (λ (t : State). IsRedoneTo t c.in_ok-all.all) (comes g d) c.in_ok-all.ensures.redone)
+
+pub returns-clause-course : goal.returns-clause-course
+returns-clause-course g c =
+    let d = (goal.at.returns-clause-course g c).After-deref in
+    subst (λ (t : State). StartsByLast (map (λ (q : Definition). q.error) t.definitions) c.in_ok-all.course) (comes g d)
+    c.in_ok-all.ensures.course

@@ -102,11 +102,12 @@ fn has_both(state: &State) -> bool {
     }
     let (e, registrant) = (state.element(0), state.registrant(0));
     let element = e.id == ElemId(3) && e.mark == Mark::Free && e.payload.bytes().len() == 41;
-    let last = match registrant.last() {
+    let last = match &registrant.last {
         Some(last) => last.kind == OpKind::Enqueue && last.tag == 70 && last.place == 3,
         None => false,
     };
-    element && last && registrant.name().bytes() == b"ann".as_slice()
+    let kept = state.kept_registrant(0).name().bytes() == registrant.name.bytes();
+    element && last && kept && registrant.name.bytes() == b"ann".as_slice()
 }
 
 #[test]

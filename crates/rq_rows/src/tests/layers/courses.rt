@@ -1,5 +1,5 @@
-//! How a replay goes: each queue is redone by one thread, and an error queue by the one whose
-//! arrival was the last.
+//! How a replay goes, and a restart: each queue is redone by one thread, and an error queue by the one
+//! whose arrival was the last.
 ghost use Rattle.std.specs.Prelude.{◌≡◌, ◌<◌, ◌≤◌, ℕ, true, length, map, IfErr, IfOk};
 ghost use Rattle.rq_model.specs.Records.{Two};
 ghost use Rattle.rq_model.specs.States.{empty};
@@ -12,11 +12,13 @@ ghost use Rattle.rq_exchange.specs.Courses.{IsAlone, all_told, redone_by, redone
 ghost use Rattle.rq_exchange.specs.Links.{naming};
 
 use super::plain::{NO_QUEUE, Plain, records_of};
+use crate::tests::log_in;
 use Plain::{Abort, Begin, Commit, Define, Dequeue, Enqueue};
 use rq_catalog::{analyse_in, analyse_kept};
 use rq_exchange::{Course, redo_analysed, replay};
 use rq_plan::{Gate, Open, Plan};
 use rq_record::{Fault, Record, Version, kept_records};
+use rq_restart::{Restarted, restart};
 use rq_state::State;
 use std::alloc::Global;
 use std::sync::atomic::{AtomicU32, Ordering};
@@ -43,6 +45,22 @@ const CHAINED: &[Plain] = &[
     Dequeue(3, 1, None),
     Abort(3),
 ];
+
+// The script of the same records.
+const CHAINED_SCRIPT: &[u8] = b"define dead 0 -\n\
+    define first 1 0\n\
+    define second 1 0\n\
+    define chained 1 1\n\
+    define alone 0 -\n\
+    begin 1\n\
+    enqueue 1 3 5 - 0 61\n\
+    commit 1\n\
+    begin 2\n\
+    dequeue 2 3 - 0\n\
+    abort 2\n\
+    begin 3\n\
+    dequeue 3 1 - 0\n\
+    abort 3\n";
 
 /// Records that are lawful from the start.
 #[derive(Drop)]
@@ -212,6 +230,26 @@ fn the_last_arrival_begins_an_error_queue(rt: HostRuntime) -> Result<(), Fail> {
     assert!(rt; lawful.records.len() == 14);
     for workers in [1, 2, 4] {
         assert!(rt; all_go_right(&rt, &lawful, workers)?, "{workers} workers");
+    }
+    Ok(())
+}
+
+// How a restart redid the queues of its state: each by one thread, once.
+fn course_of(restarted: &Restarted) -> &Course
+    ensures { (x : ℕ) → x < length restarted.now.state.definitions
+        → IsAlone x (redone_of result.now) }
+{
+    restarted.course()
+}
+
+#[test]
+fn a_restart_keeps_its_course(rt: HostRuntime) -> Result<(), Fail> {
+    let log = log_in(&rt, Version::Two, CHAINED_SCRIPT)?;
+    for workers in [1, 2, 4] {
+        let plan = Plan::new(workers, 1).ok_or("plan")?;
+        let restarted = restart(&rt, rt.alloc(), &log, &plan, &Open)?;
+        let _ = course_of(&restarted);
+        assert!(rt; is_after(restarted.state()), "{workers} workers");
     }
     Ok(())
 }

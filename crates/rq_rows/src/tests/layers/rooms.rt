@@ -3,8 +3,7 @@ ghost use Rattle.std.specs.Prelude.{◌≡◌, ◌≤◌, All, IfOk, [], ◌∷�
 ghost use Rattle.rq_pool.specs.Ledger.{size};
 ghost use Rattle.rq_pool.specs.Rooms.{IsSeatOf, seats_of};
 
-use rq_plan::{Gate, Open, Plan};
-use rq_pool::{Left, Room, Seat};
+use rq_pool::{Gate, Left, Open, Plan, Room, Seat};
 use rq_record::Fault;
 use std::alloc::{AllocError, Global};
 use std::test::Fail;

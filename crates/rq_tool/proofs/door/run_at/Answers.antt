@@ -5,6 +5,7 @@ use Rattle.rq_front.specs.Chains.{IsLog}
 use Rattle.rq_judged.specs.Refusals.{RefusedAt}
 use Rattle.rq_record.specs.declared.fault.Fault.TheVariants.{Resources}
 use Rattle.rq_tool.specs.Works.{HasNoReportAt}
+use Rattle.rq_tool.proofs.Accounted.{files_account, report_accounts}
 use Rattle.rq_tool.proofs.Made.{writes_else}
 use Rattle.rq_tool.proofs.door.run_at.Goals as goal
 
@@ -32,3 +33,15 @@ returns-clause-quiet g c =
           (g.O.Output.contents c.args.output.now) (g.O.Output.contents c.through.new.output) c.through.result
           (λ _ is. is) (λ _ why. why.0) some.1,
     )
+
+pub returns-clause-accounts : goal.returns-clause-accounts
+returns-clause-accounts g c = λ b is true_at.
+    report_accounts c.true_checkpoints_report_the_same.ensures c.reports_account.ensures.report
+    c.reports_tell_clients.ensures.report b c.args.offset true_at (g.O.Output.contents c.args.output.now)
+    (g.O.Output.contents c.through.new.output) c.through.result (c.through.ensures.writes b is)
+
+pub returns-clause-files : goal.returns-clause-files
+returns-clause-files g c = λ b is.
+    files_account c.all_files_account.ensures.report c.reports_tell_clients.ensures.files b c.args.offset
+    (g.O.Output.contents c.args.output.now) (g.O.Output.contents c.through.new.output) c.through.result
+    (c.through.ensures.writes b is)

@@ -1,0 +1,120 @@
+//! A carried log that a restart refuses for its first checkpoint: it has no front, and what is right in
+//! it is shown all the same.
+
+ghost use Rattle.std.specs.Prelude.{◌≡◌, ◌++◌, IfOk, OnOk, false, length, min, string_bytes};
+ghost use Rattle.rq_judged.specs.Views.{why_of};
+ghost use Rattle.rq_model.specs.Carrying.{carried_at};
+ghost use Rattle.rq_found.specs.Ends.{beginning_text, end_text};
+ghost use Rattle.rq_look.specs.Findings.{IsBehind, IsFrontless, behind_finding};
+ghost use Rattle.rq_look.specs.Looks.{AppendsSome};
+
+use crate::behind_fronts::{put_rest, standing_behind};
+use crate::checks::Findings;
+use crate::dumps::{put_closing, put_counted, put_frames, put_origin};
+use crate::salvages::{put_spans, words_of};
+use crate::sheet::write_out;
+use crate::wanted::Wanted;
+use rq_behind::Found;
+use rq_found::{
+    Diagnosis, End, Fault, ShownLog, Trouble, end_without_front, put_beginning, put_end,
+};
+use rq_front::HEADER_LEN;
+use std::alloc::{AllocError, Global};
+use std::io;
+
+// Where the front would begin, and the right frames from there on. A carried log has a header.
+fn standing(alloc: Global, log: &ShownLog<'_>) -> Result<(End, Found), Fault>
+    ensures end { IfOk result (λ x. (x.0.records ≡ 0)
+        × (x.0.used ≡ min carried_at (length log.now.bytes.now))
+        × (x.0.total ≡ length log.now.bytes.now)) }
+    ensures behind { IfOk result (λ x.
+        IsBehind log.now.bytes.now (min carried_at (length log.now.bytes.now)) x.1) }
+{
+    if log.bytes.len() < HEADER_LEN {
+        return Err(Fault::NotALog);
+    }
+    let end = end_without_front(alloc, log)?;
+    let found = standing_behind(alloc, log.bytes, &end)?;
+    Ok((end, found))
+}
+
+// The lines of where the log begins, where its front would begin, and of the right frames from there on.
+fn finding_text(
+    alloc: Global,
+    log: &ShownLog<'_>,
+    end: &End,
+    found: &Found,
+) -> Result<String, AllocError>
+    ensures { IfOk result (λ text. string_bytes text ≡ beginning_text log.now.at
+        ++ end_text end.now.records end.now.used end.now.total (why_of end.now.why)
+        (string_bytes end.now.reason)
+        ++ behind_finding (why_of end.now.why) found.now end.now.total) }
+{
+    let mut text = String::new(alloc);
+    put_beginning(&mut text, log.at)?;
+    put_end(&mut text, end)?;
+    put_rest(&mut text, end, found)?;
+    Ok(text)
+}
+
+/// What a check finds of a carried log, as it is read, which a restart refuses with `NoCheckpoint` or
+/// `BadCheckpoint`: that it has no front, and which frames are right behind where that would begin.
+pub fn check_frontless(alloc: Global, log: &ShownLog<'_>) -> Result<Findings, Trouble>
+    ensures fine { IfOk result (λ found. found.fine ≡ false) }
+    ensures text { IfOk result
+        (λ found. IsFrontless log.now.at log.now.bytes.now (string_bytes found.text)) }
+{
+    let (end, found) = standing(alloc, log)?;
+    let text = finding_text(alloc, log, &end, &found)?;
+    Ok(Findings {
+        fine: false,
+        text,
+        diagnosis: Diagnosis::Damaged,
+    })
+}
+
+/// Writes the right frames of such a log that are wanted, how many there are, and that it has no front,
+/// as `dump` does behind a front.
+pub fn dump_frontless<W: io::Write>(
+    alloc: Global,
+    log: &ShownLog<'_>,
+    wanted: &Wanted<'_>,
+    output: &mut W,
+) -> Result<(), Trouble>
+    ensures { OnOk result (AppendsSome (W.contents output.old) (W.contents output.new)) }
+{
+    let (end, found) = standing(alloc, log)?;
+    let most = wanted.limit;
+    let mut text = String::new(alloc);
+    put_frames(
+        alloc,
+        log.bytes,
+        &found.spans,
+        wanted,
+        most,
+        &mut text,
+        output,
+    )?;
+    put_counted(alloc, &mut text, &found, end.total, wanted)?;
+    put_origin(&mut text, &end, wanted)?;
+    put_closing(alloc, &mut text, &end, wanted)?;
+    write_out(&mut text, output)?;
+    Ok(())
+}
+
+/// Writes the records of the right frames of such a log, each in a line to choose it or not, as
+/// `salvage` does behind a front.
+pub fn salvage_frontless<W: io::Write>(
+    alloc: Global,
+    log: &ShownLog<'_>,
+    output: &mut W,
+) -> Result<(), Trouble>
+    ensures { OnOk result (AppendsSome (W.contents output.old) (W.contents output.new)) }
+{
+    let (end, found) = standing(alloc, log)?;
+    let from = end.used as usize;
+    let mut words = words_of(alloc, &end, &found)?;
+    write_out(&mut words, output)?;
+    put_spans(alloc, log.bytes, &found, from, &mut words, output)?;
+    Ok(())
+}

@@ -1,0 +1,79 @@
+//! A log or a carried file that is mended into a file of its own.
+
+use crate::acts::found_of;
+use crate::failures::{Failure, FileTrouble, of_file};
+use crate::log_files::read_log_file;
+use crate::made_files::{expect_place, write_made};
+use crate::progress::Watch;
+use rq_behind::mend;
+use rq_file::Replaces;
+use rq_found::{Plan, ShownLog, Trouble, begins_at};
+use rq_judged::grain_of;
+use rq_look::{Findings, mended_text};
+use std::os::fd::AsFd;
+use std::rt::{Clock, Files};
+use std::thread::Threads;
+
+// What a check finds of what was mended.
+fn checked<R>(rt: &R, bytes: &mut [u8], plan: &Plan) -> Result<Findings, Trouble>
+where
+    R: AllocGlobal + Threads + Sync,
+{
+    let at = begins_at(bytes);
+    found_of(rt, &ShownLog { bytes, at, plan })
+}
+
+// Says what was put back, or what was found: on standard error if the file goes to standard output.
+fn say<R: Print + Eprint>(rt: &R, to: &str, text: &str) -> Result<(), Failure> {
+    if to == "-" {
+        let _ = eprint!(rt; "{text}");
+        return Ok(());
+    }
+    rt.write_all(text.as_bytes())?;
+    Ok(())
+}
+
+// That this file is refused.
+fn refused<R: AllocGlobal>(rt: &R, file: &str, trouble: Trouble) -> Failure {
+    of_file(rt, file, FileTrouble::Refused(trouble))
+}
+
+// Mends these bytes, and makes the file of what they are then. Answers whether a check finds nothing.
+fn mend_bytes<R>(rt: &R, file: &str, to: &str, bytes: Vec<u8>, plan: &Plan) -> Result<bool, Failure>
+where
+    R: Files + Print + Eprint + AllocGlobal + Threads + Sync,
+    R::File: AsFd,
+{
+    let mut mended = match mend(rt, rt.alloc(), bytes, grain_of(plan)) {
+        Ok(mended) => mended,
+        Err(fault) => return Err(refused(rt, file, Trouble::Log(fault))),
+    };
+    write_made(rt, to, &mended.bytes, &Replaces::Nothing)?;
+    let text = mended_text(rt.alloc(), &mended)?;
+    say(rt, to, text.as_str())?;
+    let found = match checked(rt, &mut mended.bytes, plan) {
+        Ok(found) => found,
+        Err(trouble) => return Err(refused(rt, to, trouble)),
+    };
+    say(rt, to, found.text.as_str())?;
+    Ok(found.fine)
+}
+
+/// Makes the file of a mended log. It is new, and whole or not there. Answers whether the log is whole
+/// then, and each of its checkpoints true.
+pub(crate) fn mend_file<R>(
+    rt: &R,
+    file: &str,
+    to: &str,
+    plan: &Plan,
+    watch: Watch,
+) -> Result<bool, Failure>
+where
+    R: Files + Input + Print + Eprint + Clock + AllocGlobal + Threads + Sync,
+    R::File: AsFd,
+{
+    expect_place(rt, to, &Replaces::Nothing)?;
+    let bytes = read_log_file(rt, file, watch)?;
+    watch.begins(rt, &bytes);
+    mend_bytes(rt, file, to, bytes, plan)
+}

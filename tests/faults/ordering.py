@@ -1,0 +1,153 @@
+"""Quick. In which order rqlog does what it does to files: it tells what it did once that is synced, and notices what another program writes
+meanwhile."""
+from __future__ import annotations
+import fcntl, itertools, os
+from typing import NamedTuple
+
+from trying import MORE, START, Ended, check, content, has_shim, plain, put, rqlog, run_told
+
+OPENED = START + MORE.removesuffix(b"commit 2\n")
+# What stands behind the front that a crash cut: the beginning of a frame, longer than all that is appended to it.
+CUT = (1000).to_bytes(4, "big") + b"\x05" * 296
+# The lines that change a file, with their log in place of LOG.
+APPENDING = ["append LOG more.script", "append LOG more.script --json", "append LOG half.script --each", "checkpoint LOG",
+             "checkpoint LOG --close"]
+MAKING = ["carry LOG made", "carry LOG made --json", "close LOG made", "close LOG LOG", "recover LOG"]
+
+
+class Call(NamedTuple):
+    """A call on a file: what it does, and the numbers of the file and of its folder, as the shim tells them."""
+    letter: str
+    file: int
+    folder: int
+
+
+def calls_of(told: bytes) -> list[Call]:
+    return [Call(letter, int(file), int(folder)) for letter, file, folder in (it.split() for it in told.decode().splitlines())]
+
+
+def unsynced(calls: list[Call]) -> list[str]:
+    """What was said, or given a name, while something was written and not synced; and what was left so at the end."""
+    files: set[int] = set()
+    folders: set[int] = set()
+    found = []
+    for call in calls:
+        if call.letter in "wt":
+            files.add(call.file)
+        elif call.letter == "s":
+            files.discard(call.file)
+        elif call.letter == "d":
+            folders.discard(call.file)
+        elif call.letter in "ln":
+            found += ["named before it was synced"] if call.file in files else []
+            folders.add(call.folder)
+        elif call.letter in "oe":
+            found += [f"told ({call.letter}) before all was synced"] if files or folders else []
+    return found + (["left unsynced"] if files or folders else [])
+
+
+def noted(line: str, path: str, **asked: object) -> tuple[Ended, list[Call]]:
+    """How a line ends, and its calls."""
+    ended, told = run_told(*line.replace("LOG", path).split(), by=rqlog, tells="order", **asked)
+    return ended, calls_of(told)
+
+
+def anew(log: str, before: bytes) -> None:
+    put(log, before)
+    for name in os.listdir("."):
+        if name == "made" or name.startswith(f"{log}.cut-"):
+            os.remove(name)
+
+
+def order() -> None:
+    """What is done is synced before it is told: a file before it gets its name, and its folder behind that."""
+    if not has_shim("to see the order of calls"):
+        return
+    put("more.script", b"register 0 bob\n")
+    put("half.script", b"register 0 bob\ncommit 9\n")
+    before = content(plain("order", OPENED))
+    for rest in (b"", CUT):
+        for line in (*APPENDING, *MAKING):
+            anew("order.log", before + rest)
+            ended, calls = noted(line, "order.log")
+            is_half = "half" in line
+            writes = any(it.letter == "w" for it in calls)
+            told = (ended[0], writes, unsynced(calls))
+            check(f"{line} behind {len(rest)} bytes: synced, and then told", told, (1 if is_half else 0, True, []))
+
+
+def taken_back() -> None:
+    """What was appended and could not be written whole is cut off, and that is synced, before it is told."""
+    if not has_shim("to see the order of calls"):
+        return
+    put("more.script", b"".join(b"register 0 r%d\n" % it for it in range(5)))
+    put("half.script", content("more.script") + b"commit 9\n")
+    before = content(plain("back", OPENED))
+    for rest in (b"", b"\0\0", CUT):
+        for line in APPENDING:
+            anew("back.log", before + rest)
+            ended, calls = noted(line, "back.log", short=1)
+            said = ended[0], ended[1], ended[2].endswith(b": nothing was appended\n")
+            left = content("back.log")
+            check(f"{line} behind {len(rest)} bytes, written in part", (said, left == before, unsynced(calls)), ((3, b"", True), True, []))
+
+
+def others(line: str, does: str, before: bytes, more: bytes) -> list[int]:
+    """Before which calls another program did something of which the line says nothing, or that is lost. Its last look at the log
+    comes behind all that it reads of it; what is done later nobody notices."""
+    wrong, theirs = [], before + more if does == "grows" else more
+    for number in itertools.count(1):
+        anew("other.log", before)
+        log = os.stat("other.log").st_ino
+        ended, calls = noted(line, "other.log", at=number, does=does, log="other.log", more=put("theirs", more))
+        if len(calls) < number:
+            return wrong
+        if number <= last_look(calls, log) and not is_kept(ended, theirs, "--each" in line):
+            wrong.append(number)
+
+
+def last_look(calls: list[Call], log: int) -> int:
+    """The number of the first look behind all that is read of the log; or, if it is written before that, of the first call that does."""
+    read = max((at for at, it in enumerate(calls) if it.letter == "r" and it.file == log), default=0)
+    found = (at + 1 for at, it in enumerate(calls) if at > read and (it.letter == "x" or it.letter in "wt" and it.file == log))
+    return next(found, len(calls))
+
+
+def is_kept(ended: Ended, theirs: bytes, is_each: bool) -> bool:
+    """Whether what another program wrote is as it left it, and the line says that it is not done; or is done behind it."""
+    left = content("other.log")
+    if ended[0] == 3:
+        return left == theirs
+    is_done = ended[0] == (1 if is_each else 0)
+    return is_done and left is not None and left.startswith(theirs) and len(left) > len(theirs)
+
+
+def another_writer() -> None:
+    """Another program that takes no lock grows the log, or puts another in its place, before any call: it is noticed while the log
+    is read, and nothing of it is lost."""
+    if not has_shim("to see the order of calls"):
+        return
+    put("more.script", b"register 0 bob\n")
+    put("half.script", b"register 0 bob\ncommit 9\n")
+    before = content(plain("other", OPENED))
+    # A unit is open in each, so each line makes it longer.
+    grown = content(plain("grown", OPENED + b"begin 3\n"))
+    for line in (*APPENDING, "close LOG LOG", "recover LOG"):
+        check(f"{line}, and the log grows", others(line, "grows", before, grown[len(before):]), [])
+        check(f"{line}, and another log comes", others(line, "replaces", before, grown), [])
+
+
+def read_by_another() -> None:
+    """A log that another program reads under a lock is not written, nor replaced by its closed one."""
+    log = plain("shared", OPENED)
+    before = content(log)
+    put("more.script", b"register 0 bob\n")
+    with open(log, "rb") as other:
+        fcntl.flock(other, fcntl.LOCK_SH)
+        for line in ("append LOG more.script", "checkpoint LOG", "close LOG LOG", "recover LOG"):
+            ended = rqlog(*line.replace("LOG", log).split())
+            said = ended[0], ended[1], b"another program" in ended[2]
+            check(f"{line}, read by another", (said, content(log)), ((3, b"", True), before))
+
+
+PARTS = [order, taken_back, another_writer, read_by_another]

@@ -1,0 +1,122 @@
+"""Quick. Tries what decides whether a gate passes, on small examples: how ./test counts a part, what is said of a wrong body and of its twin,
+what a receipt takes for read, and whether that has all heads of a built library."""
+from __future__ import annotations
+import contextlib, importlib.machinery, importlib.util, io, os, sys
+from typing import Any, Dict, List
+
+from trying import TOP, check
+
+sys.path.insert(0, os.path.join(TOP, "tools"))
+from wrong.edits import Batch, Edit, Texts, applied  # noqa: E402
+from wrong.readings import Readings  # noqa: E402
+from wrong.statements import crates_of, not_taken  # noqa: E402
+from wrong.verdicts import Verdict, judged, read  # noqa: E402
+import wrong_bodies  # noqa: E402
+
+LOW: Texts = {
+    "src/lib.rt": "ghost use Rattle.low.specs.Sums.{two};\n\n/// Two more.\npub fn add(n: u8) -> u8\n    ensures { result ≡ two n }\n{\n"
+                  "    n + 2\n}\n\npub fn other(n: u8) -> u8 {\n    n\n}\n\npub fn law()\n    ensures { IsLaw }\n{}\n",
+    "specs/Sums.antt": "-- two more\nabbrev pub two : ℕ → ℕ\ntwo n = n + 2\n\npub three : ℕ → ℕ\nthree n = n + 3\n",
+    "proofs/Facts.antt": "pub fact : (n : ℕ) → IsFact n\nfact n = by_this n\n\npub further : (n : ℕ) → IsFact (n + 1)\nfurther n = fact (n + 1)\n",
+}
+HIGH: Texts = {
+    "src/lib.rt": "use low::add;\n\npub fn sum(n: u8) -> u8\n    ensures { result ≡ n }\n{\n    let more = add(n);\n    more\n}\n\n"
+                  "fn beside(n: u8) -> u8\n    ensures { result ≡ n }\n{\n    n\n}\n",
+    "proofs/sum/Answers.antt": "use Rattle.low.proofs.Facts.{fact}\n\npub returns : goal.returns\nreturns c = fact c.args.n\n",
+}
+WRONG = Edit("high", "sum_is_less", "sum_is_less.edit", (("src/lib.rt", "    more\n", "    more - 1\n"),), (("src/lib.rt", "    more\n", "    more - 0\n"),))
+# What a check says if the answer no longer fits, if a goal stays open, and if all is proved.
+ANSWER = "proofs/sum/Answers.antt:4:1: error: unsolved goal in `returns`: 1 is not 2\nfn high::sum: no proof\nonly=1 proved=0\n"
+OPEN = "fn high::sum: no proof: `search` did not prove `returns`\nonly=1 proved=0\n"
+PROVED = "fn high::sum: proved\nonly=1 proved=1\n"
+
+
+def loaded_test() -> Any:
+    """The script ./test as a module."""
+    loader = importlib.machinery.SourceFileLoader("test_script", os.path.join(TOP, "test"))
+    spec = importlib.util.spec_from_loader("test_script", loader)
+    assert spec is not None
+    module = importlib.util.module_from_spec(spec)
+    sys.modules["test_script"] = module
+    loader.exec_module(module)
+    return module
+
+
+def parts() -> None:
+    test = loaded_test()
+    for what, status, said, want in (
+        ("all well", 0, "3 passed, 0 failed\n", 0),
+        ("a part that asked nothing", 0, "0 passed, 0 failed\n", 1),
+        ("no count", 0, "all is well\n", 1),
+        ("no word", 0, "", 1),
+        ("a bad end", 1, "3 passed, 0 failed\n", 1),
+        ("two failures", 1, "3 passed, 2 failed\n", 2),
+    ):
+        check(what, test.ended(status, said).failed, want)
+    check("a part that is not there", test.script("tests/no_such_part.py").failed, 1)
+    told = io.StringIO()
+    with contextlib.redirect_stdout(told):
+        status = test.sum_up([test.Ended(2, 0, ""), test.left_out("a tool"), test.ended(0, "left out: one\nleft out: two\n1 passed, 0 failed\n")])
+    check("what is left out is counted", (status, told.getvalue()), (0, "3 left out for want of a tool\n3 passed, 0 failed\n"))
+
+
+def verdict_on(edit: Edit, said: str) -> Verdict:
+    batch = Batch(HIGH)
+    check(f"a batch takes {edit.name}", batch.takes(edit), True)
+    return judged(read(said), batch)[edit]
+
+
+def twins() -> None:
+    twin = WRONG.twin()[0]
+    check("a wrong body that a goal refuses", [verdict_on(WRONG, it).is_well for it in (ANSWER, OPEN, PROVED)], [True, True, False])
+    check("a twin has to be proved", [verdict_on(twin, it).is_well for it in (ANSWER, OPEN, PROVED)], [False, False, True])
+    run = wrong_bodies.Run.__new__(wrong_bodies.Run)
+    for what, said, want in (("a twin that is proved", PROVED, True), ("a twin that fails", ANSWER, False)):
+        run.found = {WRONG: verdict_on(WRONG, ANSWER), twin: verdict_on(twin, said)}
+        check(f"a wrong body beside {what}", [it.is_well for it in run.judged().values()], [want])
+
+
+def changed(texts: Dict[str, Texts], crate: str, path: str, old: str, new: str) -> bool:
+    """Whether another text there is read by the check of the wrong body."""
+    assert texts[crate][path].count(old) == 1, old
+    other = {**texts, crate: {**texts[crate], path: texts[crate][path].replace(old, new)}}
+    reads: List[object] = []
+    for it in (texts, other):
+        reads.append(Readings(it, {"low": [], "high": ["low"]}).of(WRONG, applied(WRONG, it["high"]).changed))
+    return reads[0] != reads[1]
+
+
+def readings() -> None:
+    texts = {"low": LOW, "high": HIGH}
+    for what, want, *change in (
+        ("a body below", False, "low", "src/lib.rt", "    n + 2\n", "    2 + n\n"),
+        ("a clause below", True, "low", "src/lib.rt", "result ≡ two n", "result ≡ two (n + 0)"),
+        ("a comment", False, "low", "src/lib.rt", "/// Two more.", "/// Two."),
+        ("a definition that the clause names", True, "low", "specs/Sums.antt", "n + 2", "2 + n"),
+        ("one that nothing names", False, "low", "specs/Sums.antt", "pub three : ℕ → ℕ", "pub three : ℕ → ℕ × ℕ"),
+        ("a function that is not called", False, "low", "src/lib.rt", "pub fn other(n: u8)", "pub fn other(n: u16)"),
+        ("a law that is not called", False, "low", "src/lib.rt", "IsLaw", "IsOtherLaw"),
+        ("the proof of a lemma", False, "low", "proofs/Facts.antt", "by_this n", "by_that n"),
+        ("what a lemma states", True, "low", "proofs/Facts.antt", "fact : (n : ℕ) → IsFact n", "fact : (n : ℕ) → IsNoFact n"),
+        ("a lemma that is not used", False, "low", "proofs/Facts.antt", "IsFact (n + 1)", "IsFact (1 + n)"),
+        ("its own body", True, "high", "src/lib.rt", "let more = add(n);", "let more: u8 = add(n);"),
+        ("its own proof", True, "high", "proofs/sum/Answers.antt", "fact c.args.n", "fact (c.args.n)"),
+        ("another function beside it", False, "high", "src/lib.rt", "{\n    n\n}\n", "{\n    n + 0\n}\n"),
+    ):
+        check(f"{what} is read", changed(texts, *change), want)
+
+
+def heads() -> None:
+    """What a built library says of its code has to be among what readings take."""
+    text = crates_of({"low": LOW})["low"].files["src/lib.rt"]
+    said = "ghost use Rattle.low.specs.Sums.{two};\npub fn add ( n : u8 ) -> u8\n    ensures { result ≡ two n } ;\n"
+    check("heads that are taken", not_taken(text, said), [])
+    check("a clause that is not", "IsMore" in not_taken(text, said.replace("} ;", "}\n    ensures { IsMore result } ;")), True)
+    code = 'const MOST: usize = LEAST + 1;\nconst TOP: &str = "<p>\n<q>\\\n    \\"r\\"\n";\nfn put() {\n    one();\n}\n'
+    built = '# [ read_as = "0a" ] const MOST : usize = ( 8_usize ) ;\nconst TOP : & str = "<p>\n<q>\\\n    \\"r\\"\n" ;\nfn put ( ) ;\n'
+    text = crates_of({"low": {"src/lib.rt": code}})["low"].files["src/lib.rt"]
+    check("a text of several lines, and what a number comes to", not_taken(text, built), [])
+    check("another text", not_taken(text, built.replace("<q>", "<s>")) != [], True)
+
+
+PARTS = [parts, twins, readings, heads]
