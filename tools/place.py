@@ -6,17 +6,131 @@ If a library below a crate is not there, `rt check` proves it first: for an uppe
 takes 7 GB in place of 2 or 3. `rt ci CRATE ..` proves these crates and those below them in a copy, and keeps what it made beside the
 toolchain, by the sums of all that it read. This takes from there what is of the files as they stand, lowest crate first. It says
 which libraries it put there, which stood there, and which are lacking, and ends with 1 if any is. Nothing is proved, and nothing
-is taken that is of other files.
+is taken that is of other files. The other tools find here where libraries stand, and what earlier checks of a crate kept.
 """
 from __future__ import annotations
-import hashlib, json, os, sys
-from typing import Any
+import contextlib, functools, hashlib, importlib.machinery, importlib.util, json, os, resource, shutil, subprocess, sys, tempfile
+from concurrent.futures import ThreadPoolExecutor
+from typing import Any, Callable, Dict, Iterator, List, NamedTuple
 
 sys.dont_write_bytecode = True
-from wrong.places import loaded
-
 TOP = os.path.dirname(os.path.dirname(os.path.abspath(__file__)))
+# The toolchain's folder.
+KIT = os.path.dirname(os.path.dirname(os.path.realpath(shutil.which("rt") or "/opt/rattle/bin/rt")))
+PARTS = ("src", "specs", "proofs")
 
+
+class Place(NamedTuple):
+    """A crate over built libraries: the words of a check of it, the folder of what its checks kept, or none, and then one for what
+    those of this run keep, one after the other."""
+
+    words: List[str]
+    kept: str
+    work: str
+
+
+def loaded(name: str, file: str) -> Any:
+    """A program of the toolchain, as a module of this name."""
+    loader = importlib.machinery.SourceFileLoader(name, os.path.join(KIT, "bin", file))
+    spec = importlib.util.spec_from_loader(name, loader)
+    assert spec is not None
+    module = importlib.util.module_from_spec(spec)
+    sys.modules[name] = module
+    loader.exec_module(module)
+    return module
+
+
+def rtlib() -> Any:
+    """The toolchain's own module, which says with which words rt checks a crate."""
+    module = loaded("rtlib", "rtlib.py")
+    # (it reads a crate's files once for each way that leads down to it)
+    module.Crate.stamp = functools.lru_cache(maxsize=None)(module.Crate.stamp)
+    return module
+
+
+def last_change(crate: Any) -> int:
+    """When a file that the crate's library is made of was last changed or moved, in nanoseconds."""
+    folders = [os.path.join(it.folder, part) for it in [crate, *crate.below()] for part in PARTS]
+    walked = [(at, names) for folder in folders for at, _, names in os.walk(folder)]
+    paths = [path for at, names in walked for path in [at, *(os.path.join(at, it) for it in names)]]
+    return max(max(it.st_mtime_ns, it.st_ctime_ns) for it in map(os.stat, paths))
+
+
+def is_of_the_gate(crate: Any) -> bool:
+    """Whether the gate (`rt ci`) built the crate's library of these files: it leaves no stamp, and none of them changed since."""
+    has_stamp = os.path.lexists(os.path.join(os.path.dirname(crate.rlib), "stamp"))
+    is_there = os.path.isfile(os.path.join(crate.rlib, "format")) and not has_stamp
+    return is_there and os.stat(crate.rlib).st_mtime_ns > last_change(crate)
+
+
+def built(top: str) -> Dict[str, str]:
+    """The libraries of the checkout that are built of its files as they stand, by their crates."""
+    crates = [it for it in rtlib().crates_below(top) if it.makes_rlib()]
+    return {it.name: it.rlib for it in crates if it.is_built() or is_of_the_gate(it)}
+
+
+def place_of(crate: Any, kept: str, room: str) -> Place:
+    work = os.path.join(room, "work", crate.name)
+    os.makedirs(work, exist_ok=True)
+    return Place(crate.words(["--jobs", "1"], keeps=False), kept if os.path.isdir(kept) else "", work)
+
+
+def kept_of(crate: Any) -> str:
+    return os.path.join(crate.folder, "out", "incremental")
+
+
+def seeded(crate: Any, room: str) -> str:
+    """A new folder in the room with what a check of the crate as it stands proves."""
+    seed, to = os.path.join(room, "seed"), os.path.join(room, "kept")
+    for part in PARTS:
+        if os.path.isdir(os.path.join(crate.folder, part)):
+            shutil.copytree(os.path.join(crate.folder, part), os.path.join(seed, part))
+    os.mkdir(to)
+    words = [os.path.join(KIT, "bin", "rattle"), "check", *place_of(crate, "", room).words, "--incremental", to]
+    how: Dict[str, Any] = {"stdin": subprocess.DEVNULL, "stdout": subprocess.DEVNULL, "stderr": subprocess.DEVNULL}
+    if subprocess.run(words, cwd=seed, **how).returncode:
+        raise ValueError(f"{crate.name} is not proved as it stands")
+    return to
+
+
+def prove_in(room: str, names: List[str], jobs: int, tell: Callable[[str], None]) -> None:
+    """Has rt prove these crates, lowest first, in a copy of the repository. It takes what other checkouts here hold."""
+    for name in names:
+        words = ["rt", "lib", "--jobs", str(jobs)]
+        before = resource.getrusage(resource.RUSAGE_CHILDREN)
+        how: Dict[str, Any] = {"stdin": subprocess.DEVNULL, "stdout": subprocess.PIPE, "stderr": subprocess.STDOUT}
+        ran = subprocess.run(words, cwd=os.path.join(room, "crates", name), text=True, errors="replace", **how)
+        after = resource.getrusage(resource.RUSAGE_CHILDREN)
+        if ran.returncode:
+            raise ValueError(f"{name} is not proved as it stands: {ran.stdout.strip()[-300:]}")
+        tell(f"{name}: its library is built, {after.ru_utime + after.ru_stime - before.ru_utime - before.ru_stime:.0f} s")
+
+
+@contextlib.contextmanager
+def places(top: str, wanted: Dict[str, int], jobs: int, tell: Callable[[str], None]) -> Iterator[Dict[str, Place]]:
+    """Where to check each of these crates, of which so many batches are tried: over the checkout's own libraries and those that the
+    gate left, or over libraries that are proved in a copy of it. A crate of which no check kept anything is first checked as it
+    stands."""
+    module = rtlib()
+    crates = {it.name: it for it in module.crates_below(top)}
+    needed = [it for it in crates.values() if any(it is crates[name] or it in crates[name].below() for name in wanted)]
+    with tempfile.TemporaryDirectory(prefix="wrong-bodies-") as room:
+        if all(it.is_built() or is_of_the_gate(it) for it in needed):
+            # (one batch alone takes no longer from nothing)
+            bare = [name for name, count in wanted.items() if count > 1 and not os.path.isdir(kept_of(crates[name]))]
+            with ThreadPoolExecutor(jobs) as pool:
+                seeds = dict(zip(bare, pool.map(lambda name: seeded(crates[name], os.path.join(room, name)), bare)))
+            yield {name: place_of(crates[name], seeds.get(name, kept_of(crates[name])), room) for name in wanted}
+        else:
+            tell("libraries are proved first, in a copy")
+            shutil.copytree(os.path.join(top, "crates"), os.path.join(room, "crates"), ignore=shutil.ignore_patterns("out"))
+            shutil.copy(os.path.join(top, "crates.txt"), room)
+            prove_in(room, [it.name for it in needed], jobs, tell)
+            copied = {it.name: it for it in module.crates_below(room)}
+            yield {name: place_of(copied[name], kept_of(copied[name]), room) for name in wanted}
+
+
+# --- what was kept on this machine -----------------------------------------------------------------------------------
 
 def rt() -> Any:
     """The toolchain's command as a module. It reads its words as it is loaded."""

@@ -15,7 +15,7 @@ from concurrent.futures import FIRST_COMPLETED, Future, ThreadPoolExecutor, wait
 from typing import Any, Callable, Dict, List, NamedTuple, Tuple
 
 sys.dont_write_bytecode = True
-from wrong.places import loaded
+from place import loaded
 
 # What a check takes in memory for each processor after the first, in parts of what it takes with one; and the most that one was seen
 # to take, in parts of what rt guesses.

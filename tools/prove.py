@@ -15,7 +15,7 @@ from __future__ import annotations
 import os, re, shutil, signal, subprocess, sys, tempfile, time
 
 sys.dont_write_bytecode = True
-from wrong.places import is_of_the_gate, rtlib
+from place import is_of_the_gate, rtlib
 
 TRIPLE = "x86_64-unknown-linux-gnu"
 # What no proof of a crate and no program reads.

@@ -26,12 +26,11 @@ from concurrent.futures import ThreadPoolExecutor
 from typing import Dict, List, Optional, Sequence, Set
 
 sys.dont_write_bytecode = True
-from wrong.checks import Tried, stop, tried
+from place import built, places
+from wrong.checks import NO_PROOF, Tried, Verdict, stop, tried
 from wrong.edits import EACH_TIME, OTHERS, Batch, Edit, applied, batches_of, edits_of, few_of
-from wrong.places import built, places
+from wrong.readings import not_taken
 from wrong.receipts import Sums, beside, bytes_of, gone, held, made_of, receipt_of, written
-from wrong.statements import not_taken
-from wrong.verdicts import NO_PROOF, Verdict
 
 TOP = os.path.dirname(os.path.dirname(os.path.abspath(__file__)))
 # The processor seconds that the gate spends on drawn wrong bodies, what it reckons a check of them at before it knows better, and

@@ -7,10 +7,9 @@ from typing import Any, Dict, List
 from trying import TOP, check
 
 sys.path.insert(0, os.path.join(TOP, "tools"))
+from wrong.checks import Verdict, judged, read  # noqa: E402
 from wrong.edits import Batch, Edit, Texts, applied  # noqa: E402
-from wrong.readings import Readings  # noqa: E402
-from wrong.statements import crates_of, not_taken  # noqa: E402
-from wrong.verdicts import Verdict, judged, read  # noqa: E402
+from wrong.readings import Readings, crates_of, not_taken  # noqa: E402
 import wrong_bodies  # noqa: E402
 
 LOW: Texts = {

@@ -3,10 +3,10 @@ from __future__ import annotations
 import hashlib, os
 from typing import Dict, List, NamedTuple, Optional
 
+from place import KIT
+from wrong.checks import Verdict
 from wrong.edits import Edit, Texts, applied, texts_in
-from wrong.places import KIT
 from wrong.readings import Readings
-from wrong.verdicts import Verdict
 
 HEAD = """# By which goal each wrong body of this crate was refused. `tools/wrong_bodies.py --write` makes this file.
 # logic: the toolchain's logic. Then of each wrong body its name, the sum of its file, the sum of what its check reads in this crate and

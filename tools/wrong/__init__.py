@@ -1,1 +1,0 @@
-"""What tools/wrong_bodies.py is made of."""
