@@ -8,14 +8,13 @@ import argparse, os
 from collections.abc import Callable, Iterator
 from concurrent.futures import ThreadPoolExecutor
 
-from tables import checkpoints, damages, lines, looking, making, many, reports, writing
+from tables import damages, lines, looking, reports, works, writing
 from tables.asking import Program, Programs, Question
 import trying
 
 Theme = Callable[[Programs], Iterator[Question]]
 
-THEMES: dict[str, Theme] = {it.__name__.rpartition(".")[2]: it.questions
-                            for it in (reports, damages, checkpoints, making, lines, many, looking, writing)}
+THEMES: dict[str, Theme] = {it.__name__.rpartition(".")[2]: it.questions for it in (reports, damages, works, lines, looking, writing)}
 # So many questions are asked side by side.
 AT_A_TIME = 2 * (os.cpu_count() or 1)
 

@@ -13,7 +13,7 @@ import argparse, os, re, subprocess, sys, time
 from typing import NamedTuple
 
 from logs import built_peer, log_of as peers_log
-from tables import scripts
+from tables import asking
 from trying import EXAMPLES, MORE, RQ, RQLOG, RQLOOK, check, content, done, has_shim, lines_of, log_of, plain, put, sweep
 
 # Status, standard output, standard error, and the files that were made.
@@ -199,8 +199,8 @@ class Appends(Sweep):
 def of_small_logs(folder: str) -> None:
     """Lines of rq, and those of rqlog that write, over the logs of small scripts."""
     os.chdir(folder)
-    for name, script in {"one": scripts.ONE_ELEMENT, "two": scripts.CHECKPOINT, "twice": "checkpoint\ncheckpoint\n",
-                         "open": scripts.CHECKPOINT.removesuffix("commit 2\n")}.items():
+    for name, script in {"one": asking.ONE_ELEMENT, "two": asking.CHECKPOINT, "twice": "checkpoint\ncheckpoint\n",
+                         "open": asking.CHECKPOINT.removesuffix("commit 2\n")}.items():
         log_of(script.encode(), name)
     sweep = Sweep(RQ, os.path.join(folder, "swept"))
     for line in lines_of(SMALL, MADE=os.path.join(sweep.made, "log")):

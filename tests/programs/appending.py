@@ -11,11 +11,11 @@ from itertools import islice
 from frames import (CARRIED_AT, HEADER, START_BODIES, Frame, abort, begin, carried_bytes, carried_header_of, chained, checkpoint, commit, define,
                     enqueue, framed, frames_from, header_of, kill, read_as_log, spans_of, spelled)
 from ordering import CUT
-from tables import lines, scripts
+from tables import asking, lines
 from tables.asking import MAKE
-from tables.checkpoints import SPELLED, with_points
 from tables.lines import TABLES, cases
-from tables.rules import Standing, drawn_lines
+from tables.works import SPELLED, with_points
+from tables.writing import Standing, drawn_lines
 from trying import DONE, MORE, START, Ended, appended, check, check_each, content, lines_of, plain, put, refused, rqlog, run, says
 
 MOST = 2**32 - 1
@@ -83,7 +83,7 @@ def appends() -> None:
 
 
 def lawful() -> None:
-    """What the judge of a log says of each line of the tables of `tables/lawful.py`, behind the lawful lines before it."""
+    """What the judge of a log says of each line of the tables of `tables/lines.py`, behind the lawful lines before it."""
     for version, word in MAKE.items():
         for table in TABLES:
             log = plain("judged", b"", word)
@@ -291,7 +291,7 @@ def near_the_end() -> None:
 
 # --- carried files ---------------------------------------------------------------------------------------------------
 
-ONE_ELEMENT = scripts.ONE_ELEMENT.encode()
+ONE_ELEMENT = asking.ONE_ELEMENT.encode()
 ONE_BODIES = [define(b"jobs"), begin(1), enqueue(1, 0), commit(1)]
 # The lines of a restart behind its first one.
 QUEUES = b"units 1 committed, 0 aborted, 0 cut off\nqueue 0 jobs limit 0 error -\ne 2 from 0 priority 5 attempts 0 61\n"
@@ -333,7 +333,7 @@ def goes_on() -> None:
 
 def within_a_unit() -> None:
     """A state with an open unit, which has taken one element and put in another, is carried on twice as it is; and marked."""
-    log = plain("within", scripts.CHECKPOINT.removesuffix("commit 2\n").encode())
+    log = plain("within", asking.CHECKPOINT.removesuffix("commit 2\n").encode())
     bodies, whole = [bytes(7) + bytes([number]) + SPELLED[8:] for number in (9, 10)], content(log)
     want = begun_with(bodies[0], whole[-32:])
     check("carry within a unit", (rqlog("carry", log, "within.first")[0], content("within.first")), (0, want))

@@ -3,14 +3,14 @@ from __future__ import annotations
 import itertools, os, resource, shutil, signal, stat, subprocess, threading
 from collections.abc import Callable, Iterable, Iterator
 
-from tables import scripts
+from tables import asking
 from trying import (DONE, EXAMPLES, NOBODY, READ_FAULT, RESOURCES, RQ, USAGE, WRITE_FAULT, Ended, Words, check, check_each, content,
                     has_shim, lines_of, log_of, making, put, refused, run, run_into, run_told, run_within)
 
 # A part finds the files of those before it.
 IN_ONE_FOLDER = True
 
-ONE_ELEMENT, CHECKPOINT = scripts.ONE_ELEMENT.encode(), scripts.CHECKPOINT.encode()
+ONE_ELEMENT, CHECKPOINT = asking.ONE_ELEMENT.encode(), asking.CHECKPOINT.encode()
 ONE_ELEMENT_REPORT = b"""front 4 records, 237 of 237 bytes, whole
 units 1 committed, 0 aborted, 0 cut off
 queue 0 jobs limit 0 error -

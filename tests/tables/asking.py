@@ -1,10 +1,10 @@
-"""Shared. What the tables share: rows and questions, the programs that are asked, and the logs that rq makes of scripts.
+"""Shared. What the tables share: rows and questions, the programs that are asked, the logs that rq makes of scripts, and scripts of several themes.
 
 A table is a list of rows, and a theme's questions are made of its rows. A question is a name, a call that asks, and what must be
 answered.
 """
 from __future__ import annotations
-import functools, hashlib, itertools, os
+import functools, hashlib, itertools, os, re
 from collections.abc import Callable, Iterable, Iterator
 from typing import NamedTuple
 
@@ -33,6 +33,11 @@ NOT_A_LOG = refused("not a log")
 def told(text: str) -> Ended:
     """A call that prints this and nothing else."""
     return 0, text.encode(), b""
+
+
+def script(lines: str) -> str:
+    """The script of lines that stand side by side, a unit in a row."""
+    return "".join(f"{line}\n" for line in re.split("; |\n", lines))
 
 
 def first(count: int, script: str) -> str:
@@ -158,3 +163,70 @@ def is_same(name: str, got: object, want: object) -> Question:
 def whole(log: bytes) -> bytes:
     """A log to which nothing happens."""
     return log
+
+
+# --- scripts of several themes ---------------------------------------------------------------------------------------
+
+ONE_ELEMENT = script("define jobs 0 -; begin 1; enqueue 1 0 5 - 0 61; commit 1")
+BEST_FIRST = script("""\
+define jobs 0 -
+begin 1; enqueue 1 0 1 - 0 61; enqueue 1 0 9 - 0 62; enqueue 1 0 9 - 0 63; commit 1
+begin 2; dequeue 2 0 - 0; commit 2""")
+SECOND_ABORT = script("""\
+define dead 0 -; define jobs 2 0
+begin 1; enqueue 1 1 5 - 0 61; commit 1
+begin 2; dequeue 2 1 - 0; abort 2
+begin 3; dequeue 3 1 - 0; abort 3
+begin 4; dequeue 4 0 - 0; abort 4""")
+ARRIVAL = script("""\
+define dead 0 -; define jobs 2 0; register 0 ann
+begin 1; enqueue 1 1 5 - 0 61; commit 1
+begin 2; dequeue 2 1 - 0; abort 2
+begin 3; dequeue 3 1 - 0
+begin 4; dequeue 4 0 ann 70; commit 4
+abort 3
+begin 5; dequeue 5 0 ann 71; commit 5""")
+RETURN_AND_ARRIVAL = script("""\
+define dead 0 -; define jobs 1 0; register 0 ann
+begin 1; enqueue 1 0 3 - 0 61; enqueue 1 1 7 - 0 62; commit 1
+begin 2; dequeue 2 0 - 0; dequeue 2 1 - 0; abort 2
+begin 3; dequeue 3 0 ann 9; commit 3""")
+NONE_LEFT = script("""\
+define jobs 0 -
+begin 1; enqueue 1 0 5 - 0 61; commit 1
+begin 2; dequeue 2 0 - 0
+begin 3; dequeue 3 0 - 0
+abort 2
+dequeue 3 0 - 0; commit 3""")
+PLACE = script("""\
+define jobs 0 -; register 0 ann
+begin 1
+begin 2
+enqueue 1 0 5 ann 10 61
+enqueue 2 0 5 ann 20 62; commit 2
+commit 1
+register 0 ann""")
+CHECKPOINT = script("""\
+define jobs 0 -; register 0 ann
+begin 1; enqueue 1 0 5 - 0 61; commit 1
+begin 2; dequeue 2 0 ann 10; enqueue 2 0 8 - 0 62; checkpoint; commit 2""")
+ERROR_OF_ERROR = script("""\
+define bin 0 -; define dead 1 0; define jobs 1 1
+begin 1; enqueue 1 2 5 - 0 61; commit 1
+begin 2; dequeue 2 2 - 0; abort 2
+begin 3; dequeue 3 1 - 0; abort 3""")
+KILL = script("""\
+define jobs 0 -
+begin 1; enqueue 1 0 5 - 0 61; kill 0 2; commit 1
+begin 2; dequeue 2 0 - 0; kill 0 2; abort 2
+kill 0 2""")
+KILLS = script("""\
+define dead 0 -; define jobs 1 0; register 1 ann
+begin 1; enqueue 1 1 5 - 0 61; enqueue 1 1 200 ann 7 62; commit 1
+kill 1 4; kill 0 5
+begin 2; enqueue 2 1 9 - 0 63; commit 2
+begin 3; dequeue 3 1 - 0; kill 1 5; abort 3
+kill 1 10; kill 1 5; kill 0 5""")
+
+# Two queues with an element each, and a third without.
+THREE = script("define a 0 -; define b 0 -; define c 0 -; begin 1; enqueue 1 0 0 - 0 -; enqueue 1 1 0 - 0 -; commit 1")

@@ -6,8 +6,7 @@ from typing import NamedTuple
 
 from frames import changed, framed, header_of
 from trying import DONE
-from .asking import BOTH, FEW_PLANS, NOT_A_LOG, ONE, PLANS, Program, Programs, Question, is_same, reports
-from .scripts import ONE_ELEMENT, RETURN_AND_ARRIVAL
+from .asking import BOTH, FEW_PLANS, NOT_A_LOG, ONE, ONE_ELEMENT, PLANS, RETURN_AND_ARRIVAL, Program, Programs, Question, is_same, reports
 
 DEFINE = "define jobs 0 -\n"
 
@@ -55,95 +54,40 @@ units 0 committed, 0 aborted, 0 cut off
 front 0 records, 40 of 77 bytes, form
 units 0 committed, 0 aborted, 0 cut off
 """),
-    Damage("a kill behind a header_of of version 1", ONE, DEFINE, with_kill, """\
+    Damage("a kill behind a header of version 1", ONE, DEFINE, with_kill, """\
 front 1 records, 87 of 136 bytes, form
 units 0 committed, 0 aborted, 0 cut off
 queue 0 jobs limit 0 error -
 """),
-    Damage("a header_of of version 2 before a chain of version 1", ONE, DEFINE, lambda log: changed(with_kill(log), 0, header_of(2)),
+    Damage("a header of version 2 before a chain of version 1", ONE, DEFINE, lambda log: changed(with_kill(log), 0, header_of(2)),
            """\
 front 0 records, 40 of 136 bytes, chain
 units 0 committed, 0 aborted, 0 cut off
 """),
 ]
 
-# What the report says behind its first line of the first lines of `RETURN_AND_ARRIVAL`, from none of them to all 14.
-RESTS = ["""\
-units 0 committed, 0 aborted, 0 cut off
-""", """\
-units 0 committed, 0 aborted, 0 cut off
-queue 0 dead limit 0 error -
-""", """\
-units 0 committed, 0 aborted, 0 cut off
-queue 0 dead limit 0 error -
-queue 1 jobs limit 1 error 0
-""", """\
-units 0 committed, 0 aborted, 0 cut off
-queue 0 dead limit 0 error -
-r ann none
-queue 1 jobs limit 1 error 0
-""", *["""\
-units 0 committed, 0 aborted, 1 cut off
-queue 0 dead limit 0 error -
-r ann none
-queue 1 jobs limit 1 error 0
-"""] * 3, """\
-units 1 committed, 0 aborted, 0 cut off
-queue 0 dead limit 0 error -
-e 4 from 0 priority 3 attempts 0 61
-r ann none
-queue 1 jobs limit 1 error 0
-e 5 from 1 priority 7 attempts 0 62
-""", """\
-units 1 committed, 0 aborted, 1 cut off
-queue 0 dead limit 0 error -
-e 4 from 0 priority 3 attempts 0 61
-r ann none
-queue 1 jobs limit 1 error 0
-e 5 from 1 priority 7 attempts 0 62
-""", """\
-units 1 committed, 0 aborted, 1 cut off
-queue 0 dead limit 0 error -
-e 4 from 0 priority 3 attempts 1 61
-r ann none
-queue 1 jobs limit 1 error 0
-e 5 from 1 priority 7 attempts 0 62
-""", """\
-units 1 committed, 0 aborted, 1 cut off
-queue 0 dead limit 0 error -
-e 5 from 1 priority 7 attempts 0 62
-e 4 from 0 priority 3 attempts 1 61
-r ann none
-queue 1 jobs limit 1 error 0
-""", """\
-units 1 committed, 1 aborted, 0 cut off
-queue 0 dead limit 0 error -
-e 5 from 1 priority 7 attempts 0 62
-e 4 from 0 priority 3 attempts 1 61
-r ann none
-queue 1 jobs limit 1 error 0
-""", """\
-units 1 committed, 1 aborted, 1 cut off
-queue 0 dead limit 0 error -
-e 5 from 1 priority 7 attempts 0 62
-e 4 from 0 priority 3 attempts 1 61
-r ann none
-queue 1 jobs limit 1 error 0
-""", """\
-units 1 committed, 1 aborted, 1 cut off
-queue 0 dead limit 0 error -
-e 5 from 1 priority 7 attempts 1 62
-e 4 from 0 priority 3 attempts 1 61
-r ann none
-queue 1 jobs limit 1 error 0
-""", """\
-units 2 committed, 1 aborted, 0 cut off
-queue 0 dead limit 0 error -
-e 4 from 0 priority 3 attempts 1 61
-r ann dequeue tag 9 element 5
-queue 1 jobs limit 1 error 0
-"""]
-# Where the frames of that log end, behind its header_of.
+def rest(committed: int, aborted: int, cut_off: int, *below: str) -> str:
+    """A report behind its first line: its units, and the lines below each queue that is defined."""
+    heads = ("queue 0 dead limit 0 error -\n", "queue 1 jobs limit 1 error 0\n")
+    return f"units {committed} committed, {aborted} aborted, {cut_off} cut off\n" + "".join(head + lines for head, lines in zip(heads, below))
+
+
+# The elements of `RETURN_AND_ARRIVAL`, before and behind their first abort, and its registrant.
+LOW, LOW_AGAIN = "e 4 from 0 priority 3 attempts 0 61\n", "e 4 from 0 priority 3 attempts 1 61\n"
+HIGH, HIGH_AGAIN, ANN = "e 5 from 1 priority 7 attempts 0 62\n", "e 5 from 1 priority 7 attempts 1 62\n", "r ann none\n"
+# What the report says behind its first line of the first lines of that script, from none of them to all 14.
+RESTS = [
+    rest(0, 0, 0), rest(0, 0, 0, ""), rest(0, 0, 0, "", ""), rest(0, 0, 0, ANN, ""), *[rest(0, 0, 1, ANN, "")] * 3,
+    rest(1, 0, 0, LOW + ANN, HIGH),
+    rest(1, 0, 1, LOW + ANN, HIGH),
+    rest(1, 0, 1, LOW_AGAIN + ANN, HIGH),
+    rest(1, 0, 1, HIGH + LOW_AGAIN + ANN, ""),
+    rest(1, 1, 0, HIGH + LOW_AGAIN + ANN, ""),
+    rest(1, 1, 1, HIGH + LOW_AGAIN + ANN, ""),
+    rest(1, 1, 1, HIGH_AGAIN + LOW_AGAIN + ANN, ""),
+    rest(2, 1, 0, LOW_AGAIN + "r ann dequeue tag 9 element 5\n", ""),
+]
+# Where the frames of that log end, behind its header.
 ENDS = [40, 87, 134, 178, 223, 283, 343, 388, 433, 491, 549, 594, 639, 700, 745]
 
 
@@ -164,7 +108,7 @@ def is_no_log(rq: Program, name: str, content: bytes) -> Question:
 
 
 def why_of_beginning(length: int) -> str | None:
-    """Why the front of a beginning of that log ends. Without the header_of it is no log."""
+    """Why the front of a beginning of that log ends. Without the header it is no log."""
     if length < 40:
         return None
     return "whole" if length in ENDS else "cut"
@@ -206,20 +150,20 @@ def changed_bytes(rq: Program, version: int) -> Iterator[Question]:
 
 
 def headers(rq: Program) -> Iterator[Question]:
-    """A header_of of which a byte is any other one; in version 2, one with its lowest bit turned, and one with all."""
+    """A header of which a byte is any other one; in version 2, one with its lowest bit turned, and one with all."""
     for version, masks in [(1, range(1, 256)), (2, (0x01, 0xFF))]:
         log = rq.log_of("", version)
         for offset in range(40):
             for mask in masks:
                 turned = changed(log, offset, bytes([log[offset] ^ mask]))
-                yield is_no_log(rq, f"byte {offset} of a header_of of version {version} by {mask:02x}", turned)
+                yield is_no_log(rq, f"byte {offset} of a header of version {version} by {mask:02x}", turned)
 
 
 def no_logs(rq: Program) -> Iterator[Question]:
-    """What is no log has no audit; a header_of alone has one of no line."""
+    """What is no log has no audit; a header alone has one of no line."""
     log = rq.log_of(ONE_ELEMENT)
     table = [("no byte", b"", NOT_A_LOG), ("39 bytes", log[:39], NOT_A_LOG), ("40 bytes", log[:40], DONE),
-             ("a header_of of version 3", header_of(3), NOT_A_LOG)]
+             ("a header of version 3", header_of(3), NOT_A_LOG)]
     for name, content, want in table:
         yield Question(f"{name}: audit", functools.partial(rq.run, "audit", rq.file(content), 2), want)
     yield is_no_log(rq, "no byte", b"")

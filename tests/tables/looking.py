@@ -7,28 +7,17 @@ from typing import NamedTuple
 
 from frames import as_log, carried, changed, flipped, framed
 from trying import Ended
-from .asking import MAKE, Program, Programs, Question, Row, first, rows_of, told, whole
-from .checkpoints import carried_one, with_points
-from .many import windows
-from .scripts import CHECKPOINT, ONE_ELEMENT
+from .asking import CHECKPOINT, MAKE, ONE_ELEMENT, Program, Programs, Question, Row, first, rows_of, script, told, whole
+from .reports import windows
+from .works import carried_one, with_points
 
 # An element whose takers abort: two, and it moves to the error queue; and one there.
-SECOND_ABORT = """\
-define dead 0 -
-define jobs 2 0
-begin 5
-enqueue 5 1 5 - 0 6869
-commit 5
-begin 6
-dequeue 6 1 - 0
-abort 6
-begin 7
-dequeue 7 1 - 0
-abort 7
-begin 8
-dequeue 8 0 - 0
-abort 8
-"""
+SECOND_ABORT = script("""\
+define dead 0 -; define jobs 2 0
+begin 5; enqueue 5 1 5 - 0 6869; commit 5
+begin 6; dequeue 6 1 - 0; abort 6
+begin 7; dequeue 7 1 - 0; abort 7
+begin 8; dequeue 8 0 - 0; abort 8""")
 STORY = """\
 179 3 enqueue unit 5 queue 1 priority 5 by - payload "hi": puts in element 3
 240 4 commit unit 5: element 3 is free in queue 1
@@ -71,17 +60,12 @@ COUNTED = {
 }
 
 # Two units, of which each puts in an element of a queue of its own.
-TWO_UNITS = """\
-define mail 0 -
-define jobs 0 -
-register 1 ann
-begin 1
-enqueue 1 0 5 - 0 61
-begin 2
-enqueue 2 1 5 ann 10 62
+TWO_UNITS = script("""\
+define mail 0 -; define jobs 0 -; register 1 ann
+begin 1; enqueue 1 0 5 - 0 61
+begin 2; enqueue 2 1 5 ann 10 62
 commit 1
-commit 2
-"""
+commit 2""")
 DEFINE = "87 1 define queue 1 name jobs limit 0 error -\n"
 REGISTER = "134 2 register queue 1 name ann\n"
 BEGIN = "283 5 begin unit 2\n"
