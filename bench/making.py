@@ -1,10 +1,65 @@
 """By hand. Times what makes a log of a log, restarts from checkpoints, and the reading and spelling of states."""
 from __future__ import annotations
-import hashlib, os, sys
+import argparse, hashlib, os, sys
+from collections.abc import Iterator
 
-from frames import spans_of
+from frames import begin, define, enqueue, header_of, spans_of, write_log
 from logs import built_peer, checkpoints_script
-from timing import Making, best, making_words, open_log_of, parsed, parser, seconds
+from restarts import best, parsed, parser, seconds
+
+# The logs of which a close and an upgrade are timed have so many open units and queues.
+OPEN_UNITS = 64_000
+OPEN_QUEUES = 64
+
+
+def open_bodies(mib: int, payload: int) -> Iterator[bytes]:
+    """DEFINE of each queue, BEGIN of each unit, and elements of the units in turn."""
+    yield from (define(b"q%d" % queue) for queue in range(OPEN_QUEUES))
+    yield from (begin(unit) for unit in range(1, OPEN_UNITS + 1))
+    for place in range(((mib << 20) - OPEN_UNITS * 45) // (59 + payload)):
+        yield enqueue(1 + place % OPEN_UNITS, place % OPEN_QUEUES, priority=place % 7, payload=b"\xa5" * payload)
+
+
+def open_log_of(folder: str, mib: int, payload: int) -> str:
+    path = os.path.join(folder, f"open.{mib}.{payload}")
+    if not os.path.exists(path):
+        write_log(path, header_of(1), open_bodies(mib, payload))
+    return path
+
+
+def making_words() -> argparse.ArgumentParser:
+    """The words of a script that times a command which makes a log of a log."""
+    words = parser()
+    words.add_argument("--mib", type=int, default=128)
+    words.add_argument("--rounds", type=int, default=5)
+    words.add_argument("--memory", default="/dev/shm/rq-bench")
+    return words
+
+
+class Making:
+    """The best seconds of a restart, of a command that makes a log of the same log, into memory and onto the disk, and
+    of writing as many bytes there."""
+
+    def __init__(self, word: str) -> None:
+        self.word = word
+        self.restart = self.memory = self.disk = self.written = float("inf")
+
+    def round(self, program: str, log: str, workers: str, folder: str, memory: str) -> None:
+        on_disk, in_memory = os.path.join(folder, "made.log"), os.path.join(memory, "made.log")
+        self.restart = min(self.restart, seconds([program, "restart", log, workers, "1000"])[0])
+        self.memory = min(self.memory, seconds([program, self.word, log, in_memory, workers])[0])
+        self.disk = min(self.disk, seconds([program, self.word, log, on_disk, workers])[0])
+        os.remove(on_disk)
+        copied = ["dd", f"if={in_memory}", f"of={on_disk}", "bs=1M", "conv=fsync"]
+        self.written = min(self.written, seconds(copied)[0])
+        os.remove(on_disk)
+        os.remove(in_memory)
+
+    def line(self) -> str:
+        return (f"restart {self.restart:.2f} s, "
+                f"{self.word} into memory {self.memory:.2f} s ({self.memory / self.restart:.2f}), "
+                f"onto disk {self.disk:.2f} s ({self.disk / self.restart:.2f}), dd {self.written:.2f} s, "
+                f"onto disk less dd {(self.disk - self.written) / self.restart:.2f}")
 
 
 # --- closing ---------------------------------------------------------------------------------------------------------

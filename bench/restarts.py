@@ -1,12 +1,58 @@
-"""By hand. Times restarts: beside the peer and openssl, of logs of two lengths, and what many of them cost."""
+"""By hand. Times restarts: beside the peer and openssl, of logs of two lengths, and what many of them cost. And has what every word of `bench`
+takes, and how a command is timed."""
 from __future__ import annotations
-import contextlib, mmap, os, resource, subprocess, sys
-from collections.abc import Iterator
+import argparse, contextlib, mmap, os, resource, subprocess, sys, time
+from collections.abc import Callable, Iterator
 from typing import NamedTuple
 
 from logs import SHAPES, built_peer, log_of
-from timing import best, parsed, parser, seconds
 from trying import TOP
+
+
+def parser() -> argparse.ArgumentParser:
+    """The words that every script takes."""
+    words = argparse.ArgumentParser()
+    words.add_argument("program")
+    words.add_argument("--folder", default="/tmp/rq-bench")
+    return words
+
+
+def parsed(words: argparse.ArgumentParser) -> argparse.Namespace:
+    """The options, with their folder made."""
+    options = words.parse_intermixed_args()
+    os.makedirs(options.folder, exist_ok=True)
+    return options
+
+
+class Run(NamedTuple):
+    """How a command ended: its wall seconds, its peak memory in KiB and its status."""
+    seconds: float
+    memory: int
+    status: int
+
+
+def run(words: list[str], take: Callable[[bytes], object] | None = None) -> Run:
+    """Runs a command, and hands on what it writes piece by piece, or drops it."""
+    begun = time.perf_counter()
+    done = subprocess.Popen(words, stdout=subprocess.PIPE if take else subprocess.DEVNULL, stderr=subprocess.DEVNULL)
+    while take and (piece := done.stdout.read(1 << 20)):
+        take(piece)
+    _, status, usage = os.wait4(done.pid, 0)
+    done.returncode = os.waitstatus_to_exitcode(status)
+    return Run(time.perf_counter() - begun, usage.ru_maxrss, done.returncode)
+
+
+def seconds(words: list[str], wanted: int = 0, take: Callable[[bytes], object] | None = None) -> tuple[float, int]:
+    """Wall seconds of a command, which must end with the wanted status, and its peak memory in KiB."""
+    ended = run(words, take)
+    if ended.status != wanted:
+        sys.exit(f"{' '.join(words)} ended with {ended.status}")
+    return ended.seconds, ended.memory
+
+
+def best(words: list[str], wanted: int = 0) -> float:
+    """The best wall seconds of three runs."""
+    return min(seconds(words, wanted)[0] for _ in range(3))
 
 
 # --- measure ---------------------------------------------------------------------------------------------------------
@@ -143,7 +189,7 @@ def growth() -> None:
     sizes = [int(mib) for mib in options.mib.split(",")]
     shown = list(columns(options, peer))
     memory = "" if options.pool else ", and the peak memory of the longer one beside the log"
-    print(f"{sizes[0]} to {sizes[1]} MiB, best_of of {options.runs}: seconds (growth){memory}\n")
+    print(f"{sizes[0]} to {sizes[1]} MiB, best of {options.runs}: seconds (growth){memory}\n")
     print("| log | " + " | ".join(head for head, _ in shown) + " |")
     print("|---" * (len(shown) + 1) + "|")
     with pool_of(options.pool):
