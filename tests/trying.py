@@ -1,6 +1,6 @@
 """Shared. What all tests share: what is counted, how the programs are run, what they answer, the shim, and the parts of a test."""
 from __future__ import annotations
-import atexit, functools, itertools, os, shutil, subprocess, tempfile
+import atexit, functools, hashlib, itertools, os, shutil, subprocess, tempfile
 from collections.abc import Callable, Iterable, Iterator
 
 HERE = os.path.dirname(os.path.abspath(__file__))
@@ -69,6 +69,11 @@ def content(path: str) -> bytes | None:
             return file.read()
     except FileNotFoundError:
         return None
+
+
+def sum_of(path: str) -> str:
+    with open(path, "rb") as file:
+        return hashlib.sha256(file.read()).hexdigest()
 
 
 def text_in(path: str) -> str:

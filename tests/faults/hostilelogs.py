@@ -16,6 +16,13 @@ CHAIN = [(b"q0", 0, NO_QUEUE), *((b"q%d" % queue, 1, queue - 1) for queue in ran
 Records = Iterator[bytes]
 
 
+def unit_of(unit: int, operations: Iterable[bytes], end: Callable[[int], bytes] = commit) -> Records:
+    """A unit, and how it ends."""
+    yield begin(unit)
+    yield from operations
+    yield end(unit)
+
+
 def open_units(n: int) -> Records:
     """Units that are never ended."""
     yield define(b"jobs")
@@ -28,9 +35,7 @@ def one_unit(n: int) -> Records:
     """A unit enqueues all, a second one takes all and aborts, a third one takes all and commits."""
     yield define(b"jobs")
     for unit, operation, end in ((1, enqueue, commit), (2, dequeue, abort), (3, dequeue, commit)):
-        yield begin(unit)
-        yield from itertools.repeat(operation(unit, 0), n // 3)
-        yield end(unit)
+        yield from unit_of(unit, itertools.repeat(operation(unit, 0), n // 3), end)
 
 
 def units_in_turn(n: int) -> Records:
@@ -49,10 +54,7 @@ def one_registrant(n: int) -> Records:
     yield define(b"jobs")
     yield register(0, b"ann")
     for unit in range(1, n // 4):
-        yield begin(unit)
-        yield enqueue(unit, 0, b"ann", unit)
-        yield dequeue(unit, 0, b"ann", unit)
-        yield commit(unit)
+        yield from unit_of(unit, [enqueue(unit, 0, b"ann", unit), dequeue(unit, 0, b"ann", unit)])
 
 
 def strangers_go(n: int) -> Records:
@@ -67,10 +69,7 @@ def strangers_go(n: int) -> Records:
 def noted_and_gone(n: int) -> Records:
     """A registrant comes, makes a note in the same unit, and goes, again and again."""
     yield define(b"jobs")
-    yield begin(1)
-    come_and_go = (register(0, b"ann"), enqueue(1, 0, b"ann", 1), deregister(0, b"ann"))
-    yield from itertools.chain.from_iterable(itertools.repeat(come_and_go, n // 3))
-    yield commit(1)
+    yield from unit_of(1, [register(0, b"ann"), enqueue(1, 0, b"ann", 1), deregister(0, b"ann")] * (n // 3))
 
 
 def last_go_first(n: int) -> Records:
@@ -85,19 +84,10 @@ def last_go_first(n: int) -> Records:
     yield commit(1)
 
 
-def unit_of(unit: int, operations: Iterable[bytes]) -> Records:
-    """A unit that commits."""
-    yield begin(unit)
-    yield from operations
-    yield commit(unit)
-
-
 def aborting(units: Iterable[int]) -> Records:
     """Units of which each takes an element and aborts."""
     for unit in units:
-        yield begin(unit)
-        yield dequeue(unit, 0)
-        yield abort(unit)
+        yield from unit_of(unit, [dequeue(unit, 0)], abort)
 
 
 def filled(count: int) -> Records:
@@ -123,16 +113,10 @@ def moved(n: int) -> Records:
     """Elements of one queue leave it one by one for an error queue, where others take them meanwhile."""
     yield define(b"errors")
     yield define(b"jobs", 1, 0)
-    yield begin(1)
-    yield from itertools.repeat(enqueue(1, 1), n // 7)
-    yield commit(1)
+    yield from unit_of(1, itertools.repeat(enqueue(1, 1), n // 7))
     for unit in range(2, 2 * (n // 7), 2):
-        yield begin(unit)
-        yield dequeue(unit, 1)
-        yield abort(unit)
-        yield begin(unit + 1)
-        yield dequeue(unit + 1, 0)
-        yield abort(unit + 1)
+        yield from unit_of(unit, [dequeue(unit, 1)], abort)
+        yield from unit_of(unit + 1, [dequeue(unit + 1, 0)], abort)
 
 
 def all_moved(n: int) -> Records:
@@ -140,12 +124,8 @@ def all_moved(n: int) -> Records:
     yield define(b"errors")
     yield from (define(b"q%d" % queue, 1, 0) for queue in range(1, 4096))
     for unit in range(1, n // 2048, 2):
-        yield begin(unit)
-        yield from (enqueue(unit, 1 + (unit * 512 + at) % 4095) for at in range(2048))
-        yield commit(unit)
-        yield begin(unit + 1)
-        yield from (dequeue(unit + 1, 1 + (unit * 512 + at) % 4095) for at in range(2048))
-        yield abort(unit + 1)
+        yield from unit_of(unit, (enqueue(unit, 1 + (unit * 512 + at) % 4095) for at in range(2048)))
+        yield from unit_of(unit + 1, (dequeue(unit + 1, 1 + (unit * 512 + at) % 4095) for at in range(2048)), abort)
 
 
 def all_queues(n: int) -> Records:
@@ -154,26 +134,20 @@ def all_queues(n: int) -> Records:
     yield from (begin(1 + queue) for queue in range(4096))
     yield from (enqueue(1 + queue, queue) for queue in range(4096))
     for unit in range(5000, 5000 + n // 4096):
-        yield begin(unit)
-        yield from (enqueue(unit, queue) if unit % 2 else dequeue(unit, queue) for queue in range(4096))
-        yield commit(unit)
+        yield from unit_of(unit, (enqueue(unit, queue) if unit % 2 else dequeue(unit, queue) for queue in range(4096)))
 
 
 def all_aborted(n: int) -> Records:
     """Units that take from each of 4,096 queues, which have nothing, and abort."""
     yield from (define(b"q%d" % queue) for queue in range(4096))
     for unit in range(1, 1 + n // 4096):
-        yield begin(unit)
-        yield from (dequeue(unit, queue) for queue in range(4096))
-        yield abort(unit)
+        yield from unit_of(unit, (dequeue(unit, queue) for queue in range(4096)), abort)
 
 
 def spread(n: int) -> Records:
     """One unit's elements over 4,096 queues, which stay."""
     yield from (define(b"q%d" % queue) for queue in range(4096))
-    yield begin(1)
-    yield from (enqueue(1, at % 4096) for at in range(n))
-    yield commit(1)
+    yield from unit_of(1, (enqueue(1, at % 4096) for at in range(n)))
 
 
 def chained(n: int) -> Records:
@@ -181,13 +155,9 @@ def chained(n: int) -> Records:
     yield from (define(*it) for it in CHAIN)
     unit = 0
     for _ in range(1 + n // (3 * 4096)):
-        yield begin(unit := unit + 1)
-        yield enqueue(unit, 4095)
-        yield commit(unit)
+        yield from unit_of(unit := unit + 1, [enqueue(unit, 4095)])
         for queue in range(4095, 0, -1):
-            yield begin(unit := unit + 1)
-            yield dequeue(unit, queue)
-            yield abort(unit)
+            yield from unit_of(unit := unit + 1, [dequeue(unit, queue)], abort)
 
 
 def all_killed(n: int) -> Records:
@@ -210,9 +180,7 @@ def killed_and_new(n: int) -> Records:
     place = 4096
     for unit in range(1, n // 4):
         queue = unit % 4096
-        yield begin(unit)
-        yield enqueue(unit, queue)
-        yield commit(unit)
+        yield from unit_of(unit, [enqueue(unit, queue)])
         yield kill(queue, place + 1)
         place += 4
 

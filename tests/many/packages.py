@@ -6,10 +6,10 @@ own tool judge the unit. What it lacks for a part it says: then the part is left
 in FOLDER, and is taken from there if it is there.
 """
 from __future__ import annotations
-import argparse, hashlib, json, os, re, shutil, subprocess, sys, tarfile, tempfile, time
+import argparse, json, os, re, shutil, subprocess, sys, tarfile, tempfile, time
 from typing import NamedTuple
 
-from trying import HERE, TOP, check, text_in
+from trying import HERE, TOP, check, sum_of, text_in
 
 UNIT = os.path.join(TOP, "examples", "many", "systemd", "rq-many@.service")
 CRASHED = os.path.join(TOP, "examples", "crashed.log")
@@ -37,11 +37,6 @@ def is_there(what: str, *programs: str, by: str) -> bool:
     if gone:
         print(f"{what}: left out: needs {', '.join(gone)}: {by}")
     return not gone
-
-
-def sum_of(path: str) -> str:
-    with open(path, "rb") as file:
-        return hashlib.sha256(file.read()).hexdigest()
 
 
 def made(folder: str) -> str:

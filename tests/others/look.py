@@ -17,8 +17,8 @@ import argparse, glob, json, os, pty, random, re, resource, shutil, subprocess, 
 from frames import (CARRIED_AT, HEADER, begin, bodies_of, carried as carried_file, chained, checkpoint, commit, define, enqueue, header_of, read_as_log,
                     register, write_log)
 from logs import COMPARED, NO_RECORD, UNLAWFUL, built_peer, checkpoints_script, log_of
-from looked import Stories, columns_of, compact, cut_to, is_hidden, line_of, records_of, report_misfits
-from paged import ALL, SHOWN, TAGS, WORDS, Page, Told, checkpoint_rows, marks_of, payload, told_of, wanted_marks, wanted_of
+from looked import (ALL, LISTED, TAGS, WORDS, Page, Stories, Told, checkpoint_rows, columns_of, compact, cut_to, is_hidden, line_of, marks_of,
+                    payload, records_of, report_misfits, told_of, wanted_marks, wanted_of)
 from trying import EXAMPLES, RQ, RQLOOK, check, content, done, put
 
 
@@ -176,7 +176,7 @@ def queue_rows(queues: list[dict], order: str, whole: bool = True) -> list[list[
     for queue in sorted(queues, key=ORDERS[order]):
         error = "-" if queue["error"] is None else names[queue["error"]]
         want.append([f"{names[queue['number']]}limit {queue['limit']}, error queue {error}", f"{len(queue['elements']):,}"])
-        want += [[str(e["id"]), names[e["from"]], str(e["priority"]), f"{e['attempts']:,}", payload(e["payload"], whole)] for e in queue["elements"][:SHOWN]]
+        want += [[str(e["id"]), names[e["from"]], str(e["priority"]), f"{e['attempts']:,}", payload(e["payload"], whole)] for e in queue["elements"][:LISTED]]
         want += [[r["name"]] + ([r["last"]["kind"], str(r["last"]["tag"]), or_dash(r["last"]["element"])] if r["last"] else ["-", "", ""])
                  for r in queue["registrants"]]
     return want

@@ -11,7 +11,7 @@ from __future__ import annotations
 import argparse, base64, hashlib, json, os, random, re, select, shutil, subprocess, sys, tempfile, time
 
 from frames import abort, begin, checkpoint, commit, define, dequeue, enqueue, header_of, kill, register, write_log
-from paged import FIRST, TAGS, WORDS, Page
+from looked import FIRST, TAGS, WORDS, Page
 from trying import RQLOOK, check, done
 
 LOOKS = {"light": (1200, False), "dark": (1200, True), "narrow": (390, False)}
