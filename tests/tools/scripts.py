@@ -321,6 +321,9 @@ CHANGES = "# What is new\n\n## Not released\n\n- Much.\n\n## 1.0, 2026-11-27\n\n
 
 def releasing(clone: Clone) -> None:
     """The steps of a release, in their order, with stand-ins; and the next version, in each place."""
+    if not shutil.which("git"):
+        print("left out: a release needs git")
+        return
     put(clone.at("crates/rq_file/src/version.rt"), '/// The version.\npub const VERSION: &str = "1.0";\n')
     put(clone.at("CHANGELOG.md"), CHANGES)
     for path, name in STEPS.items():
