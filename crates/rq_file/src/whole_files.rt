@@ -25,22 +25,33 @@ pub fn put_file<R: Files + AllocGlobal>(rt: &R, path: &str, bytes: &[u8]) -> io:
 where
     R::File: AsFd,
 {
-    put_over(rt, path, bytes, &Replaces::Anything)
+    put_over(rt, path, &[bytes], &Replaces::Anything)
 }
 
-/// The same; but refuses with `AlreadyExists` what is there and may not be replaced. It looks at that
-/// when all is written, and puts the file in the place of what it looked at.
-pub fn put_over<R>(rt: &R, path: &str, bytes: &[u8], rule: &Replaces<'_>) -> io::Result<()>
+// Writes all bytes of these pieces, one behind the other.
+fn write_pieces<W: Write>(file: &mut W, pieces: &[&[u8]]) -> io::Result<()> {
+    for piece in pieces {
+        file.write_all(piece)?;
+    }
+    Ok(())
+}
+
+/// The same of the bytes of several pieces, one behind the other; but refuses with `AlreadyExists` what
+/// is there and may not be replaced. It looks at that when all is written, and puts the file in the
+/// place of what it looked at.
+pub fn put_over<R>(rt: &R, path: &str, pieces: &[&[u8]], rule: &Replaces<'_>) -> io::Result<()>
 where
     R: Files + AllocGlobal,
     R::File: AsFd,
 {
     let Some(names) = Names::of(rt, path)? else {
-        return Late::new(rt, path, in_place()).write_all(bytes);
+        return write_pieces(&mut Late::new(rt, path, in_place()), pieces);
     };
     let mut file = Late::new(rt, names.new_name(), names.options(rt));
     // The first write opens the file: where there are no bytes, one of none does.
-    let done = file.write(&[]).and_then(|_| file.write_all(bytes));
+    let done = file
+        .write(&[])
+        .and_then(|_| write_pieces(&mut file, pieces));
     let settled = names.settle_over(rt, file.into_file(), done.is_ok(), rule);
     done?;
     settled

@@ -1,5 +1,5 @@
 -- A log that goes on from the front of one that was carried on.
-use Rattle.std.proofs.Common.{◌≡◌, ℕ, ◌-◌, ◌≤◌, List, [], ◌∷◌, ◌++◌, length, drop, sym, ap, subst, ◌∙◌, arith, inl, inr}
+use Rattle.std.proofs.Common.{◌≡◌, ℕ, ◌-◌, ◌≤◌, List, [], ◌∷◌, ◌++◌, length, drop, sym, ap, subst, ◌∙◌, arith, inr}
 use Rattle.std.specs.Prelude.{Result, Ok, Err}
 use Rattle.std.specs.Global.{Vec}
 use Rattle.std.proofs.lemmas.List.{drop-append-le, length-drop, length-take}
@@ -20,7 +20,6 @@ use Rattle.rq_record.specs.declared.fault.Fault.{Fault}
 use Rattle.rq_record.specs.declared.fault.Fault.TheVariants as faults
 use Rattle.rq_restart.specs.declared.redone.RedoneFront.{RedoneFront}
 use Rattle.rq_restart.specs.RedoneFronts.{IsRedoneAt}
-use Rattle.rq_judged.specs.Refusals.{RefusedAt}
 use Rattle.rq_judged.proofs.Passes.{frame_more, part_more}
 use Rattle.rq_journal.specs.Checkpoints.{HasNoCheckpointOf, IsCheckpointOf}
 use Rattle.rq_journal.specs.Carries.{BeginsFile, CarriesAgain, IsBegunIn, IsCarriedAgain, IsCarriedState, JoinsBehind, StaysThere}
@@ -132,10 +131,3 @@ module _ (b : List ℕ) (f : RedoneFront) (h : IsRedoneAt b carried_at f) where
   no_checkpoint faults.TooLarge large = (f.state, state_of, large.0, large.1)
   no_checkpoint faults.Resources none = tt
   no_checkpoint _ none = absurd none
-
--- nor is a log that is refused
-pub refused_again : (b : List ℕ) (e : Fault) → RefusedAt b carried_at e → StaysThere b e
-refused_again b faults.TooLong refused = inl refused
-refused_again b faults.TooLarge refused = absurd refused
-refused_again b faults.Resources refused = tt
-refused_again b _ refused = refused

@@ -1,15 +1,17 @@
 //! A carried file, which goes on from the state behind the front of a log, and its audit.
 
-ghost use Rattle.std.specs.Prelude.{◌≡◌, length, IfErr, IfOk};
+ghost use Rattle.std.specs.Prelude.{◌≡◌, ℕ, List, length, IfErr, IfOk};
 ghost use Rattle.rq_model.specs.Frames.{IsBodyLength};
+ghost use Rattle.rq_model.specs.Carrying.{carried_at};
 ghost use Rattle.rq_record.specs.Views.{version_of};
 ghost use Rattle.rq_judged.specs.Refusals.{RefusedAt};
+ghost use Rattle.rq_restart.specs.RedoneFronts.{IsRedoneAt, IsRedoneFront};
 ghost use Rattle.rq_journal.specs.Carries.{BeginsFile, Carries, CarriesAgain, TellsAudit, truth_of};
 
 use crate::checkpoints::checkpoint_body;
 use rq_front::{CARRIED_AT, carried_header_of, frame};
 use rq_record::{Fault, Version};
-use rq_restart::{Plan, audit_at, redone_front, redone_front_at};
+use rq_restart::{Plan, RedoneFront, audit_at};
 use std::alloc::Global;
 use std::marker::Sync;
 use std::thread::Threads;
@@ -26,48 +28,24 @@ fn begun(alloc: Global, version: Version, link: &[u8; 32], body: &[u8]) -> Resul
     Ok(out)
 }
 
-/// A carried file, which goes on from the state behind the front of this log, with the units that are
-/// open there still open: its only record is a checkpoint of that state, at 72, and its digests go on
-/// from the front's. It is no log. `read_as_log` makes one of it, which is to be restarted from 72.
+/// A carried file, which goes on from the state behind a front, with the units that are open there
+/// still open: its only record is a checkpoint of that state, at 72, and its digests go on from the
+/// front's. It is no log. `read_as_log` makes one of it, which is to be restarted from 72. The front is
+/// that of a log, or that of another carried file as it is read.
 ///
-/// Refuses with `TooLarge` a state whose spelling has more than 268,435,455 bytes, and else as
-/// `open` does.
-pub fn carried<R: Threads + Sync>(
-    rt: &R,
-    alloc: Global,
-    bytes: &[u8],
-    plan: &Plan,
-) -> Result<Vec<u8>, Fault>
-    ensures carries { Carries bytes.now result }
+/// Refuses with `TooLarge` a state whose spelling has more than 268,435,455 bytes, with `TooLong` one
+/// with more than 4,294,967,295 records over all files, and with `Resources` if memory is refused.
+pub fn carried(alloc: Global, front: &RedoneFront) -> Result<Vec<u8>, Fault>
+    ensures carries { (b : List ℕ) → IsRedoneFront b front.now → Carries b result }
+    ensures again { (b : List ℕ) → IsRedoneAt b carried_at front.now → CarriesAgain b result }
 {
+    rq_model::one_spelling();
     rq_model::fronts_are_spelt();
     rq_model::carried_headers();
     rq_model::logs_begun_anew();
-    let front = redone_front(rt, alloc, bytes, plan)?;
+    rq_model::continued_logs();
     let body = checkpoint_body(alloc, &front.state)?;
     begun(alloc, front.version, &front.last, &body)
-}
-
-/// A carried file, as `carried` makes one, which goes on from the state behind the front of another:
-/// of the log as which `read_as_log` reads that.
-///
-/// Refuses with `TooLarge` a state whose spelling has more than 268,435,455 bytes, with `TooLong` one
-/// with more than 4,294,967,295 records over all files, and else as `open_carried` does.
-pub fn carried_again<R: Threads + Sync>(
-    rt: &R,
-    alloc: Global,
-    bytes: &[u8],
-    plan: &Plan,
-) -> Result<Vec<u8>, Fault>
-    ensures carries { CarriesAgain bytes.now result }
-{
-    rq_model::one_spelling();
-    rq_model::carried_headers();
-    rq_model::logs_begun_anew();
-    rq_model::continued_logs();
-    let front = redone_front_at(rt, alloc, bytes, CARRIED_AT as u64, plan)?;
-    let checkpoint = checkpoint_body(alloc, &front.state)?;
-    begun(alloc, front.version, &front.last, &checkpoint)
 }
 
 /// What an audit says of a checkpoint.

@@ -5,7 +5,7 @@ ghost use Rattle.rq_model.specs.Frames.{AreBytes, IsBodyLength, log_limit};
 ghost use Rattle.rq_journal.specs.Checkpoints.{MakesCheckpoint, Marks, PutsFrame, SpellsBody};
 
 use rq_front::{FRAME_LEN, LOG_LIMIT, frame};
-use rq_record::{CheckBytes, Fault, Record, encode};
+use rq_record::{CheckBytes, Fault, LogBytes, Record, encode};
 use rq_restart::{Plan, redone_front};
 use rq_state::{State, spell};
 use std::alloc::Global;
@@ -82,7 +82,7 @@ pub fn marked<R: Threads + Sync>(
     rq_model::appended_checkpoints();
     rq_model::fronts_are_spelt();
     rq_model::true_checkpoints_report_the_same();
-    let front = redone_front(rt, alloc, &bytes, plan)?;
+    let front = redone_front(rt, alloc, &LogBytes::borrowed(&bytes), plan)?;
     let body = checkpoint_body(alloc, &front.state)?;
     framed(bytes, front.used, &front.last, &body)
 }

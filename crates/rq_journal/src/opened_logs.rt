@@ -1,15 +1,18 @@
 //! A log is opened to write behind its front, and records are written there.
 
-ghost use Rattle.std.specs.Prelude.{ℕ, List, map};
+ghost use Rattle.std.specs.Prelude.{◌≡◌, ℕ, List, map, IfErr, IfOk};
 ghost use Rattle.rq_judged.specs.JudgedFronts.{IsJudged, IsJudgedAt};
 ghost use Rattle.rq_record.specs.Views.{record_of};
+ghost use Rattle.rq_record.specs.declared.fault.Fault.TheVariants.{Resources};
+ghost use Rattle.rq_restart.specs.RedoneFronts.{IsRedoneAt, IsRedoneFront};
 ghost use Rattle.rq_journal.specs.Openings.{IsOpened, IsOpenedAt, Opens, OpensCarried, WritesBehind};
 
 use crate::appender::{Appender, NotTaken};
+use rq_catalog::Judge;
 use rq_front::CARRIED_AT;
 use rq_judged::{JudgedFront, judged_front, judged_front_at};
 use rq_record::{Fault, Record};
-use rq_restart::{Plan, Why};
+use rq_restart::{Plan, RedoneFront, Why};
 use std::alloc::Global;
 use std::marker::Sync;
 use std::thread::Threads;
@@ -52,6 +55,23 @@ pub fn opened_behind(front: JudgedFront) -> Opened
         records,
         why,
     }
+}
+
+/// Stands behind a front of which the state was made. Refused with `Resources` alone.
+pub fn opened_redone(alloc: Global, front: &RedoneFront) -> Result<Opened, Fault>
+    ensures whole { IfOk result (λ opened. (b : List ℕ) → IsRedoneFront b front.now → IsOpened b opened) }
+    ensures from { IfOk result (λ opened. (b : List ℕ) (offset : ℕ) → IsRedoneAt b offset front.now
+        → IsOpenedAt b offset opened) }
+    ensures refused { IfErr result (λ e. e ≡ Resources) }
+{
+    let judge = Judge::of(alloc, front.version, &front.state)?;
+    Ok(opened_behind(JudgedFront {
+        judge,
+        last: front.last,
+        used: front.used,
+        records: front.records,
+        why: front.why,
+    }))
 }
 
 /// Opens a log to write behind its front. No record is kept, and no queue is redone.

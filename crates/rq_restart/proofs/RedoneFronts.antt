@@ -1,22 +1,22 @@
 -- What the front of a log gives: its restart, and the state behind it.
-use Rattle.std.proofs.Common.{◌≡◌, ℕ, ◌-◌, List, length, map, drop, sym, ap, subst, ◌∙◌, ◌≤◌, arith}
+use Rattle.std.proofs.Common.{◌≡◌, ℕ, ◌-◌, List, ◌∷◌, length, map, drop, sym, ap, subst, ◌∙◌, ◌≤◌, arith}
 use Rattle.std.specs.Prelude.{Result, Ok, Err, IfOk, IfErr}
 use Rattle.std.proofs.lemmas.List.{length-drop, length-take}
 use Rattle.rq_model.specs.States.{State, empty}
 use Rattle.rq_model.specs.Machine.{run}
-use Rattle.rq_model.specs.Fronts.{Restarted, restarted, IsFront, Why}
+use Rattle.rq_model.specs.Fronts.{Restarted, restarted, IsFront, IsWhy, Why}
 use Rattle.rq_record.specs.declared.fault.Fault.{Fault}
 use Rattle.rq_record.specs.declared.fault.Fault.TheVariants as faults
 use Rattle.rq_record.specs.Views.{record_of, version_of}
 use Rattle.rq_judged.specs.FrontEnds.{IsFrontFrom}
 use Rattle.rq_judged.specs.Views.{why_of}
-use Rattle.rq_judged.proofs.Starts.{is_restart}
+use Rattle.rq_judged.proofs.Starts.{is_restart, started}
 use Rattle.rq_restart.specs.RedoneFronts.{IsFoundAt, IsFoundFront, IsRedoneFront, IsStateBehind, RedoesFront}
 use Rattle.rq_restart.specs.RedoneFronts.{RedoesFrontAt}
 use Rattle.rq_restart.specs.Restarts.{Restarts, RestartsAt}
 use Rattle.rq_restart.specs.declared.restarts.FoundFront.{FoundFront}
-use Rattle.rq_model.specs.Records.{Record, Version}
-use Rattle.rq_model.specs.Frames.{log_limit, HasHeader, log_of, start, last_of}
+use Rattle.rq_model.specs.Records.{Record, Checkpoint, Version}
+use Rattle.rq_model.specs.Frames.{log_limit, HasHeader, log_of, start, last_of, before}
 use Rattle.rq_model.specs.LogLaws.{LogEnds}
 use Rattle.rq_record.specs.declared.fault.Fault.TheVariants.{Resources}
 use Rattle.rq_restart.specs.declared.redone.RedoneFront.{RedoneFront}
@@ -84,7 +84,7 @@ restarts_at b offset f is total all (Err e) answer refused = rw refused tt
 -- the front behind the header, and the state behind it
 redone : LogEnds → (b : List ℕ) (version : Version) (rs : List Record) (end : ℕ) (why : Why) (f : RedoneFront)
     → length b ≤ log_limit → HasHeader version b → IsFrontFrom version empty b 40 rs end why
-    → IsStateBehind version empty b rs end f → IsRedoneFront b f
+    → IsStateBehind version empty b rs end why f → IsRedoneFront b f
 redone law b version rs end why f short head h behind =
     let is = front_of version law b rs end why short head h in
     let rules = sym behind.rules in
@@ -92,6 +92,12 @@ redone law b version rs end why f short head h behind =
       records = rs;
       front = subst (λ (v : Version). IsFront b v rs (drop f.used b)) rules
           (subst (λ (n : ℕ). IsFront b version rs (drop n b)) (sym behind.used) is.front);
+      ends = subst (λ (v : Version). IsWhy v (run empty rs) (last_of (start v) rs) (drop f.used b) (why_of f.why)) rules
+          (subst (λ (n : ℕ). IsWhy version (run empty rs) (last_of (start version) rs) (drop n b) (why_of f.why)) (sym behind.used)
+          (subst (λ (w : Why). IsWhy version (run empty rs) (last_of (start version) rs) (drop end b) w) (sym behind.why)
+          (subst (λ (p : List ℕ). IsWhy version (run empty rs) (last_of p rs) (drop end b) why)
+          (started version law b head).chained h.ends)));
+      count = behind.count;
       used = omega (
         arith,
         behind.used,
@@ -105,32 +111,38 @@ redone law b version rs end why f short head h behind =
     }
 
 pub redoes : (b : List ℕ) (x : FoundFront) → IsFoundFront b x → (result : Result RedoneFront Fault)
-    → IfOk result (IsStateBehind (version_of x.version) x.state b (map record_of x.front.records.items) x.front.end)
-    → IfErr result (λ e. e ≡ Resources) → RedoesFront b result
+    → IfOk result (IsStateBehind (version_of x.version) x.state b (map record_of x.front.records.items) x.front.end
+    (why_of x.front.why)) → IfErr result (λ e. e ≡ Resources) → RedoesFront b result
 redoes b x is (Ok f) behind refused =
     let version = version_of x.version in
     let rs = map record_of x.front.records.items in
     redone is.ends b version rs x.front.end (why_of x.front.why) f is.found.short is.header (from_empty b x is)
-    (subst (λ (s : State). IsStateBehind version s b rs x.front.end f) is.start behind)
+    (subst (λ (s : State). IsStateBehind version s b rs x.front.end (why_of x.front.why) f) is.start behind)
 redoes b x is (Err e) behind refused = subst (λ (z : Fault). RedoesFront b (Err z)) (sym refused) tt
 
 -- the same from a checkpoint on
 pub redoes_at : (b : List ℕ) (offset : ℕ) (x : FoundFront) → IsFoundAt b offset x → (result : Result RedoneFront Fault)
-    → IfOk result (IsStateBehind (version_of x.version) x.state b (map record_of x.front.records.items) x.front.end)
-    → IfErr result (λ e. e ≡ Resources) → RedoesFrontAt b offset result
+    → IfOk result (IsStateBehind (version_of x.version) x.state b (map record_of x.front.records.items) x.front.end
+    (why_of x.front.why)) → IfErr result (λ e. e ≡ Resources) → RedoesFrontAt b offset result
 redoes_at b offset x is (Ok f) behind refused =
     let version = version_of x.version in
     let kept = is.begun.kept in
     let has = from_checkpoint b offset (record { version = x.version; found = is.chain; state = x.state }) is.begun
     (map record_of x.front.records.items) x.front.end (why_of x.front.why) is.found.front in
     let at = has.from in
+    let xs : List Record = Checkpoint kept ∷ has.after in
+    let link = last_of (before offset b) xs in
     record {
       base = x.state;
       kept = kept;
       after = has.after;
       front = subst (λ (v : Version). IsFrontAt b offset v x.state kept has.after (drop f.used b)) (sym behind.rules)
           (subst (λ (n : ℕ). IsFrontAt b offset version x.state kept has.after (drop n b)) (sym behind.used) at.front);
+      ends = subst (λ (v : Version). IsWhy v (run x.state xs) link (drop f.used b) (why_of f.why)) (sym behind.rules)
+          (subst (λ (n : ℕ). IsWhy version (run x.state xs) link (drop n b) (why_of f.why)) (sym behind.used)
+          (subst (λ (w : Why). IsWhy version (run x.state xs) link (drop x.front.end b) w) (sym behind.why) at.ends));
       used = behind.used ∙ at.used;
+      count = behind.count ∙ ap length has.are;
       last = behind.last ∙ at.last;
       state = behind.state ∙ ap (run x.state) has.are;
     }

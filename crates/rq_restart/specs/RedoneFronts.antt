@@ -16,7 +16,7 @@ use Rattle.rq_judged.specs.Views.{why_of}
 use Rattle.rq_restart.specs.declared.restarts.FoundFront.{FoundFront}
 use Rattle.rq_model.specs.Records.{Record, Checkpoint, Version}
 use Rattle.rq_model.specs.Machine.{run}
-use Rattle.rq_model.specs.Fronts.{IsFront}
+use Rattle.rq_model.specs.Fronts.{IsFront, IsWhy, Why}
 use Rattle.rq_model.specs.Carrying.{IsFrontAt}
 use Rattle.rq_restart.specs.declared.redone.RedoneFront.{RedoneFront}
 
@@ -54,11 +54,14 @@ abbrev pub FindsFrontAt : List ℕ → ℕ → Result FoundFront Fault → Type 
 FindsFrontAt b offset (Ok f) = IsFoundAt b offset f
 FindsFrontAt b offset (Err e) = RefusedAt b offset e
 
--- where the front of b ends, and the state behind it
+-- where and why the front of b ends, and the state behind it
 pub record IsRedoneFront (b : List ℕ) (f : RedoneFront) : Type 0 where
   pub records : List Record
   pub front : IsFront b (version_of f.version) records (drop f.used b)
+  pub ends : IsWhy (version_of f.version) (run empty records) (last_of (start (version_of f.version)) records)
+      (drop f.used b) (why_of f.why)
   pub used : f.used ≡ length (log_of (version_of f.version) records)
+  pub count : f.records ≡ length records
   pub last : f.last ≡ last_of (start (version_of f.version)) records
   pub state : f.state ≡ run empty records
 
@@ -67,14 +70,17 @@ abbrev pub RedoesFront : List ℕ → Result RedoneFront Fault → Type 0
 RedoesFront b (Ok f) = IsRedoneFront b f
 RedoesFront b (Err e) = Refused b e
 
--- where the front of b from the checkpoint at an offset ends, and the state behind it
+-- where and why the front of b from the checkpoint at an offset ends, and the state behind it
 pub record IsRedoneAt (b : List ℕ) (offset : ℕ) (f : RedoneFront) : Type 0 where
   pub base : State
   pub kept : List ℕ
   pub after : List Record
   pub front : IsFrontAt b offset (version_of f.version) base kept after (drop f.used b)
+  pub ends : IsWhy (version_of f.version) (run base (Checkpoint kept ∷ after))
+      (last_of (before offset b) (Checkpoint kept ∷ after)) (drop f.used b) (why_of f.why)
   pub used : f.used
       ≡ offset + length (frames_of (before offset b) (Checkpoint kept ∷ after))
+  pub count : f.records ≡ length (Checkpoint kept ∷ after)
   pub last : f.last ≡ last_of (before offset b) (Checkpoint kept ∷ after)
   pub state : f.state ≡ run base (Checkpoint kept ∷ after)
 
@@ -83,10 +89,12 @@ abbrev pub RedoesFrontAt : List ℕ → ℕ → Result RedoneFront Fault → Typ
 RedoesFrontAt b offset (Ok f) = IsRedoneAt b offset f
 RedoesFrontAt b offset (Err e) = RefusedAt b offset e
 
--- the state behind these records of b, from a state on, up to an end
-pub record IsStateBehind (version : Version) (s : State) (b : List ℕ) (rs : List Record) (end : ℕ)
+-- the state behind these records of b, from a state on, up to an end, where they end for this reason
+pub record IsStateBehind (version : Version) (s : State) (b : List ℕ) (rs : List Record) (end : ℕ) (reason : Why)
     (f : RedoneFront) : Type 0 where
   pub rules : version_of f.version ≡ version
   pub state : f.state ≡ run s rs
   pub last : f.last ≡ before end b
   pub used : f.used ≡ end
+  pub count : f.records ≡ length rs
+  pub why : why_of f.why ≡ reason

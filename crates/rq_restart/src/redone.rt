@@ -3,13 +3,14 @@
 ghost use Rattle.std.specs.Prelude.{◌≡◌, ℕ, map, IfOk, IfErr};
 ghost use Rattle.rq_record.specs.Views.{record_of, version_of};
 ghost use Rattle.rq_record.specs.declared.fault.Fault.TheVariants.{Resources};
+ghost use Rattle.rq_judged.specs.Views.{why_of};
 ghost use Rattle.rq_restart.specs.RedoneFronts.{IsFoundFrom};
 ghost use Rattle.rq_restart.specs.RedoneFronts.{IsStateBehind, RedoesFront, RedoesFrontAt};
 ghost use Rattle.rq_restart.specs.Restarts.{FindsState};
 
 use crate::restarts::{FoundFront, front_from, whole_front};
 use rq_exchange::replay_analysed;
-use rq_judged::before;
+use rq_judged::{Why, before};
 use rq_plan::{Open, Plan};
 use rq_record::{Fault, LogBytes, Version};
 use rq_state::State;
@@ -17,7 +18,7 @@ use std::alloc::Global;
 use std::marker::Sync;
 use std::thread::Threads;
 
-/// The state behind the front of a log, and where the front ends.
+/// The state behind the front of a log, and where and why the front ends.
 #[derive(Drop)]
 pub struct RedoneFront {
     /// The version of the log.
@@ -28,6 +29,10 @@ pub struct RedoneFront {
     pub last: [u8; 32],
     /// How many of the log's bytes the front takes, and all that stands before it.
     pub used: usize,
+    /// How many records it has.
+    pub records: usize,
+    /// Why it ends.
+    pub why: Why,
 }
 
 // The state behind a front of the log.
@@ -35,12 +40,12 @@ fn state_behind<R: Threads + Sync>(
     rt: &R,
     alloc: Global,
     from: FoundFront,
-    bytes: &[u8],
+    bytes: &LogBytes<'_>,
     plan: &Plan,
 ) -> Result<RedoneFront, Fault>
     requires front { (offset : ℕ) × IsFoundFrom bytes.now offset from }
     ensures behind { IfOk result (IsStateBehind (version_of from.version) from.state bytes.now
-        (map record_of from.front.records.items) from.front.end) }
+        (map record_of from.front.records.items) from.front.end (why_of from.front.why)) }
     ensures refused { IfErr result (λ e. e ≡ Resources) }
 {
     rq_model::versions();
@@ -49,46 +54,50 @@ fn state_behind<R: Threads + Sync>(
         state,
         front,
     } = from;
+    let (records, why) = (front.records.len(), front.why);
     let analysis = front.analysis;
     let redone = replay_analysed(rt, alloc, &state, &front.records, analysis, plan, &Open)?;
     Ok(RedoneFront {
         version,
         state: redone,
-        last: before(bytes, front.end),
+        last: before(bytes.as_slice(), front.end),
         used: front.end,
+        records,
+        why,
     })
 }
 
-/// The state after the front of a log, before any abort, and where the front ends.
+/// The state after the front of a log whose bytes may be shared, before any abort, and where and why
+/// the front ends. If they are, a payload of more than 22 bytes is a part of them and no copy.
 ///
 /// Refuses with `TooLong` more than 4,294,967,295 bytes, with `NotALog` bytes that begin with no
 /// version's header, and with `Resources` where memory is refused.
 pub fn redone_front<R: Threads + Sync>(
     rt: &R,
     alloc: Global,
-    bytes: &[u8],
+    bytes: &LogBytes<'_>,
     plan: &Plan,
 ) -> Result<RedoneFront, Fault>
     ensures { RedoesFront bytes.now result }
 {
-    let from = whole_front(rt, alloc, &LogBytes::borrowed(bytes), plan)?;
+    let from = whole_front(rt, alloc, bytes, plan)?;
     state_behind(rt, alloc, from, bytes, plan)
 }
 
 /// The state after the front of a log from the checkpoint at an offset on, before any abort, and
-/// where the front ends: it begins in the state that the checkpoint spells.
+/// where and why the front ends: it begins in the state that the checkpoint spells.
 ///
 /// Refused as `restart_at` is.
 pub fn redone_front_at<R: Threads + Sync>(
     rt: &R,
     alloc: Global,
-    bytes: &[u8],
+    bytes: &LogBytes<'_>,
     offset: u64,
     plan: &Plan,
 ) -> Result<RedoneFront, Fault>
     ensures { RedoesFrontAt bytes.now offset result }
 {
-    let from = front_from(rt, alloc, &LogBytes::borrowed(bytes), offset, plan)?;
+    let from = front_from(rt, alloc, bytes, offset, plan)?;
     state_behind(rt, alloc, from, bytes, plan)
 }
 
@@ -104,6 +113,6 @@ pub fn front_state<R: Threads + Sync>(
 ) -> Result<State, Fault>
     ensures { FindsState bytes.now result }
 {
-    let front = redone_front(rt, alloc, bytes, plan)?;
+    let front = redone_front(rt, alloc, &LogBytes::borrowed(bytes), plan)?;
     Ok(front.state)
 }

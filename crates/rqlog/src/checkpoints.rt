@@ -1,11 +1,11 @@
-//! The checkpoint of a state, and the ABORTs of open units.
+//! The checkpoint of a state, behind a front or in a carried file, and the ABORTs of open units.
 
 use crate::damage::LeftOut;
-use crate::fronts::{OpenLog, opened_front, redone_behind};
-use crate::inputs::ReadLog;
+use crate::fronts::{OpenLog, redone_log};
+use crate::inputs::{LentLog, ReadLog};
 use crate::refusal::Refusal;
-use rq_journal::{NotTaken, Plan, checkpoint_of, write_as_carried};
-use rq_record::{Fault, Record, kept_records};
+use rq_journal::{NotTaken, Plan, carried, checkpoint_of, write_as_carried};
+use rq_record::{Fault, LogBytes, Record, kept_records};
 use rq_restart::{RedoneFront, go_on};
 use rq_standing::Standing;
 use rq_state::State;
@@ -84,15 +84,28 @@ fn mark_behind<R: Threads + Sync>(
 pub(crate) fn mark<R: Threads + Sync>(
     rt: &R,
     alloc: Global,
-    read: &ReadLog,
+    log: &LentLog<'_>,
     plan: &Plan,
     ends_units: bool,
     drops: bool,
 ) -> Result<(OpenLog, usize), Refusal> {
-    let mut log = opened_front(rt, alloc, read, plan, drops)?;
-    let front = redone_behind(rt, alloc, read, plan)?;
+    let (mut log, front) = redone_log(rt, alloc, log, plan, drops)?;
     let offset = mark_behind(rt, alloc, &mut log, front, plan, ends_units)?;
     Ok((log, offset))
+}
+
+/// The carried file that goes on from the end of a log's front, and where that is.
+pub(crate) fn carried_on<R: Threads + Sync>(
+    rt: &R,
+    alloc: Global,
+    log: &LentLog<'_>,
+    plan: &Plan,
+    drops: bool,
+) -> Result<(OpenLog, Vec<u8>), Refusal> {
+    let (log, front) = redone_log(rt, alloc, log, plan, drops)?;
+    log.expect_numbers(1)?;
+    let made = carried(alloc, &front)?;
+    Ok((log, made))
 }
 
 /// The closed file of a carried one that was read, and what is left out of it behind its front, if that
@@ -104,9 +117,12 @@ pub(crate) fn closed_carried<R: Threads + Sync>(
     plan: &Plan,
     drops: bool,
 ) -> Result<(Vec<u8>, Option<LeftOut>), Refusal> {
-    let mut log = opened_front(rt, alloc, &read, plan, drops)?;
-    let aborts = aborts_of(alloc, &redone_behind(rt, alloc, &read, plan)?.state)?;
-    append_all(alloc, &mut log, &aborts)?;
+    let lent = LentLog {
+        bytes: LogBytes::borrowed(&read.bytes),
+        is_carried: true,
+    };
+    let (mut log, front) = redone_log(rt, alloc, &lent, plan, drops)?;
+    append_all(alloc, &mut log, &aborts_of(alloc, &front.state)?)?;
     let mut made = read.bytes;
     made.truncate(log.opened.used);
     made.append(&mut log.frames)?;

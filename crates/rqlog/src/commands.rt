@@ -1,10 +1,10 @@
 //! What the program does for each of its commands.
 
-use crate::checkpoints::{closed_carried, mark};
+use crate::checkpoints::{carried_on, closed_carried, mark};
 use crate::damage::{EndOfFront, LastBytes, LeftOut, expect_end};
 use crate::files::{HeldLog, Hold, put_whole};
-use crate::fronts::{OpenLog, front_in, next_behind};
-use crate::inputs::{ReadLog, begun_log, log_from, opened, rest_of_log, script_in};
+use crate::fronts::{OpenLog, front_in};
+use crate::inputs::{LentLog, ReadLog, begun_log, log_from, opened, rest_of_log, script_in};
 use crate::lines::append_script;
 use crate::messages::{
     audit_text, tell_appended, tell_carried, tell_left_out, tell_marked, warn_of_end,
@@ -15,13 +15,14 @@ use crate::refusal::{Refusal, Stream, failed};
 use clap::ArgMatches;
 use rq_file::{Patient, Replaces, expect_replaceable, name_one_file, put_over};
 use rq_front::header_of;
-use rq_journal::{CARRIED_AT, Fault, Plan, audit_carried, carried, carried_again};
-use rq_record::Version;
+use rq_journal::{CARRIED_AT, Fault, Plan, audit_carried};
+use rq_record::{LogBytes, Version};
 use rq_restart::ending_of;
 use rq_tool::{Open, OverRead, OverWrite, Work, through};
 use std::fs::File;
 use std::io::{self, Read};
 use std::rt::{Clock, Files};
+use std::sync::ArcSlice;
 use std::thread::Threads;
 
 // The grain of a line that names none, in frames.
@@ -96,30 +97,23 @@ where
 {
     let mut held = HeldLog::open(rt, path, Hold::ToWrite)?;
     let read = rest_of_log(rt, held.file())?;
+    let whole = ArcSlice::from_vec(read.bytes)?;
+    let lent = LentLog {
+        bytes: LogBytes::shared(&whole),
+        is_carried: read.is_carried,
+    };
     let (closes, drops) = (words.get_flag("close"), words.get_flag("drop"));
-    let (log, offset) = mark(rt, rt.alloc(), &read, plan, closes, drops)?;
+    let (log, offset) = mark(rt, rt.alloc(), &lent, plan, closes, drops)?;
     held.append(rt, &log)?;
     tell_left_out(rt, log.left_out);
     let json = words.get_flag("json");
     told(tell_marked(rt, json, offset as u64, log.len() as u64))
 }
 
-// The carried file that goes on from this log.
-fn carried_on<R>(rt: &R, log: &ReadLog, plan: &Plan) -> Result<Vec<u8>, Fault>
-where
-    R: AllocGlobal + Threads + Sync,
-{
-    if log.is_carried {
-        carried_again(rt, rt.alloc(), &log.bytes, plan)
-    } else {
-        carried(rt, rt.alloc(), &log.bytes, plan)
-    }
-}
-
 // Makes the carried file that goes on from this log, and tells how many records stand before it.
 fn carry_log<R>(
     rt: &R,
-    read: &ReadLog,
+    lent: &LentLog<'_>,
     plan: &Plan,
     new: &str,
     words: &ArgMatches<'_>,
@@ -127,8 +121,7 @@ fn carry_log<R>(
 where
     R: Files<File = File> + Print + Eprint + AllocGlobal + Threads + Sync,
 {
-    let log = next_behind(rt, rt.alloc(), read, plan, words.get_flag("drop"))?;
-    let made = carried_on(rt, read, plan)?;
+    let (log, made) = carried_on(rt, rt.alloc(), lent, plan, words.get_flag("drop"))?;
     put_new(rt, new, &made)?;
     tell_left_out(rt, log.left_out);
     warn_of_end(rt, log.next);
@@ -143,7 +136,12 @@ where
     expect_free(rt, new)?;
     let mut held = HeldLog::open(rt, path, Hold::ToRead)?;
     let read = rest_of_log(rt, held.file())?;
-    carry_log(rt, &read, plan, new, words)
+    let whole = ArcSlice::from_vec(read.bytes)?;
+    let lent = LentLog {
+        bytes: LogBytes::shared(&whole),
+        is_carried: read.is_carried,
+    };
+    carry_log(rt, &lent, plan, new, words)
 }
 
 // Prints what is made of a log.
@@ -235,7 +233,7 @@ where
     expect_replaceable(rt, out, &rule).map_err(|error| failed(Stream::Out, error))?;
     let log = log_from(rt, opened(rt, path, Stream::Log)?)?;
     let (made, left) = closed_of(rt, log, plan, true)?;
-    put_over(rt, out, &made, &rule).map_err(|error| failed(Stream::Out, error))?;
+    put_over(rt, out, &[&made], &rule).map_err(|error| failed(Stream::Out, error))?;
     tell_left_out(rt, left);
     Ok(())
 }

@@ -1,11 +1,12 @@
 //! Where the front of a log ends, plain or carried on.
 
 use crate::damage::{EndOfFront, LINK_LEN, LastBytes, LeftOut, expect_end};
-use crate::inputs::{ReadLog, begins_carried, feed_file, last_of_log, rest_of_log};
+use crate::inputs::{LentLog, ReadLog, begins_carried, feed_file, last_of_log, rest_of_log};
 use crate::refusal::Refusal;
 use byteorder::{BigEndian, ByteOrder};
 use rq_journal::{
     CARRIED_AT, Fault, Opened, Plan, TORN_LEN, Why, open, open_carried, opened_behind,
+    opened_redone,
 };
 use rq_judged::GrowingFront;
 use rq_record::Version;
@@ -74,12 +75,12 @@ impl OpenLog {
 
 // How many records were numbered before the first frame of a log. If it was carried on, the spelling
 // of the state that it begins with tells it first, behind the length and the kind of its checkpoint.
-fn numbered_before(log: &ReadLog) -> u64 {
+fn numbered_before(bytes: &[u8], is_carried: bool) -> u64 {
     let at = CARRIED_AT + 5;
-    if !log.is_carried || log.bytes.len() < at + 8 {
+    if !is_carried || bytes.len() < at + 8 {
         return 0;
     }
-    BigEndian::read_u64(&log.bytes[at..])
+    BigEndian::read_u64(&bytes[at..])
 }
 
 // Where a log of so many bytes was opened, before whose first frame so many records were numbered.
@@ -107,7 +108,8 @@ fn front_of<R: Threads + Sync>(
     } else {
         open(rt, alloc, bytes, plan)?
     };
-    Ok(open_at(alloc, opened, bytes.len(), numbered_before(log)))
+    let before = numbered_before(bytes, log.is_carried);
+    Ok(open_at(alloc, opened, bytes.len(), before))
 }
 
 /// Where the front of a log ends, behind which records may follow, or do if what stands there is to be
@@ -175,24 +177,11 @@ where
     Ok(log)
 }
 
-/// The end of a log's front from which another log goes on, and how many records stand before that.
-pub(crate) fn next_behind<R: Threads + Sync>(
+// The front of a log, and the state behind it. Open units stay open.
+fn redone_in<R: Threads + Sync>(
     rt: &R,
     alloc: Global,
-    read: &ReadLog,
-    plan: &Plan,
-    drops: bool,
-) -> Result<OpenLog, Refusal> {
-    let log = opened_front(rt, alloc, read, plan, drops)?;
-    log.expect_numbers(1)?;
-    Ok(log)
-}
-
-/// The state behind the front of a log. Open units stay open.
-pub(crate) fn redone_behind<R: Threads + Sync>(
-    rt: &R,
-    alloc: Global,
-    log: &ReadLog,
+    log: &LentLog<'_>,
     plan: &Plan,
 ) -> Result<RedoneFront, Fault> {
     if log.is_carried {
@@ -200,4 +189,21 @@ pub(crate) fn redone_behind<R: Threads + Sync>(
     } else {
         redone_front(rt, alloc, &log.bytes, plan)
     }
+}
+
+/// Where the front of a log ends, as `opened_front` has it, and the state there. Open units stay open.
+pub(crate) fn redone_log<R: Threads + Sync>(
+    rt: &R,
+    alloc: Global,
+    log: &LentLog<'_>,
+    plan: &Plan,
+    drops: bool,
+) -> Result<(OpenLog, RedoneFront), Refusal> {
+    let front = redone_in(rt, alloc, log, plan)?;
+    let bytes = log.bytes.as_slice();
+    let opened = opened_redone(alloc, &front)?;
+    let before = numbered_before(bytes, log.is_carried);
+    let mut open = open_at(alloc, opened, bytes.len(), before);
+    open.expect_end(alloc, LastBytes::all(bytes), drops)?;
+    Ok((open, front))
 }

@@ -7,6 +7,7 @@ use crate::refusal::{Refusal, Stream, failed};
 use rq_file::{LIMIT, read_limited};
 use rq_journal::{Fault, Plan, is_carried, read_as_log};
 use rq_judged::GrowingFront;
+use rq_record::LogBytes;
 use std::alloc::{AllocError, Global};
 use std::fs::{self, File, Files};
 use std::io::{self, Chain, Cursor, ErrorKind, Read, Seek, SeekFrom};
@@ -24,6 +25,15 @@ const PIECE: usize = 1_048_576;
 pub(crate) struct ReadLog {
     /// Its bytes; those of a carried file as they are read, with the header of a log.
     pub(crate) bytes: Vec<u8>,
+    /// Whether they are those of a carried file.
+    pub(crate) is_carried: bool,
+}
+
+/// A log that is lent: a state that is made of it may share its bytes.
+#[derive(Drop)]
+pub(crate) struct LentLog<'a> {
+    /// Its bytes, as `ReadLog` has them.
+    pub(crate) bytes: LogBytes<'a>,
     /// Whether they are those of a carried file.
     pub(crate) is_carried: bool,
 }

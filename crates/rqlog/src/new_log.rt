@@ -18,7 +18,7 @@ pub(crate) fn put_new<R>(rt: &R, new: &str, bytes: &[u8]) -> Result<(), Refusal>
 where
     R: Files<File = File> + AllocGlobal,
 {
-    match put_over(rt, new, bytes, &Replaces::Nothing) {
+    match put_over(rt, new, &[bytes], &Replaces::Nothing) {
         Ok(()) => Ok(()),
         Err(error) if error.kind() == ErrorKind::AlreadyExists => Err(Refusal::There),
         Err(error) => Err(failed(Stream::New, error)),

@@ -94,11 +94,11 @@ where
     expect_replaceable(rt, to, rule).map_err(|error| not_made(rt, to, error))
 }
 
-/// Writes what was made to the file of this name, or to standard output for `-`.
+/// Writes what was made, in pieces, to the file of this name, or to standard output for `-`.
 pub(crate) fn write_made<R>(
     rt: &R,
     to: &str,
-    made: &[u8],
+    pieces: &[&[u8]],
     rule: &Replaces<'_>,
 ) -> Result<bool, Failure>
 where
@@ -106,10 +106,12 @@ where
     R::File: AsFd,
 {
     if to == "-" {
-        rt.write_all(made)?;
+        for piece in pieces {
+            rt.write_all(piece)?;
+        }
         return Ok(true);
     }
-    match put_over(rt, to, made, rule) {
+    match put_over(rt, to, pieces, rule) {
         Ok(()) => Ok(true),
         Err(error) => Err(not_made(rt, to, error)),
     }
@@ -129,7 +131,7 @@ where
     expect_place(rt, to, &rule)?;
     let mut made = Vec::new(rt.alloc());
     match put_made(rt, asked, &mut made) {
-        Ok(()) => write_made(rt, to, &made, &rule),
+        Ok(()) => write_made(rt, to, &[&made], &rule),
         Err(trouble) => Err(of_file(rt, asked.file, FileTrouble::Refused(trouble))),
     }
 }

@@ -12,15 +12,33 @@ use rq_judged::grain_of;
 use rq_look::{Findings, mended_text};
 use std::os::fd::AsFd;
 use std::rt::{Clock, Files};
-use std::thread::Threads;
+use std::thread::{Threads, join};
 
-// What a check finds of what was mended.
-fn checked<R>(rt: &R, bytes: &mut [u8], plan: &Plan) -> Result<Findings, Trouble>
+// Where a carried file differs from the log as which it is read: in the bytes of its header.
+const HEADER_LEN: usize = 40;
+
+// Writes a file of these bytes, and checks meanwhile what they are.
+fn write_checked<R>(
+    rt: &R,
+    to: &str,
+    bytes: &mut [u8],
+    plan: &Plan,
+) -> Result<Result<Findings, Trouble>, Failure>
 where
-    R: AllocGlobal + Threads + Sync,
+    R: Files + Print + AllocGlobal + Threads + Sync,
+    R::File: AsFd,
 {
+    let header = Vec::from_slice(rt.alloc(), bytes.get(..HEADER_LEN).unwrap_or(&[]))?;
     let at = begins_at(bytes);
-    found_of(rt, &ShownLog { bytes, at, plan })
+    let log = ShownLog { bytes, at, plan };
+    let rest = log.bytes.get(header.len()..).unwrap_or(&[]);
+    let (found, written) = join(
+        rt,
+        || found_of(rt, &log),
+        || write_made(rt, to, &[&header, rest], &Replaces::Nothing),
+    );
+    written?;
+    Ok(found)
 }
 
 // Says what was put back, or what was found: on standard error if the file goes to standard output.
@@ -48,10 +66,10 @@ where
         Ok(mended) => mended,
         Err(fault) => return Err(refused(rt, file, Trouble::Log(fault))),
     };
-    write_made(rt, to, &mended.bytes, &Replaces::Nothing)?;
     let text = mended_text(rt.alloc(), &mended)?;
+    let found = write_checked(rt, to, &mut mended.bytes, plan)?;
     say(rt, to, text.as_str())?;
-    let found = match checked(rt, &mut mended.bytes, plan) {
+    let found = match found {
         Ok(found) => found,
         Err(trouble) => return Err(refused(rt, to, trouble)),
     };

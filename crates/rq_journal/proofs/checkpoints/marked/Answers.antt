@@ -1,4 +1,4 @@
-use Rattle.std.proofs.Common.{◌≡◌, ℕ, List, take, subst, sym, rules}
+use Rattle.std.proofs.Common.{◌≡◌, ◌∙◌, ℕ, List, take, subst, sym, rules}
 use Rattle.std.specs.Prelude.{Result, Err}
 use Rattle.std.specs.Global.{Vec}
 use Rattle.rq_model.specs.Frames.{AreBytes}
@@ -14,7 +14,8 @@ returns-in_err-body g c =
     let f = c.in_ok-front.front in
     let e = c.in_err-body.field-0.0 in
     let answer : c.from_residual-in_err-body.result ≡ Err e = search rules in
-    let redone = subst (λ (z : List ℕ). IsRedoneFront z f) c.deref-2.ensures.value c.in_ok-front.ensures in
+    let redone = subst (λ (z : List ℕ). IsRedoneFront z f) (c.borrowed.ensures ∙ c.deref-2.ensures.value)
+    c.in_ok-front.ensures in
     record {
       marks = subst (λ (r : Result (Vec ℕ) Fault). Marks b r) (sym answer)
           (unmarked b f e c.fronts_are_spelt.ensures redone c.in_err-body.ensures);
@@ -24,7 +25,8 @@ pub returns : goal.returns
 returns g c =
     let b : List ℕ = c.args.bytes.items in
     let f = c.in_ok-front.front in
-    let redone = subst (λ (z : List ℕ). IsRedoneFront z f) c.deref-2.ensures.value c.in_ok-front.ensures in
+    let redone = subst (λ (z : List ℕ). IsRedoneFront z f) (c.borrowed.ensures ∙ c.deref-2.ensures.value)
+    c.in_ok-front.ensures in
     let framed = subst (λ (z : List ℕ). PutsFrame (take f.used b) f.last z c.framed.result) c.deref-3.ensures.value
     c.framed.ensures in
     record {
