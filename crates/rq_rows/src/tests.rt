@@ -8,6 +8,7 @@ mod program;
 mod scarce;
 mod standby;
 mod streams;
+mod surface;
 
 ghost use Rattle.std.specs.Prelude.{◌≤◌, IfOk, length};
 
