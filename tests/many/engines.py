@@ -594,6 +594,7 @@ def by_slurm() -> None:
 
 
 def kept_cluster() -> None:
+    os.environ["PATH"] += os.pathsep + SYSTEM
     os.makedirs("slurm")
     with small_cluster():
         print(f"export SLURM_CONF={os.environ['SLURM_CONF']}", flush=True)
