@@ -2,11 +2,11 @@
 
 ghost use Rattle.std.specs.Prelude.{◌≡◌};
 ghost use Rattle.rq_record.specs.declared.fault.Fault.TheVariants.{Resources};
-ghost use Rattle.rq_found.specs.declared.trouble.Trouble.TheVariants.{Log, Output};
+ghost use Rattle.rq_found.specs.declared.trouble.Trouble.TheVariants.{Log};
 
 use rq_record::Fault;
 use std::alloc::AllocError;
-use std::{fmt, io};
+use std::fmt;
 use thiserror::Error;
 
 /// What is told of a log.
@@ -30,12 +30,9 @@ impl fmt::Display for Subject {
 /// Why a log is not shown, or not to its end.
 #[derive(Debug, Drop, Error)]
 pub enum Trouble {
-    /// The log is refused, or memory is.
+    /// The log is refused, or memory is; or, with `WriteFailed`, a write of what is shown failed.
     #[error("{0}")]
     Log(Fault),
-    /// The output is refused.
-    #[error("{0}")]
-    Output(io::Error),
     /// The script ends before the record of this number, as one that no script tells: its operation
     /// names the registrant `-`.
     #[error("no script tells record {0}")]
@@ -61,14 +58,6 @@ impl From<AllocError> for Trouble {
 
     fn from(_error: AllocError) -> Trouble {
         Trouble::Log(Fault::Resources)
-    }
-}
-
-impl From<io::Error> for Trouble {
-    ghost from_gives = { λ error e. e ≡ Output error };
-
-    fn from(error: io::Error) -> Trouble {
-        Trouble::Output(error)
     }
 }
 

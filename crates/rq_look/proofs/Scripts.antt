@@ -24,7 +24,7 @@ use Rattle.rq_writer.specs.Script.{IsTellable}
 use Rattle.rq_found.specs.Ends.{IsRestartFrom}
 use Rattle.rq_found.specs.Records.{SpelledIn, front_at}
 use Rattle.rq_found.specs.declared.trouble.Trouble.{Trouble}
-use Rattle.rq_found.specs.declared.trouble.Trouble.TheVariants.{Log, Output, Untold, NoQueue, Nothing}
+use Rattle.rq_found.specs.declared.trouble.Trouble.TheVariants.{Log, Untold, NoQueue, Nothing}
 use Rattle.rq_look.specs.Scripts.{script_line, script_text, IsShownFront, PutsScript, IsDash, by_in, LeavesBody, LeavesOut}
 
 -- some records of the front are told, in what is appended and in the text; the frames of the others are left
@@ -285,6 +285,5 @@ left_out at b rest number text old now new where_is body (Untold told) u room bo
       subst (λ (z : List ℕ). Appends old new z) u.told (Appends-trans old now new u.put text u.appends h.4),
     )
 left_out at b rest number text old now new where_is body (Log fault) u room body_is place_is h = tt
-left_out at b rest number text old now new where_is body (Output error) u room body_is place_is h = tt
 left_out at b rest number text old now new where_is body (NoQueue queue) u room body_is place_is h = tt
 left_out at b rest number text old now new where_is body (Nothing subject) u room body_is place_is h = tt

@@ -1,18 +1,19 @@
 -- What a look at a log promises.
-use Rattle.std.specs.Prelude.{◌≡◌, ℕ, ◌<◌, ◌≤◌, ◌⊎◌, Bool, true, false, ⊤, List, ◌++◌, length, codes}
+use Rattle.std.specs.Prelude.{◌≡◌, ℕ, ◌+◌, ◌<◌, ◌≤◌, ◌⊎◌, Bool, true, false, ⊤, List, ◌++◌, length, codes}
 use Rattle.std.specs.Prelude.{Option, Some, None}
 use Rattle.std.specs.Io.KnownBytes.{Appends}
 use Rattle.rq_model.specs.Fronts.{Restarted}
 use Rattle.rq_model.specs.Reports.{IsReport}
 use Rattle.rq_model.specs.Checkpoints.{IsReportAt}
+use Rattle.rq_report.specs.Pieces.{AreLinesOf}
 use Rattle.rq_front.specs.Chains.{IsLog}
 use Rattle.rq_found.specs.Ends.{IsRestartFrom, beginning_text, end_line}
 use Rattle.rq_found.specs.Refusals.{IsBroken, IsRefusal, StaysUnshown}
 use Rattle.rq_look.specs.Scripts.{LeavesOut}
 use Rattle.rq_found.specs.declared.trouble.Subject.{Subject}
 use Rattle.rq_found.specs.declared.trouble.Trouble.{Trouble}
-use Rattle.rq_found.specs.declared.trouble.Trouble.TheVariants.{Log, Output, Untold, NoQueue, Nothing}
-use Rattle.rq_record.specs.declared.fault.Fault.TheVariants.{Resources}
+use Rattle.rq_found.specs.declared.trouble.Trouble.TheVariants.{Log, Untold, NoQueue, Nothing}
+use Rattle.rq_record.specs.declared.fault.Fault.TheVariants.{Resources, WriteFailed}
 
 -- some text is appended
 abbrev pub AppendsSome : Option (List ℕ) → Option (List ℕ) → Type 0
@@ -70,10 +71,10 @@ LacksReport at b wanted e = IsRefusal at b e
 abbrev pub HasWanted : Option ℕ → List ℕ → Option ℕ → Type 0
 HasWanted at b wanted = IsLog b × (r : Restarted) × IsRestartFrom at b r × HasQueue r wanted
 
--- a report broke off: the output was refused; or memory was, and the output holds what it held
+-- a report broke off: a write failed; or memory was refused, and the output holds what it held
 abbrev pub BreaksReport : Option (List ℕ) → Option (List ℕ) → Trouble → Type 0
-BreaksReport old new (Output error) = ⊤
-BreaksReport old new (Log fault) = (fault ≡ Resources) × (new ≡ old)
+BreaksReport old new (Log WriteFailed) = ⊤
+BreaksReport old new (Log Resources) = new ≡ old
 BreaksReport old new _ = ⊥
 
 -- there is no report of b: it lacks one, and the output holds what it held; or b has the queue that
@@ -88,11 +89,21 @@ abbrev pub IsReportFrom : Option ℕ → List ℕ → List ℕ → Type 0
 IsReportFrom None b text = IsReport b text
 IsReportFrom (Some at) b text = IsReportAt b at text
 
+-- the report of b is appended, behind the line that says where b begins
+abbrev pub PutsReport : Option ℕ → List ℕ → Option (List ℕ) → Option (List ℕ) → Type 0
+PutsReport at b old new = (text : List ℕ) × IsReportFrom at b text
+    × Appends old new (beginning_text at ++ text)
+
+-- those lines of the report of a restart are appended that are of the queue
+abbrev pub PutsQueue : Restarted → ℕ → Option (List ℕ) → Option (List ℕ) → Type 0
+PutsQueue r queue old new = (text : List ℕ) × AreLinesOf r.state queue (queue + 1) text
+    × Appends old new text
+
 -- of b, which has the queue that is wanted, one value of JSON is appended, and the end of its line; or
--- its report is, behind the line that says where b begins; or, if one queue is wanted alone, some text
+-- its report is; or, if one queue is wanted alone, those lines of it that are of this queue
 abbrev pub PutsReportAs : Bool → Option ℕ → List ℕ → Option ℕ → Option (List ℕ) → Option (List ℕ)
     → Type 0
 PutsReportAs true at b wanted old new = HasWanted at b wanted × AppendsLine old new
-PutsReportAs false at b None old new = (text : List ℕ) × IsReportFrom at b text
-    × Appends old new (beginning_text at ++ text)
-PutsReportAs false at b (Some queue) old new = HasWanted at b (Some queue) × AppendsSome old new
+PutsReportAs false at b None old new = PutsReport at b old new
+PutsReportAs false at b (Some queue) old new = IsLog b × (r : Restarted) × IsRestartFrom at b r
+    × HasQueue r (Some queue) × PutsQueue r queue old new

@@ -1,12 +1,12 @@
 //! A line for each record of a log, and for each right frame behind its front.
 
-ghost use Rattle.std.specs.Prelude.{◌≡◌, ◌++◌, ℕ, List, Option, IfErr, OnOk, string_bytes};
+ghost use Rattle.std.specs.Prelude.{◌≡◌, ◌<◌, ◌++◌, ℕ, List, Option, IfErr, OnOk, string_bytes};
 ghost use Rattle.rq_model.specs.Fronts.{Restarted};
 ghost use Rattle.rq_judged.specs.FrontEnds.{IsEndOf};
 ghost use Rattle.rq_front.specs.Chains.{IsLog};
 ghost use Rattle.rq_record.specs.declared.fault.Fault.TheVariants.{Resources};
 ghost use Rattle.rq_found.specs.Ends.{IsRestartFrom, front_end_of};
-ghost use Rattle.rq_found.specs.Refusals.{IsBroken, StaysUnshown};
+ghost use Rattle.rq_found.specs.Refusals.{CountsFaults, IsBroken, StaysUnshown};
 ghost use Rattle.rq_look.specs.Findings.{EndsWithin};
 ghost use Rattle.rq_look.specs.Looks.{AppendsSome, EndsDump, IsClosing};
 
@@ -18,15 +18,14 @@ use crate::shown_records::{ShownFrame, ShownRecord};
 use crate::wanted::Wanted;
 use rq_behind::Found;
 use rq_found::{
-    End, PlacedFrames, Put, ShownLog, Trouble, end_of, first_state, form_reason, front_frames,
-    put_beginning, put_end, queues_behind, queues_of,
+    End, Output, PlacedFrames, Put, ShownLog, Trouble, end_of, first_state, form_reason,
+    front_frames, put_beginning, put_end, queues_behind, queues_of,
 };
 use rq_front::Span;
 use rq_record::{Fault, KeptRecord};
 use rq_state::State;
 use std::alloc::{AllocError, Global};
 use std::fmt::Write;
-use std::io;
 use std::thread::Threads;
 
 // Puts a record in the form that is wanted.
@@ -89,15 +88,17 @@ fn put_frame(
 }
 
 // Puts the line of a frame on its way to the output, if it is wanted. Answers whether it is.
-fn put_entry<W: io::Write>(
+fn put_entry<W: Output>(
     alloc: Global,
     wanted: &Wanted<'_>,
     it: &ShownFrame<'_>,
     text: &mut String,
     output: &mut W,
 ) -> Result<bool, Trouble>
+    requires faults { W.faults output.old < 18446744073709551615 }
     ensures only { OnOk result (AppendsSome (W.contents output.old) (W.contents output.new)) }
     ensures refused { IfErr result IsBroken }
+    ensures faults { CountsFaults (W.faults output.old) (W.faults output.new) result }
 {
     let is_wanted = put_frame(alloc, text, it, wanted)?;
     relieve(text, output)?;
@@ -119,7 +120,7 @@ pub(crate) fn put_closing(alloc: Global, text: &mut String, end: &End, wanted: &
 
 // Puts those records of the front that are wanted. So many queues are defined before the first.
 // Answers how many more may be put.
-fn put_records<W: io::Write>(
+fn put_records<W: Output>(
     alloc: Global,
     frames: PlacedFrames<'_>,
     before: u32,
@@ -127,8 +128,10 @@ fn put_records<W: io::Write>(
     text: &mut String,
     output: &mut W,
 ) -> Result<u64, Trouble>
+    requires faults { W.faults output.old < 18446744073709551615 }
     ensures only { OnOk result (AppendsSome (W.contents output.old) (W.contents output.new)) }
     ensures refused { IfErr result IsBroken }
+    ensures faults { CountsFaults (W.faults output.old) (W.faults output.new) result }
 {
     let mut queues = before;
     let mut left = wanted.limit;
@@ -146,7 +149,7 @@ fn put_records<W: io::Write>(
 }
 
 /// Puts those frames that are wanted, so many at most.
-pub(crate) fn put_frames<W: io::Write>(
+pub(crate) fn put_frames<W: Output>(
     alloc: Global,
     bytes: &[u8],
     spans: &[Span],
@@ -155,8 +158,10 @@ pub(crate) fn put_frames<W: io::Write>(
     text: &mut String,
     output: &mut W,
 ) -> Result<(), Trouble>
+    requires faults { W.faults output.old < 18446744073709551615 }
     ensures only { OnOk result (AppendsSome (W.contents output.old) (W.contents output.new)) }
     ensures refused { IfErr result IsBroken }
+    ensures faults { CountsFaults (W.faults output.old) (W.faults output.new) result }
 {
     for span in spans {
         if most == 0 {
@@ -186,7 +191,7 @@ pub(crate) fn put_counted(
 
 // Puts the right frames behind the front that are wanted, so many at most, and how many there are;
 // nothing if what stands behind the front is not wanted.
-fn put_wanted_behind<W: io::Write>(
+fn put_wanted_behind<W: Output>(
     alloc: Global,
     bytes: &[u8],
     end: &End,
@@ -195,9 +200,11 @@ fn put_wanted_behind<W: io::Write>(
     text: &mut String,
     output: &mut W,
 ) -> Result<(), Trouble>
-    requires { EndsWithin bytes.now end.now }
+    requires within { EndsWithin bytes.now end.now }
+    requires faults { W.faults output.old < 18446744073709551615 }
     ensures only { OnOk result (AppendsSome (W.contents output.old) (W.contents output.new)) }
     ensures refused { IfErr result IsBroken }
+    ensures faults { CountsFaults (W.faults output.old) (W.faults output.new) result }
 {
     if !wanted.behind {
         return Ok(());
@@ -218,7 +225,7 @@ pub(crate) fn put_origin(text: &mut String, end: &End, wanted: &Wanted<'_>) -> P
 
 // Writes the line of each record that is wanted, of the front, which begins behind this state, and of
 // what stands behind it; and the last lines.
-fn put_lines<W: io::Write>(
+fn put_lines<W: Output>(
     alloc: Global,
     log: &ShownLog<'_>,
     end: &End,
@@ -227,11 +234,13 @@ fn put_lines<W: io::Write>(
     text: &mut String,
     output: &mut W,
 ) -> Result<(), Trouble>
-    requires { (r : Restarted) × IsRestartFrom log.now.at log.now.bytes.now r
+    requires end { (r : Restarted) × IsRestartFrom log.now.at log.now.bytes.now r
         × IsEndOf r (front_end_of end.now) }
+    requires faults { W.faults output.old < 18446744073709551615 }
     ensures last { OnOk result (EndsDump log.now.at log.now.bytes.now wanted.now.json
         (W.contents output.old) (W.contents output.new)) }
     ensures refused { IfErr result IsBroken }
+    ensures faults { CountsFaults (W.faults output.old) (W.faults output.new) result }
 {
     let frames = front_frames(log.bytes, first, log.at, end.used);
     let queues = queues_of(first.definitions());
@@ -249,21 +258,24 @@ fn put_lines<W: io::Write>(
 /// stands behind the front is wanted, the right frames there stand before these lines, each marked,
 /// and how many they are.
 ///
-/// Refuses what a restart from there refuses, and before anything is written; else with `Output`
-/// where the output fails, and with `Resources` where memory is refused, and then some of it may be
-/// written.
-pub fn dump<R: Threads + Sync, W: io::Write>(
+/// Refuses what a restart from there refuses, and before anything is written; else with
+/// `WriteFailed` where a write failed, and with `Resources` where memory is refused, and then some of
+/// it may be written.
+#[tactic(auto, using(rq_found::proofs::Writes::refused_unwritten))]
+pub fn dump<R: Threads + Sync, W: Output>(
     rt: &R,
     alloc: Global,
     log: &ShownLog<'_>,
     wanted: &Wanted<'_>,
     output: &mut W,
 ) -> Result<(), Trouble>
+    requires faults { W.faults output.old < 18446744073709551615 }
     ensures log { OnOk result (IsLog log.now.bytes.now) }
     ensures last { OnOk result (EndsDump log.now.at log.now.bytes.now wanted.now.json
         (W.contents output.old) (W.contents output.new)) }
     ensures refused { IfErr result (StaysUnshown log.now.at log.now.bytes.now
         (W.contents output.old) (W.contents output.new)) }
+    ensures faults { CountsFaults (W.faults output.old) (W.faults output.new) result }
 {
     let end = end_of(rt, alloc, log)?;
     let first = first_state(alloc, log.bytes, log.at)?;

@@ -1,10 +1,12 @@
 //! A carried log that a restart refuses for its first checkpoint: it has no front, and what is right in
 //! it is shown all the same.
 
-ghost use Rattle.std.specs.Prelude.{◌≡◌, ◌++◌, IfOk, OnOk, false, length, min, string_bytes};
+ghost use Rattle.std.specs.Prelude.{◌≡◌, ◌<◌, ◌++◌, ◌⊎◌, IfErr, IfOk, OnOk, false, length, min, string_bytes};
+ghost use Rattle.rq_record.specs.declared.fault.Fault.TheVariants.{NotALog, Resources};
 ghost use Rattle.rq_judged.specs.Views.{why_of};
 ghost use Rattle.rq_model.specs.Carrying.{carried_at};
 ghost use Rattle.rq_found.specs.Ends.{beginning_text, end_text};
+ghost use Rattle.rq_found.specs.Refusals.{CountsFaults};
 ghost use Rattle.rq_look.specs.Findings.{IsBehind, IsFrontless, behind_finding};
 ghost use Rattle.rq_look.specs.Looks.{AppendsSome};
 
@@ -16,11 +18,10 @@ use crate::sheet::write_out;
 use crate::wanted::Wanted;
 use rq_behind::Found;
 use rq_found::{
-    Diagnosis, End, Fault, ShownLog, Trouble, end_without_front, put_beginning, put_end,
+    Diagnosis, End, Fault, Output, ShownLog, Trouble, end_without_front, put_beginning, put_end,
 };
 use rq_front::HEADER_LEN;
 use std::alloc::{AllocError, Global};
-use std::io;
 
 // Where the front would begin, and the right frames from there on. A carried log has a header.
 fn standing(alloc: Global, log: &ShownLog<'_>) -> Result<(End, Found), Fault>
@@ -29,6 +30,7 @@ fn standing(alloc: Global, log: &ShownLog<'_>) -> Result<(End, Found), Fault>
         × (x.0.total ≡ length log.now.bytes.now)) }
     ensures behind { IfOk result (λ x.
         IsBehind log.now.bytes.now (min carried_at (length log.now.bytes.now)) x.1) }
+    ensures refused { IfErr result (λ e. (e ≡ NotALog) ⊎ (e ≡ Resources)) }
 {
     if log.bytes.len() < HEADER_LEN {
         return Err(Fault::NotALog);
@@ -75,13 +77,16 @@ pub fn check_frontless(alloc: Global, log: &ShownLog<'_>) -> Result<Findings, Tr
 
 /// Writes the right frames of such a log that are wanted, how many there are, and that it has no front,
 /// as `dump` does behind a front.
-pub fn dump_frontless<W: io::Write>(
+#[tactic(auto, using(crate::proofs::Puts::frontless_unwritten))]
+pub fn dump_frontless<W: Output>(
     alloc: Global,
     log: &ShownLog<'_>,
     wanted: &Wanted<'_>,
     output: &mut W,
 ) -> Result<(), Trouble>
-    ensures { OnOk result (AppendsSome (W.contents output.old) (W.contents output.new)) }
+    requires faults { W.faults output.old < 18446744073709551615 }
+    ensures only { OnOk result (AppendsSome (W.contents output.old) (W.contents output.new)) }
+    ensures faults { CountsFaults (W.faults output.old) (W.faults output.new) result }
 {
     let (end, found) = standing(alloc, log)?;
     let most = wanted.limit;
@@ -104,12 +109,15 @@ pub fn dump_frontless<W: io::Write>(
 
 /// Writes the records of the right frames of such a log, each in a line to choose it or not, as
 /// `salvage` does behind a front.
-pub fn salvage_frontless<W: io::Write>(
+#[tactic(auto, using(crate::proofs::Puts::frontless_unwritten))]
+pub fn salvage_frontless<W: Output>(
     alloc: Global,
     log: &ShownLog<'_>,
     output: &mut W,
 ) -> Result<(), Trouble>
-    ensures { OnOk result (AppendsSome (W.contents output.old) (W.contents output.new)) }
+    requires faults { W.faults output.old < 18446744073709551615 }
+    ensures only { OnOk result (AppendsSome (W.contents output.old) (W.contents output.new)) }
+    ensures faults { CountsFaults (W.faults output.old) (W.faults output.new) result }
 {
     let (end, found) = standing(alloc, log)?;
     let from = end.used as usize;

@@ -1,6 +1,6 @@
 //! The script of a log.
 
-ghost use Rattle.std.specs.Prelude.{◌≡◌, ◌∷◌, ◌++◌, ℕ, List, Some, None, true, false};
+ghost use Rattle.std.specs.Prelude.{◌≡◌, ◌<◌, ◌∷◌, ◌++◌, ℕ, List, Some, None, true, false};
 ghost use Rattle.std.specs.Prelude.{IfOk, IfErr, OnOk, string_bytes};
 ghost use Rattle.std.specs.Fmt.{decimal};
 ghost use Rattle.std.specs.Io.KnownBytes.{Appends};
@@ -19,6 +19,7 @@ ghost use Rattle.rq_writer.specs.Script.{record_text, who_name, who_tag, IsNamed
 ghost use Rattle.rq_found.specs.Ends as ends;
 ghost use Rattle.rq_found.specs.Ends.{IsRestartFrom, front_end_of};
 ghost use Rattle.rq_found.specs.Records.{SpelledIn};
+ghost use Rattle.rq_found.specs.Refusals.{CountsFaults};
 ghost use Rattle.rq_look.specs.Looks.{BreaksOff, LacksScript};
 ghost use Rattle.rq_look.specs.Scripts.{IsDash, LeavesBody, LeavesOut, PutsScript, by_in};
 ghost use Rattle.rq_look.specs.Scripts.{script_line};
@@ -26,15 +27,15 @@ ghost use Rattle.rq_look.specs.Scripts.{script_line};
 use crate::sheet::{relieve, write_out};
 use crate::shown_records::by_of;
 use rq_found::{
-    End, Numbered, Placed, Put, ShownLog, Trouble, end_of, first_state, front_frames, is_whole,
-    put_digits,
+    End, Numbered, Output, Placed, Put, ShownLog, Trouble, end_of, first_state, front_frames,
+    is_whole, put_digits,
 };
 use rq_record::{KeptBy, KeptName, KeptRecord, QueueNo, UnitNo};
 use rq_report::put_error;
 use rq_state::State;
 use std::alloc::Global;
+use std::fmt::Write;
 use std::thread::Threads;
-use std::{fmt, io};
 
 fn put_hex(alloc: Global, text: &mut String, bytes: &[u8]) -> Put
     ensures text { OnOk result
@@ -188,12 +189,13 @@ pub(crate) fn put_line(alloc: Global, text: &mut String, r: &KeptRecord) -> Put
 
 // Puts the line of the record of a frame. Where no line tells it, the text goes to the output before
 // this is said.
-fn put_placed<W: io::Write>(
+fn put_placed<W: Output>(
     alloc: Global,
     text: &mut String,
     placed: Placed<'_>,
     output: &mut W,
 ) -> Result<(), Trouble>
+    requires faults { W.faults output.old < 18446744073709551615 }
     ensures line { OnOk result ((r : model.Record) × (put : List ℕ)
         × Spells Two r placed.entry.body.now × IsTellable r
         × Appends (W.contents output.old) (W.contents output.new) put
@@ -201,6 +203,7 @@ fn put_placed<W: io::Write>(
     ensures untold { IfErr result (LeavesBody placed.entry.number placed.entry.body.now
         (string_bytes text.old) (W.contents output.old) (W.contents output.new)) }
     ensures refused { IfErr result BreaksOff }
+    ensures faults { CountsFaults (W.faults output.old) (W.faults output.new) result }
 {
     let it = Numbered::of(alloc, placed, 0)?;
     if is_untold(&it.record) {
@@ -213,7 +216,7 @@ fn put_placed<W: io::Write>(
 }
 
 /// Writes the script of the front, of so many bytes, whose records begin behind this state.
-pub(crate) fn put_records<W: io::Write>(
+pub(crate) fn put_records<W: Output>(
     alloc: Global,
     log: &ShownLog<'_>,
     first: &State,
@@ -225,11 +228,13 @@ pub(crate) fn put_records<W: io::Write>(
     requires start { log.now.at ≡ None → first.now ≡ empty }
     requires there { (offset : ℕ) (kept : List ℕ) → log.now.at ≡ Some offset
         → IsCheckpointAt log.now.bytes.now offset kept → SpelledIn log.now.bytes.now kept first.now }
+    requires faults { W.faults output.old < 18446744073709551615 }
     ensures script { OnOk result (PutsScript log.now.at log.now.bytes.now
         (W.contents output.old) (W.contents output.new)) }
     ensures untold { IfErr result (LeavesOut log.now.at log.now.bytes.now
         (W.contents output.old) (W.contents output.new)) }
     ensures refused { IfErr result BreaksOff }
+    ensures faults { CountsFaults (W.faults output.old) (W.faults output.new) result }
 {
     let mut text = String::new(alloc);
     for placed in front_frames(log.bytes, first, log.at, used) {
@@ -241,12 +246,14 @@ pub(crate) fn put_records<W: io::Write>(
 
 /// Writes the script of the front of a log, from the checkpoint on that it begins with, if it was
 /// carried on, and answers where it ends.
-pub(crate) fn put_front_script<R: Threads + Sync, W: io::Write>(
+#[tactic(auto, using(rq_found::proofs::Writes::refused_unwritten))]
+pub(crate) fn put_front_script<R: Threads + Sync, W: Output>(
     rt: &R,
     alloc: Global,
     log: &ShownLog<'_>,
     output: &mut W,
 ) -> Result<End, Trouble>
+    requires faults { W.faults output.old < 18446744073709551615 }
     ensures end { IfOk result (λ end. (r : Restarted) × IsRestartFrom log.now.at log.now.bytes.now r
         × IsEndOf r (front_end_of end)) }
     ensures log { OnOk result (IsLog log.now.bytes.now) }
@@ -254,6 +261,7 @@ pub(crate) fn put_front_script<R: Threads + Sync, W: io::Write>(
         (W.contents output.old) (W.contents output.new)) }
     ensures refused { IfErr result (LacksScript log.now.at log.now.bytes.now
         (W.contents output.old) (W.contents output.new)) }
+    ensures faults { CountsFaults (W.faults output.old) (W.faults output.new) result }
 {
     let end = end_of(rt, alloc, log)?;
     let first = first_state(alloc, log.bytes, log.at)?;
@@ -266,18 +274,20 @@ pub(crate) fn put_front_script<R: Threads + Sync, W: io::Write>(
 ///
 /// Refuses with `Untold` the first operation of the registrant `-`, which no script tells, once the
 /// lines of the records before it are written; else as `dump` does.
-pub fn script<R: Threads + Sync, W: io::Write>(
+pub fn script<R: Threads + Sync, W: Output>(
     rt: &R,
     alloc: Global,
     log: &ShownLog<'_>,
     output: &mut W,
 ) -> Result<bool, Trouble>
+    requires faults { W.faults output.old < 18446744073709551615 }
     ensures script { IfOk result (λ whole. (r : Restarted)
         × IsRestartFrom log.now.at log.now.bytes.now r × (whole ≡ ends.is_whole r.why)) }
     ensures told { OnOk result (PutsScript log.now.at log.now.bytes.now
         (W.contents output.old) (W.contents output.new)) }
     ensures refused { IfErr result (LacksScript log.now.at log.now.bytes.now
         (W.contents output.old) (W.contents output.new)) }
+    ensures faults { CountsFaults (W.faults output.old) (W.faults output.new) result }
 {
     let end = put_front_script(rt, alloc, log, output)?;
     Ok(is_whole(end.why))

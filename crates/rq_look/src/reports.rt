@@ -1,26 +1,27 @@
 //! The report of a log, as text and as JSON.
 
-ghost use Rattle.std.specs.Prelude.{◌≡◌, ◌++◌, ℕ, List, false, codes, IfOk, IfErr, OnOk, string_bytes};
+ghost use Rattle.std.specs.Prelude.{◌≡◌, ◌<◌, ◌++◌, ℕ, List, false, codes, length, IfOk, IfErr, OnOk, string_bytes};
 ghost use Rattle.std.specs.Io.KnownBytes.{Appends};
 ghost use Rattle.rq_model.specs.Reports.{IsText};
-ghost use Rattle.rq_record.specs.declared.fault.Fault.TheVariants.{Resources};
+ghost use Rattle.rq_record.specs.declared.fault.Fault.TheVariants.{Resources, WriteFailed};
 ghost use Rattle.rq_front.specs.Chains.{IsLog};
 ghost use Rattle.rq_found.specs.Ends.{IsRestartFrom, beginning_text};
-ghost use Rattle.rq_look.specs.Looks.{AppendsLine, BreaksReport, HasQueue, LacksReport};
+ghost use Rattle.rq_found.specs.Refusals.{CountsFaults};
+ghost use Rattle.rq_found.specs.declared.trouble.Trouble.TheVariants.{Log};
+ghost use Rattle.rq_look.specs.Looks.{AppendsLine, BreaksReport, HasQueue, LacksReport, PutsQueue, PutsReport};
 ghost use Rattle.rq_look.specs.Looks.{PutsReportAs, StaysUnreported};
 
 use crate::json::{BytesShown, queue_number, spelled_out, written};
 use rq_found::{
-    End, FrontShown, RegistrantShown, ShownLog, Trouble, end_after, front_shown, put_beginning,
-    registrants_shown, restarted_from,
+    End, FrontShown, Output, OverWrite, RegistrantShown, ShownLog, Trouble, end_after, front_shown,
+    put_beginning, registrants_shown, restarted_from, write_bytes,
 };
 use rq_record::QueueNo;
-use rq_report::{OverWrite, free_elements, write_report_by};
+use rq_report::{free_elements, queue_report, write_report_by};
 use rq_restart::{Fault, Plan, Restarted};
 use rq_state::{Definition, KeptElement as Element, State};
 use serde::Serialize;
 use std::alloc::{AllocError, Global};
-use std::io::{self, Write};
 use std::thread::Threads;
 
 #[derive(Drop, Serialize)]
@@ -160,18 +161,20 @@ fn json_of(
 }
 
 // Writes the report of a restart as one value of JSON.
-fn put_json<W: Write>(
+fn put_json<W: Output>(
     alloc: Global,
     restarted: &Restarted,
     end: &End,
     wanted: Option<u32>,
     output: &mut W,
 ) -> Result<(), Trouble>
+    requires faults { W.faults output.old < 18446744073709551615 }
     ensures line { OnOk result (AppendsLine (W.contents output.old) (W.contents output.new)) }
     ensures refused { IfErr result (BreaksReport (W.contents output.old) (W.contents output.new)) }
+    ensures faults { CountsFaults (W.faults output.old) (W.faults output.new) result }
 {
     let text = json_of(alloc, restarted, end, wanted)?;
-    output.write_all(text.as_bytes())?;
+    write_bytes(output, text.as_bytes())?;
     Ok(())
 }
 
@@ -193,28 +196,6 @@ fn text_of<R: Threads + Sync>(
     }
 }
 
-// The lines from that of a queue up to that of the next.
-fn lines_of(text: &[u8], queue: u32) -> &[u8] {
-    let mut number: u64 = 0;
-    let mut from = None;
-    let mut at: usize = 0;
-    for line in text.split_inclusive(|b| *b == b'\n') {
-        if line.starts_with(b"queue ") {
-            if number == queue as u64 {
-                from = Some(at);
-            } else if number == queue as u64 + 1 {
-                break;
-            }
-            number = number.saturating_add(1);
-        }
-        at = at.saturating_add(line.len());
-    }
-    match from {
-        Some(from) => text.get(from..at).unwrap_or(&[]),
-        None => &[],
-    }
-}
-
 // The line that says with which checkpoint the log begins, if it was carried on.
 fn beginning_of(alloc: Global, at: Option<u64>) -> Result<String, AllocError>
     ensures { IfOk result (λ text. string_bytes text ≡ beginning_text at) }
@@ -225,18 +206,61 @@ fn beginning_of(alloc: Global, at: Option<u64>) -> Result<String, AllocError>
 }
 
 // Writes one text behind the other.
-fn put_both<W: Write>(first: &[u8], second: &[u8], output: &mut W) -> io::Result<()>
-    ensures { OnOk result
+fn put_both<W: Output>(first: &[u8], second: &[u8], output: &mut W) -> Result<(), Trouble>
+    requires faults { W.faults output.old < 18446744073709551615 }
+    ensures written { OnOk result
         (Appends (W.contents output.old) (W.contents output.new) (first.now ++ second.now)) }
+    ensures failed { IfErr result (λ e. e ≡ Log WriteFailed) }
+    ensures faults { CountsFaults (W.faults output.old) (W.faults output.new) result }
 {
-    output.write_all(first)?;
-    output.write_all(second)?;
+    write_bytes(output, first)?;
+    write_bytes(output, second)?;
+    Ok(())
+}
+
+// Writes the report of a restart as text.
+#[tactic(auto, using(crate::proofs::Puts::report_from))]
+fn put_whole<R: Threads + Sync, W: Output>(
+    rt: &R,
+    alloc: Global,
+    log: &ShownLog<'_>,
+    restarted: &Restarted,
+    output: &mut W,
+) -> Result<(), Trouble>
+    requires restart { IsRestartFrom log.now.at log.now.bytes.now restarted.now }
+    requires faults { W.faults output.old < 18446744073709551615 }
+    ensures report { OnOk result (PutsReport log.now.at log.now.bytes.now
+        (W.contents output.old) (W.contents output.new)) }
+    ensures refused { IfErr result (BreaksReport (W.contents output.old) (W.contents output.new)) }
+    ensures faults { CountsFaults (W.faults output.old) (W.faults output.new) result }
+{
+    let text = text_of(rt, alloc, restarted, log.plan)?;
+    let beginning = beginning_of(alloc, log.at)?;
+    put_both(beginning.as_bytes(), &text, output)?;
+    Ok(())
+}
+
+// Writes those lines of the report of a restart that are of one queue.
+fn put_queue<W: Output>(
+    alloc: Global,
+    restarted: &Restarted,
+    queue: u32,
+    output: &mut W,
+) -> Result<(), Trouble>
+    requires queue { queue < length restarted.now.state.definitions }
+    requires faults { W.faults output.old < 18446744073709551615 }
+    ensures queue { OnOk result (PutsQueue restarted.now queue
+        (W.contents output.old) (W.contents output.new)) }
+    ensures refused { IfErr result (BreaksReport (W.contents output.old) (W.contents output.new)) }
+    ensures faults { CountsFaults (W.faults output.old) (W.faults output.new) result }
+{
+    let text = queue_report(alloc, restarted.state(), queue)?;
+    write_bytes(output, text.as_bytes())?;
     Ok(())
 }
 
 // Writes the report of a restart as text, or those lines of it that are of the queue that is wanted.
-#[tactic(auto, using(crate::proofs::Puts::report_from))]
-fn put_text<R: Threads + Sync, W: Write>(
+fn put_text<R: Threads + Sync, W: Output>(
     rt: &R,
     alloc: Global,
     log: &ShownLog<'_>,
@@ -247,17 +271,16 @@ fn put_text<R: Threads + Sync, W: Write>(
     requires log { IsLog log.now.bytes.now }
     requires restart { IsRestartFrom log.now.at log.now.bytes.now restarted.now
         × HasQueue restarted.now wanted }
+    requires faults { W.faults output.old < 18446744073709551615 }
     ensures report { OnOk result (PutsReportAs false log.now.at log.now.bytes.now wanted
         (W.contents output.old) (W.contents output.new)) }
     ensures refused { IfErr result (BreaksReport (W.contents output.old) (W.contents output.new)) }
+    ensures faults { CountsFaults (W.faults output.old) (W.faults output.new) result }
 {
-    let text = text_of(rt, alloc, restarted, log.plan)?;
-    let beginning = beginning_of(alloc, log.at)?;
     match wanted {
-        Some(queue) => output.write_all(lines_of(&text, queue))?,
-        None => put_both(beginning.as_bytes(), &text, output)?,
+        Some(queue) => put_queue(alloc, restarted, queue, output),
+        None => put_whole(rt, alloc, log, restarted, output),
     }
-    Ok(())
 }
 
 /// Writes the report of a log: as text, with a first line that says with which checkpoint the log
@@ -265,9 +288,10 @@ fn put_text<R: Threads + Sync, W: Write>(
 /// value of JSON, whose front says so, with all queues or the one that is wanted.
 ///
 /// Refuses with `NoQueue` a queue that is not defined, and else what a restart from there refuses;
-/// with `Resources` where memory is refused, before anything is written, and with `Output` where the
-/// output fails.
-pub fn report<R: Threads + Sync, W: Write>(
+/// with `Resources` where memory is refused, before anything is written, and with `WriteFailed`
+/// where a write failed.
+#[tactic(auto, using(crate::proofs::Puts::lacking_unwritten))]
+pub fn report<R: Threads + Sync, W: Output>(
     rt: &R,
     alloc: Global,
     log: &ShownLog<'_>,
@@ -275,10 +299,12 @@ pub fn report<R: Threads + Sync, W: Write>(
     json: bool,
     output: &mut W,
 ) -> Result<(), Trouble>
+    requires faults { W.faults output.old < 18446744073709551615 }
     ensures report { OnOk result (PutsReportAs json log.now.at log.now.bytes.now wanted
         (W.contents output.old) (W.contents output.new)) }
     ensures refused { IfErr result (StaysUnreported log.now.at log.now.bytes.now wanted
         (W.contents output.old) (W.contents output.new)) }
+    ensures faults { CountsFaults (W.faults output.old) (W.faults output.new) result }
 {
     let restarted = restarted_with(rt, alloc, log, wanted)?;
     if json {

@@ -1,11 +1,11 @@
 //! The script of a damaged log, with what stands behind its front to choose from.
 
-ghost use Rattle.std.specs.Prelude.{◌≡◌, ℕ, List, false, IfErr, IfOk, OnOk, string_bytes};
+ghost use Rattle.std.specs.Prelude.{◌≡◌, ◌<◌, ℕ, List, false, IfErr, IfOk, OnOk, string_bytes};
 ghost use Rattle.std.specs.Io.KnownBytes.{Appends};
 ghost use Rattle.rq_record.specs.declared.fault.Fault.TheVariants.{Resources};
 ghost use Rattle.rq_judged.specs.Views.{why_of};
 ghost use Rattle.rq_found.specs.Ends as ends;
-ghost use Rattle.rq_found.specs.Refusals.{IsBroken};
+ghost use Rattle.rq_found.specs.Refusals.{CountsFaults, IsBroken};
 ghost use Rattle.rq_look.specs.Findings.{EndsWithin};
 ghost use Rattle.rq_look.specs.Looks.{AppendsSome, LacksScript};
 ghost use Rattle.rq_look.specs.Scripts.{IsChoice, PutsSalvage};
@@ -15,11 +15,10 @@ use crate::log_script::{is_untold, put_front_script, put_line};
 use crate::sheet::{relieve, write_out};
 use crate::shown_records::ShownFrame;
 use rq_behind::Found;
-use rq_found::{End, Put, ShownLog, Trouble, form_reason, is_whole, put_end};
+use rq_found::{End, Output, Put, ShownLog, Trouble, form_reason, is_whole, put_end};
 use rq_record::Fault;
 use std::alloc::{AllocError, Global};
 use std::fmt::Write;
-use std::io;
 use std::thread::Threads;
 
 /// With this the first line begins that a salvage has behind the script of the front.
@@ -73,7 +72,7 @@ fn put_gap(text: &mut String, from: usize, to: usize) -> Put {
 }
 
 /// Puts each frame that was found behind an offset, to choose it or not.
-pub(crate) fn put_spans<W: io::Write>(
+pub(crate) fn put_spans<W: Output>(
     alloc: Global,
     bytes: &[u8],
     found: &Found,
@@ -81,8 +80,10 @@ pub(crate) fn put_spans<W: io::Write>(
     text: &mut String,
     output: &mut W,
 ) -> Result<(), Trouble>
+    requires faults { W.faults output.old < 18446744073709551615 }
     ensures only { OnOk result (AppendsSome (W.contents output.old) (W.contents output.new)) }
     ensures refused { IfErr result IsBroken }
+    ensures faults { CountsFaults (W.faults output.old) (W.faults output.new) result }
 {
     let mut at = from;
     for span in found.spans.iter() {
@@ -121,16 +122,18 @@ pub(crate) fn words_of(alloc: Global, end: &End, found: &Found) -> Result<String
 }
 
 // Writes what stands behind the front: nothing if the front is the whole log.
-fn put_rest<W: io::Write>(
+fn put_rest<W: Output>(
     alloc: Global,
     bytes: &[u8],
     end: &End,
     output: &mut W,
 ) -> Result<(), Trouble>
-    requires { EndsWithin bytes.now end.now }
+    requires within { EndsWithin bytes.now end.now }
+    requires faults { W.faults output.old < 18446744073709551615 }
     ensures choice { OnOk result ((put : List ℕ) × IsChoice (ends.is_whole (why_of end.now.why)) put
         × Appends (W.contents output.old) (W.contents output.new) put) }
     ensures refused { IfErr result IsBroken }
+    ensures faults { CountsFaults (W.faults output.old) (W.faults output.new) result }
 {
     if is_whole(end.why) {
         return Ok(());
@@ -149,16 +152,18 @@ fn put_rest<W: io::Write>(
 ///
 /// Refuses what `script` refuses, and in the same way.
 #[tactic(auto, using(crate::proofs::Puts::nothing_untold, crate::proofs::Puts::broken_off))]
-pub fn salvage<R: Threads + Sync, W: io::Write>(
+pub fn salvage<R: Threads + Sync, W: Output>(
     rt: &R,
     alloc: Global,
     log: &ShownLog<'_>,
     output: &mut W,
 ) -> Result<(), Trouble>
+    requires faults { W.faults output.old < 18446744073709551615 }
     ensures told { OnOk result (PutsSalvage log.now.at log.now.bytes.now
         (W.contents output.old) (W.contents output.new)) }
     ensures refused { IfErr result (LacksScript log.now.at log.now.bytes.now
         (W.contents output.old) (W.contents output.new)) }
+    ensures faults { CountsFaults (W.faults output.old) (W.faults output.new) result }
 {
     let end = put_front_script(rt, alloc, log, output)?;
     put_rest(alloc, log.bytes, &end, output)?;

@@ -1,20 +1,19 @@
 //! What became of one element, and what one unit did.
 
-ghost use Rattle.std.specs.Prelude.{◌≡◌, [], IfOk, IfErr, OnOk, string_bytes};
+ghost use Rattle.std.specs.Prelude.{◌≡◌, ◌<◌, [], IfOk, IfErr, OnOk, string_bytes};
 ghost use Rattle.rq_front.specs.Chains.{IsLog};
-ghost use Rattle.rq_found.specs.Refusals.{IsBroken};
+ghost use Rattle.rq_found.specs.Refusals.{CountsFaults, IsBroken};
 ghost use Rattle.rq_look.specs.Looks.{AppendsSome, LacksStory, StaysWithoutStory};
 
 use crate::lines::put_record;
 use crate::sheet::{relieve, write_out};
 use crate::shown_records::{ShownRecord, unit_number};
 use rq_found::{
-    End, Event, FollowedQueues, Numbered, Placed, PlacedFrames, Put, ShownLog, Subject, Trouble,
-    end_of, first_state, front_frames, put_beginning, put_end,
+    End, Event, FollowedQueues, Numbered, Output, Placed, PlacedFrames, Put, ShownLog, Subject,
+    Trouble, end_of, first_state, front_frames, put_beginning, put_end,
 };
 use std::alloc::{AllocError, Global};
 use std::fmt::Write;
-use std::io;
 use std::thread::Threads;
 
 // Whether an event is of the subject; each event of a unit's record is.
@@ -82,7 +81,7 @@ fn put_events(
 }
 
 // Tells of a record of the front. Answers in how many lines.
-fn tell_record<W: io::Write>(
+fn tell_record<W: Output>(
     alloc: Global,
     placed: Placed<'_>,
     subject: Subject,
@@ -90,10 +89,12 @@ fn tell_record<W: io::Write>(
     text: &mut String,
     output: &mut W,
 ) -> Result<u64, Trouble>
+    requires faults { W.faults output.old < 18446744073709551615 }
     ensures only { OnOk result (AppendsSome (W.contents output.old) (W.contents output.new)) }
     ensures nothing { IfOk result (λ count. count ≡ 0 → string_bytes text.old ≡ []
         → (W.contents output.new ≡ W.contents output.old) × (string_bytes text.new ≡ [])) }
     ensures refused { IfErr result IsBroken }
+    ensures faults { CountsFaults (W.faults output.old) (W.faults output.new) result }
 {
     let it = machine.follow(placed)?;
     let count = put_events(alloc, text, &Cause::Record(&it), machine.events(), subject)?;
@@ -102,7 +103,7 @@ fn tell_record<W: io::Write>(
 }
 
 // Tells of each record of the front, which begins behind these queues. Answers in how many lines.
-fn tell_front<W: io::Write>(
+fn tell_front<W: Output>(
     alloc: Global,
     frames: PlacedFrames<'_>,
     machine: &mut FollowedQueues,
@@ -110,11 +111,13 @@ fn tell_front<W: io::Write>(
     text: &mut String,
     output: &mut W,
 ) -> Result<u64, Trouble>
+    requires faults { W.faults output.old < 18446744073709551615 }
     ensures only { OnOk result (AppendsSome (W.contents output.old) (W.contents output.new)) }
     ensures nothing { IfOk result
         (λ told. told ≡ 0 → string_bytes text.old ≡ []
         → W.contents output.new ≡ W.contents output.old) }
     ensures refused { IfErr result IsBroken }
+    ensures faults { CountsFaults (W.faults output.old) (W.faults output.new) result }
 {
     let mut told: u64 = 0;
     for placed in frames {
@@ -146,7 +149,7 @@ fn tell_restart(
 }
 
 // Tells of the front, which begins behind these queues, and of its end.
-fn tell_all<W: io::Write>(
+fn tell_all<W: Output>(
     alloc: Global,
     frames: PlacedFrames<'_>,
     machine: &mut FollowedQueues,
@@ -155,10 +158,12 @@ fn tell_all<W: io::Write>(
     text: &mut String,
     output: &mut W,
 ) -> Result<(), Trouble>
-    requires { string_bytes text.now ≡ [] }
+    requires nothing { string_bytes text.now ≡ [] }
+    requires faults { W.faults output.old < 18446744073709551615 }
     ensures only { OnOk result (AppendsSome (W.contents output.old) (W.contents output.new)) }
     ensures refused { IfErr result
         (LacksStory subject (W.contents output.old) (W.contents output.new)) }
+    ensures faults { CountsFaults (W.faults output.old) (W.faults output.new) result }
 {
     let told = tell_front(alloc, frames, machine, subject, text, output)?;
     if told == 0 {
@@ -171,16 +176,18 @@ fn tell_all<W: io::Write>(
     Ok(())
 }
 
-fn tell<W: io::Write>(
+fn tell<W: Output>(
     alloc: Global,
     bytes: &[u8],
     end: &End,
     subject: Subject,
     output: &mut W,
 ) -> Result<(), Trouble>
+    requires faults { W.faults output.old < 18446744073709551615 }
     ensures only { OnOk result (AppendsSome (W.contents output.old) (W.contents output.new)) }
     ensures refused { IfErr result
         (LacksStory subject (W.contents output.old) (W.contents output.new)) }
+    ensures faults { CountsFaults (W.faults output.old) (W.faults output.new) result }
 {
     let first = first_state(alloc, bytes, end.at)?;
     let mut machine = FollowedQueues::of(alloc, &first)?;
@@ -195,17 +202,20 @@ fn tell<W: io::Write>(
 ///
 /// Refuses with `Nothing` a subject of which there is nothing to tell, and then nothing is written;
 /// else as `dump` does.
-pub fn story<R: Threads + Sync, W: io::Write>(
+#[tactic(auto, using(rq_found::proofs::Writes::refused_unwritten))]
+pub fn story<R: Threads + Sync, W: Output>(
     rt: &R,
     alloc: Global,
     subject: Subject,
     log: &ShownLog<'_>,
     output: &mut W,
 ) -> Result<(), Trouble>
+    requires faults { W.faults output.old < 18446744073709551615 }
     ensures log { OnOk result (IsLog log.now.bytes.now) }
     ensures only { OnOk result (AppendsSome (W.contents output.old) (W.contents output.new)) }
     ensures refused { IfErr result (StaysWithoutStory log.now.at log.now.bytes.now subject
         (W.contents output.old) (W.contents output.new)) }
+    ensures faults { CountsFaults (W.faults output.old) (W.faults output.new) result }
 {
     let end = end_of(rt, alloc, log)?;
     tell(alloc, log.bytes, &end, subject, output)

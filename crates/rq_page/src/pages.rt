@@ -1,12 +1,12 @@
 //! A log as one page that a browser shows.
 
-ghost use Rattle.std.specs.Prelude.{ℕ, ◌≡◌, ◌++◌, ◌⊎◌, List, IfOk, IfErr, OnOk, string_bytes};
+ghost use Rattle.std.specs.Prelude.{ℕ, ◌≡◌, ◌<◌, ◌++◌, ◌⊎◌, List, IfOk, IfErr, OnOk, string_bytes};
 ghost use Rattle.std.specs.Io.KnownBytes.{Appends};
 ghost use Rattle.rq_model.specs.Fronts as fronts;
 ghost use Rattle.rq_record.specs.declared.fault.Fault.TheVariants.{Resources};
 ghost use Rattle.rq_front.specs.Chains.{IsLog};
 ghost use Rattle.rq_found.specs.Ends.{IsRestartFrom};
-ghost use Rattle.rq_found.specs.Refusals.{IsBroken, IsRefusal, StaysUnshown};
+ghost use Rattle.rq_found.specs.Refusals.{CountsFaults, IsBroken, IsRefusal, StaysUnshown};
 ghost use Rattle.rq_found.specs.declared.trouble.Trouble.TheVariants.{Log};
 ghost use Rattle.rq_page.specs.Markup.{page_foot, page_head};
 
@@ -21,12 +21,14 @@ use crate::surveys::{Survey, surveyed};
 use crate::tables::put_queue_table;
 use crate::units::put_open;
 use rq_behind::Found;
-use rq_found::{End, Put, ShownLog, Trouble, diagnosis_of, end_after, first_state, restarted_from};
+use rq_found::{
+    End, Output, Put, ShownLog, Trouble, diagnosis_of, end_after, first_state, restarted_from,
+    write_bytes,
+};
 use rq_look::{audited_from, may_have_right, standing_behind};
 use rq_restart::Restarted;
 use rq_state::State;
 use std::alloc::Global;
-use std::io::Write;
 use std::thread::Threads;
 
 /// In which order the queues of a page stand.
@@ -252,22 +254,24 @@ fn put_all(
     put_foot(text)
 }
 
-fn put_page<W: Write>(
+fn put_page<W: Output>(
     alloc: Global,
     bytes: &[u8],
     told: &PageContents,
     asked: &Asked<'_>,
     output: &mut W,
 ) -> Result<(), Trouble>
+    requires faults { W.faults output.old < 18446744073709551615 }
     ensures whole { OnOk result ((put : List ℕ)
         × Appends (W.contents output.old) (W.contents output.new)
         (page_head ++ (put ++ page_foot))) }
     ensures refused { IfErr result IsBroken }
+    ensures faults { CountsFaults (W.faults output.old) (W.faults output.new) result }
 {
     let mut text = String::new(alloc);
     put_all(alloc, &mut text, bytes, told, asked)?;
-    output.write_all(BEGINNING.as_bytes())?;
-    output.write_all(text.as_bytes())?;
+    write_bytes(output, BEGINNING.as_bytes())?;
+    write_bytes(output, text.as_bytes())?;
     Ok(())
 }
 
@@ -279,15 +283,17 @@ fn put_page<W: Write>(
 /// in memory, and its length is bounded whatever the log is.
 ///
 /// Refuses what a restart refuses, from there if there is an offset, and with `Resources` if memory
-/// is refused, and before anything is written; and with `Output` if the output fails, and then some
-/// of it may be written.
-pub fn page<R: Threads + Sync, W: Write>(
+/// is refused, and before anything is written; and with `WriteFailed` if a write failed, and then
+/// some of it may be written.
+#[tactic(auto, using(rq_found::proofs::Writes::refusal_unwritten))]
+pub fn page<R: Threads + Sync, W: Output>(
     rt: &R,
     alloc: Global,
     asked: &Asked<'_>,
     log: &ShownLog<'_>,
     output: &mut W,
 ) -> Result<(), Trouble>
+    requires faults { W.faults output.old < 18446744073709551615 }
     ensures log { OnOk result (IsLog log.now.bytes.now) }
     ensures restart { OnOk result
         ((r : fronts.Restarted) × IsRestartFrom log.now.at log.now.bytes.now r) }
@@ -296,6 +302,7 @@ pub fn page<R: Threads + Sync, W: Write>(
         (page_head ++ (put ++ page_foot))) }
     ensures refused { IfErr result (StaysUnshown log.now.at log.now.bytes.now
         (W.contents output.old) (W.contents output.new)) }
+    ensures faults { CountsFaults (W.faults output.old) (W.faults output.new) result }
 {
     let found = found_in(rt, alloc, log)?;
     let contents = contents_of(alloc, log.bytes, found, asked)?;

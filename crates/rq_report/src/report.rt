@@ -1,6 +1,6 @@
 //! The text of a report, whole, or in pieces that several workers make.
 
-ghost use Rattle.std.specs.Prelude.{◌≡◌, ◌<◌, ◌≤◌, ◌++◌, ◌==◌, ℕ, List, IfOk, OnOk, length, map};
+ghost use Rattle.std.specs.Prelude.{◌≡◌, ◌<◌, ◌≤◌, ◌+◌, ◌++◌, ◌==◌, ℕ, List, IfOk, OnOk, length, map};
 ghost use Rattle.std.specs.Prelude.{filter, slice_index_or, string_bytes};
 ghost use Rattle.std.specs.List.{flat_map};
 ghost use Rattle.std.specs.Thread.{IsSync};
@@ -108,6 +108,16 @@ fn one_piece(alloc: Global, state: &State, from: usize, to: usize) -> Result<Str
     let mut text = String::new(alloc);
     put_queues(alloc, &mut text, state, from, to)?;
     Ok(text)
+}
+
+/// The lines of one queue, as the report has them.
+pub fn queue_report(alloc: Global, state: &State, queue: u32) -> Result<String, AllocError>
+    requires { queue < length state.now.definitions }
+    ensures { IfOk result (λ text. AreLinesOf state.now queue (queue + 1) (string_bytes text)) }
+{
+    state.is_well_formed();
+    let from = queue as usize;
+    one_piece(alloc, state, from, from + 1)
 }
 
 // The lines of the queues from one of them up to another, in about this many pieces: each half of

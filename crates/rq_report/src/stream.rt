@@ -6,7 +6,7 @@ ghost use Rattle.std.specs.Io.KnownBytes.{WriteAppends, ReadConsumes};
 ghost use Rattle.rq_record.specs.declared.fault.Fault.TheVariants.{ReadFailed, WriteFailed};
 
 use rq_record::Fault;
-use std::io::{ErrorKind, Read, Write};
+use std::io::{self, ErrorKind, Read, Write};
 
 /// A source of bytes that counts its faults.
 pub trait Input {
@@ -56,11 +56,12 @@ pub type OverRead<R> = Over<R>;
 /// takes none of some bytes is a fault.
 pub type OverWrite<W> = Over<W>;
 
-/// A reader or a writer of std, with the count of its faults.
+/// A reader or a writer of std, with the count of its faults, and the error of the last.
 #[derive(Drop)]
 pub struct Over<T> {
     inner: T,
     faults: u64,
+    error: Option<io::Error>,
 }
 
 impl<T> Over<T> {
@@ -69,7 +70,20 @@ impl<T> Over<T> {
         ensures faults { result.faults ≡ 0 }
         ensures inner { result.inner ≡ inner }
     {
-        Over { inner, faults: 0 }
+        Over {
+            inner,
+            faults: 0,
+            error: None,
+        }
+    }
+
+    /// The error of the last fault, if there was one.
+    pub fn into_error(self) -> Option<io::Error>
+    where
+        T: Drop,
+        ensures { result ≡ self.error }
+    {
+        self.error
     }
 
     /// The reader, or the writer.
@@ -78,6 +92,11 @@ impl<T> Over<T> {
     {
         self.inner
     }
+}
+
+// The error of a write that takes none of some bytes, as `write_all` of std has it.
+fn taken_none() -> io::Error {
+    io::Error::new(ErrorKind::WriteZero, "failed to write whole buffer")
 }
 
 impl<R: Read> Input for Over<R> {
@@ -90,7 +109,10 @@ impl<R: Read> Input for Over<R> {
             match self.inner.read(piece) {
                 Ok(n) => return Ok(n),
                 Err(e) if e.kind() == ErrorKind::Interrupted => {}
-                Err(_) => break,
+                Err(e) => {
+                    self.error = Some(e);
+                    break;
+                }
             }
         }
         self.faults += 1;
@@ -107,8 +129,15 @@ impl<W: Write> Output for Over<W> {
         for _ in 0..u64::MAX {
             match self.inner.write(piece) {
                 Ok(n) if n > 0 || piece.is_empty() => return Ok(n),
+                Ok(_) => {
+                    self.error = Some(taken_none());
+                    break;
+                }
                 Err(e) if e.kind() == ErrorKind::Interrupted => {}
-                _ => break,
+                Err(e) => {
+                    self.error = Some(e);
+                    break;
+                }
             }
         }
         self.faults += 1;

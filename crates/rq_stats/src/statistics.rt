@@ -1,21 +1,22 @@
 //! Numbers of a log: as lines, and as JSON.
 
-ghost use Rattle.std.specs.Prelude.{◌≡◌, ◌++◌, ℕ, List, IfOk, IfErr, OnOk, codes, string_bytes};
+ghost use Rattle.std.specs.Prelude.{◌≡◌, ◌<◌, ◌++◌, ℕ, List, IfOk, IfErr, OnOk, codes, string_bytes};
 ghost use Rattle.rq_model.specs.Fronts as fronts;
 ghost use Rattle.rq_record.specs.declared.fault.Fault.TheVariants.{Resources};
 ghost use Rattle.rq_front.specs.Chains.{IsLog};
 ghost use Rattle.rq_judged.specs.FrontEnds.{IsEndOf};
 ghost use Rattle.rq_judged.specs.Views.{why_of};
 ghost use Rattle.rq_found.specs.Ends.{IsRestartFrom, beginning_text, end_text, front_end_of};
-ghost use Rattle.rq_found.specs.Refusals.{StaysUnshown};
+ghost use Rattle.rq_found.specs.Refusals.{CountsFaults, StaysUnshown};
 ghost use Rattle.rq_found.specs.declared.trouble.Trouble.TheVariants.{Log};
 ghost use Rattle.rq_stats.specs.Statistics.{AreNumbers, PutsNumbers};
 
 use crate::measures::{Measures, counted};
 use crate::shown::{StatisticsShown, lines_of, rows_of};
-use rq_found::{End, ShownLog, Trouble, end_of, front_shown, put_beginning, put_end};
+use rq_found::{
+    End, Output, ShownLog, Trouble, end_of, front_shown, put_beginning, put_end, write_bytes,
+};
 use std::alloc::{AllocError, Global};
-use std::io::Write;
 use std::thread::Threads;
 
 // All lines.
@@ -74,22 +75,25 @@ fn numbers_of(alloc: Global, log: &ShownLog<'_>, end: &End, json: bool) -> Resul
 /// was carried on.
 ///
 /// Refuses what a restart from there refuses; with `Resources` if memory is refused, before
-/// anything is written, and with `Output` if the output fails.
-pub fn stats<R: Threads + Sync, W: Write>(
+/// anything is written, and with `WriteFailed` if a write failed.
+#[tactic(auto, using(rq_found::proofs::Writes::refused_unwritten))]
+pub fn stats<R: Threads + Sync, W: Output>(
     rt: &R,
     alloc: Global,
     log: &ShownLog<'_>,
     json: bool,
     output: &mut W,
 ) -> Result<(), Trouble>
+    requires faults { W.faults output.old < 18446744073709551615 }
     ensures log { OnOk result (IsLog log.now.bytes.now) }
     ensures numbers { OnOk result (PutsNumbers log.now.at log.now.bytes.now json
         (W.contents output.old) (W.contents output.new)) }
     ensures refused { IfErr result (StaysUnshown log.now.at log.now.bytes.now
         (W.contents output.old) (W.contents output.new)) }
+    ensures faults { CountsFaults (W.faults output.old) (W.faults output.new) result }
 {
     let end = end_of(rt, alloc, log)?;
     let text = numbers_of(alloc, log, &end, json)?;
-    output.write_all(text.as_bytes())?;
+    write_bytes(output, text.as_bytes())?;
     Ok(())
 }

@@ -1,5 +1,8 @@
 //! What the program does for each of its commands.
 
+ghost use Rattle.std.specs.Prelude.{◌≡◌, ◌<◌, true};
+ghost use Rattle.rq_found.specs.Refusals.{failed_writes};
+
 use crate::failures::{Failure, FileTrouble, of_file};
 use crate::log_files::{read_log_file, typed_name};
 use crate::made_files::make_file;
@@ -8,10 +11,13 @@ use crate::narrow_lines::Narrow;
 use crate::progress::{Watch, Watched};
 use crate::words::{columns_asked, records_asked, subject_asked};
 use clap::ArgMatches;
-use rq_found::{Diagnosis, Fault, Plan, Seen, ShownLog, Trouble, begins_at, put_diagnosis};
+use rq_found::{
+    Diagnosis, Fault, Output, OverWrite, Plan, Seen, ShownLog, Trouble, begins_at, put_diagnosis,
+    write_bytes,
+};
 use rq_look::Findings;
 use std::alloc::{AllocError, Global};
-use std::io::{self, ErrorKind, Write};
+use std::io::{self, ErrorKind};
 use std::os::fd::AsFd;
 use std::rt::{Clock, Files};
 use std::thread::Threads;
@@ -35,15 +41,6 @@ fn plan_of(words: &ArgMatches<'_>) -> Option<Plan> {
     Plan::new(words.get_one::<u32>("workers")?, GRAIN)
 }
 
-// Prints what a check found. It was found before it is written, also if nobody reads on.
-fn print_found<W: Write>(text: &str, output: &mut W) -> Result<(), Trouble> {
-    match output.write_all(text.as_bytes()) {
-        Ok(()) => Ok(()),
-        Err(error) if error.kind() == ErrorKind::BrokenPipe => Ok(()),
-        Err(error) => Err(Trouble::from(error)),
-    }
-}
-
 // The last line of a check: its verdict, and what to type next.
 fn verdict_line(alloc: Global, file: &str, diagnosis: Diagnosis) -> Result<String, AllocError> {
     let seen = Seen(typed_name(file));
@@ -55,21 +52,24 @@ fn verdict_line(alloc: Global, file: &str, diagnosis: Diagnosis) -> Result<Strin
 }
 
 /// Whether a log is refused that was carried on, since no checkpoint with which it begins is right.
-pub(crate) fn is_frontless(log: &ShownLog<'_>, trouble: &Trouble) -> bool {
-    let is_refused = matches!(
-        trouble,
-        Trouble::Log(Fault::NoCheckpoint) | Trouble::Log(Fault::BadCheckpoint)
-    );
-    log.at.is_some() && is_refused
+pub(crate) fn is_frontless(log: &ShownLog<'_>, trouble: &Trouble) -> bool
+    ensures { result ≡ true → failed_writes trouble.now ≡ 0 }
+{
+    match trouble {
+        Trouble::Log(Fault::NoCheckpoint) | Trouble::Log(Fault::BadCheckpoint) => log.at.is_some(),
+        _ => false,
+    }
 }
 
 // Prints a line for each record that is wanted; of a carried log without a front, for each right frame,
 // if what stands behind a front is wanted.
-fn dump<R: AllocGlobal + Threads + Sync, W: Write>(
+fn dump<R: AllocGlobal + Threads + Sync, W: Output>(
     rt: &R,
     asked: &Request<'_, '_>,
     output: &mut W,
-) -> Result<(), Trouble> {
+) -> Result<(), Trouble>
+    requires faults { W.faults output.old < 18446744073709551615 }
+{
     let wanted = records_asked(asked.words);
     match rq_look::dump(rt, rt.alloc(), &asked.log, &wanted, output) {
         Err(trouble) if wanted.behind && is_frontless(&asked.log, &trouble) => {
@@ -90,19 +90,23 @@ pub(crate) fn found_of<R: AllocGlobal + Threads + Sync>(
     }
 }
 
-// Prints what a check finds, unless it is to say nothing. Answers whether it finds nothing.
-fn check<R: AllocGlobal + Threads + Sync, W: Write>(
+// Prints what a check finds, unless it is to say nothing. Whether it finds nothing is known before.
+fn check<R: AllocGlobal + Threads + Sync, W: Output>(
     rt: &R,
     asked: &Request<'_, '_>,
+    fine: &mut bool,
     output: &mut W,
-) -> Result<bool, Trouble> {
+) -> Result<(), Trouble>
+    requires faults { W.faults output.old < 18446744073709551615 }
+{
     let found = found_of(rt, &asked.log)?;
+    *fine = found.fine;
     if !asked.words.get_flag("quiet") {
         let verdict = verdict_line(rt.alloc(), asked.file, found.diagnosis)?;
-        print_found(found.text.as_str(), output)?;
-        print_found(verdict.as_str(), output)?;
+        write_bytes(output, found.text.as_bytes())?;
+        write_bytes(output, verdict.as_bytes())?;
     }
-    Ok(found.fine)
+    Ok(())
 }
 
 // Tells how long a megabyte of the log took, if there is a clock.
@@ -114,11 +118,13 @@ fn tell_time<R: Eprint + Clock>(rt: &R, bytes: &[u8], begun: Option<Instant>) {
     let _ = eprintln!(rt; "rqlook: {each} microseconds for a megabyte");
 }
 
-fn stats<R: Eprint + Clock + AllocGlobal + Threads + Sync, W: Write>(
+fn stats<R: Eprint + Clock + AllocGlobal + Threads + Sync, W: Output>(
     rt: &R,
     asked: &Request<'_, '_>,
     output: &mut W,
-) -> Result<(), Trouble> {
+) -> Result<(), Trouble>
+    requires faults { W.faults output.old < 18446744073709551615 }
+{
     let begun = if asked.words.get_flag("time") {
         Instant::now(rt).ok()
     } else {
@@ -130,30 +136,35 @@ fn stats<R: Eprint + Clock + AllocGlobal + Threads + Sync, W: Write>(
     Ok(())
 }
 
-// Prints what a command shows. False answers that something is wrong with the log.
-fn perform<R: Eprint + Clock + AllocGlobal + Threads + Sync, W: Write>(
+// Prints what a command shows. `fine` is then false if something is wrong with the log.
+fn perform<R: Eprint + Clock + AllocGlobal + Threads + Sync, W: Output>(
     rt: &R,
     asked: &Request<'_, '_>,
+    fine: &mut bool,
     output: &mut W,
-) -> Result<bool, Trouble> {
+) -> Result<(), Trouble>
+    requires faults { W.faults output.old < 18446744073709551615 }
+{
     let (alloc, log, words) = (rt.alloc(), &asked.log, asked.words);
     match asked.name {
-        "check" => return check(rt, asked, output),
-        "script" => return rq_look::script(rt, alloc, log, output),
-        "dump" => dump(rt, asked, output)?,
+        "check" => check(rt, asked, fine, output),
+        "script" => {
+            *fine = rq_look::script(rt, alloc, log, output)?;
+            Ok(())
+        }
+        "dump" => dump(rt, asked, output),
         "report" => {
             let (queue, json) = (words.get_one::<u32>("queue"), words.get_flag("json"));
-            rq_look::report(rt, alloc, log, queue, json, output)?
+            rq_look::report(rt, alloc, log, queue, json, output)
         }
-        "stats" => stats(rt, asked, output)?,
-        _ => rq_look::story(rt, alloc, subject_asked(words), log, output)?,
+        "stats" => stats(rt, asked, output),
+        _ => rq_look::story(rt, alloc, subject_asked(words), log, output),
     }
-    Ok(true)
 }
 
 // Prints what a command shows on standard output. The lines of a script are not cut; and only what may
 // be as long as the log tells how far it is.
-fn print_shown<R>(rt: &R, asked: &Request<'_, '_>, watch: Watch) -> Result<bool, Trouble>
+fn print_shown<R>(rt: &R, asked: &Request<'_, '_>, watch: Watch) -> Result<bool, Failure>
 where
     R: Print + Eprint + Clock + AllocGlobal + Threads + Sync,
 {
@@ -166,8 +177,17 @@ where
         _ => watch.of_nothing(),
     };
     let watched = Watched::new(rt, io::writer(rt), watch, "written");
-    let mut output = Narrow::new(rt.alloc(), watched, columns);
-    perform(rt, asked, &mut output)
+    let mut output = OverWrite::new(Narrow::new(rt.alloc(), watched, columns));
+    let mut fine = true;
+    let Err(trouble) = perform(rt, asked, &mut fine, &mut output) else {
+        return Ok(fine);
+    };
+    match output.into_error() {
+        None => Err(of_file(rt, asked.file, FileTrouble::Refused(trouble))),
+        // What was found is told, also if nobody reads on.
+        Some(error) if error.kind() == ErrorKind::BrokenPipe => Ok(fine),
+        Some(error) => Err(Failure::Output(error)),
+    }
 }
 
 // Does the command of these words on the log.
@@ -192,10 +212,7 @@ where
     if let Some(to) = words.get_str("OUT") {
         return make_file(rt, &asked, to);
     }
-    match print_shown(rt, &asked, watch) {
-        Ok(fine) => Ok(fine),
-        Err(trouble) => Err(of_file(rt, file, FileTrouble::Refused(trouble))),
-    }
+    print_shown(rt, &asked, watch)
 }
 
 // The file that the log is in.

@@ -116,7 +116,6 @@ fn tell_file(rt: &HostRuntime, file: &str, trouble: &FileTrouble) -> u8 {
             let _ = eprintln!(rt; "rqlook: {name}: {error}");
             STREAM
         }
-        FileTrouble::Refused(Trouble::Output(error)) => output_failed(rt, error),
         FileTrouble::Refused(trouble) => {
             let _ = eprintln!(rt; "rqlook: {name}: {trouble}");
             match trouble {

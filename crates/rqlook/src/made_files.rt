@@ -1,11 +1,13 @@
 //! The files that the program makes of a log.
 
+ghost use Rattle.std.specs.Prelude.{◌<◌};
+
 use crate::acts::{Request, is_frontless};
 use crate::failures::{Failure, FileTrouble, of_file};
 use crate::log_files::{is_over_log, shown_name, typed_name};
 use crate::words::{numbers_asked, order_asked};
 use rq_file::{Replaces, VERSION, expect_replaceable, put_over};
-use rq_found::{Fault, Trouble};
+use rq_found::{Fault, Output, OverWrite, Trouble};
 use rq_look::REMARK;
 use rq_page::{Asked, BEGINNING};
 use std::io::{self, ErrorKind};
@@ -13,12 +15,14 @@ use std::os::fd::AsFd;
 use std::rt::Files;
 use std::thread::Threads;
 
-// Puts the page that the words ask for of a log into memory.
-fn put_page<R: AllocGlobal + Threads + Sync>(
+// Puts the page that the words ask for of a log.
+fn put_page<R: AllocGlobal + Threads + Sync, W: Output>(
     rt: &R,
     asked: &Request<'_, '_>,
-    made: &mut Vec<u8>,
-) -> Result<(), Trouble> {
+    made: &mut W,
+) -> Result<(), Trouble>
+    requires faults { W.faults made.old < 18446744073709551615 }
+{
     let elements = numbers_asked(rt.alloc(), asked.words, "element")?;
     let units = numbers_asked(rt.alloc(), asked.words, "unit")?;
     let page = Asked {
@@ -32,13 +36,15 @@ fn put_page<R: AllocGlobal + Threads + Sync>(
     rq_page::page(rt, rt.alloc(), &page, &asked.log, made)
 }
 
-// Puts the script of a log into memory, with what stands behind its front; of a carried log without a
-// front, with what is right in it.
-fn salvage<R: AllocGlobal + Threads + Sync>(
+// Puts the script of a log, with what stands behind its front; of a carried log without a front, with
+// what is right in it.
+fn salvage<R: AllocGlobal + Threads + Sync, W: Output>(
     rt: &R,
     asked: &Request<'_, '_>,
-    made: &mut Vec<u8>,
-) -> Result<(), Trouble> {
+    made: &mut W,
+) -> Result<(), Trouble>
+    requires faults { W.faults made.old < 18446744073709551615 }
+{
     match rq_look::salvage(rt, rt.alloc(), &asked.log, made) {
         Err(trouble) if is_frontless(&asked.log, &trouble) => {
             rq_look::salvage_frontless(rt.alloc(), &asked.log, made)
@@ -47,20 +53,21 @@ fn salvage<R: AllocGlobal + Threads + Sync>(
     }
 }
 
-// Puts the page of a log, or its script with what stands behind its front, into memory.
-fn put_made<R: AllocGlobal + Threads + Sync>(
+// Makes the page of a log, or its script with what stands behind its front, in memory.
+fn made_of<R: AllocGlobal + Threads + Sync>(
     rt: &R,
     asked: &Request<'_, '_>,
-    made: &mut Vec<u8>,
-) -> Result<(), Trouble> {
+) -> Result<Vec<u8>, Trouble> {
+    let mut made = OverWrite::new(Vec::new(rt.alloc()));
     let done = match asked.name {
-        "page" => put_page(rt, asked, made),
-        _ => salvage(rt, asked, made),
+        "page" => put_page(rt, asked, &mut made),
+        _ => salvage(rt, asked, &mut made),
     };
     match done {
+        Ok(()) => Ok(made.into_inner()),
         // A write into memory fails for want of it alone.
-        Err(Trouble::Output(_)) => Err(Trouble::Log(Fault::Resources)),
-        done => done,
+        Err(Trouble::Log(Fault::WriteFailed)) => Err(Trouble::Log(Fault::Resources)),
+        Err(trouble) => Err(trouble),
     }
 }
 
@@ -129,9 +136,8 @@ where
     }
     let rule = replaced_by(asked);
     expect_place(rt, to, &rule)?;
-    let mut made = Vec::new(rt.alloc());
-    match put_made(rt, asked, &mut made) {
-        Ok(()) => write_made(rt, to, &[&made], &rule),
+    match made_of(rt, asked) {
+        Ok(made) => write_made(rt, to, &[&made], &rule),
         Err(trouble) => Err(of_file(rt, asked.file, FileTrouble::Refused(trouble))),
     }
 }

@@ -1,5 +1,8 @@
+use Rattle.std.proofs.Common.{◌≡◌}
 use Rattle.rq_look.specs.Looks.{AppendsSome}
 use Rattle.rq_look.proofs.dumps.put_frames.Given as goal
 
+-- some text is written so far, and no write failed
 abbrev pub invariant-loop-span : goal.invariant-loop-span
-invariant-loop-span g l = AppendsSome (g.W.Write.contents l.fn.output) (g.W.Write.contents l.output)
+invariant-loop-span g l = AppendsSome (g.W.Output.contents l.fn.output) (g.W.Output.contents l.output)
+    × (g.W.Output.faults l.output ≡ g.W.Output.faults l.fn.output)

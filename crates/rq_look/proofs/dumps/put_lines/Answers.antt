@@ -5,8 +5,8 @@ use Rattle.rq_look.proofs.dumps.put_lines.Goals as goal
 
 pub returns-clause-last : goal.returns-clause-last
 returns-clause-last g c =
-    let held = g.W.Write.contents in
-    let end = c.requires in
+    let held = g.W.Output.contents in
+    let end = c.requires.end in
     let front = c.in_ok-left.ensures.only in
     let behind = c.in_ok-put_wanted_behind.ensures.only in
     let records = both_put (held c.args.output.now) (held c.put_records.new.output)
@@ -17,10 +17,10 @@ returns-clause-last g c =
       closing.0,
       closing.1,
       put_last (held c.args.output.now) (held c.put_wanted_behind.new.output)
-          (held c.write_out.new.output) records.0 text closing.0 _ records.1 c.in_ok-write_out.ensures.0 closing.2,
+          (held c.write_out.new.output) records.0 text closing.0 _ records.1 c.in_ok-write_out.ensures.written.0 closing.2,
     )
 
-pub put_wanted_behind-requires : goal.put_wanted_behind-requires
-put_wanted_behind-requires g c =
-    let end = c.requires in
+pub put_wanted_behind-requires-clause-within : goal.put_wanted_behind-requires-clause-within
+put_wanted_behind-requires-clause-within g c =
+    let end = c.requires.end in
     ends_within c.args.log.now.at c.args.log.now.bytes.now end.0 c.args.end.now end.1 end.2

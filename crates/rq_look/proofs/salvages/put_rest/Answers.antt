@@ -9,17 +9,17 @@ returns-then-is_whole-clause-choice g c =
     let whole = sym c.is_whole.ensures ∙ c.if-is_whole.true in (
       [],
       subst (λ (w : Bool). IsChoice w []) (sym whole) refl,
-      Appends-nil (g.W.Write.contents c.args.output.now),
+      Appends-nil (g.W.Output.contents c.args.output.now),
     )
 
 pub returns-clause-choice : goal.returns-clause-choice
 returns-clause-choice g c =
-    let held = g.W.Write.contents in
+    let held = g.W.Output.contents in
     let text = string_bytes c.in_ok-words.words in
     let spans = c.in_ok-put_spans.ensures.only in
     let damaged = sym c.is_whole.ensures ∙ c.if-is_whole.false in (
       text ++ spans.0,
       subst (λ (w : Bool). IsChoice w (text ++ spans.0)) (sym damaged) (choice_goes_on text spans.0 c.in_ok-words.ensures),
       Appends-trans (held c.args.output.now) (held c.write_out.new.output) (held c.put_spans.new.output) text spans.0
-          c.in_ok-write_out.ensures.0 spans.1,
+          c.in_ok-write_out.ensures.written.0 spans.1,
     )

@@ -6,14 +6,14 @@ use Rattle.rq_look.specs.Scripts.{IsChoice}
 use Rattle.rq_look.proofs.FrontEnds.{ends_within}
 use Rattle.rq_look.proofs.salvages.salvage.Goals as goal
 
-pub put_rest-requires : goal.put_rest-requires
-put_rest-requires g c =
+pub put_rest-requires-clause-within : goal.put_rest-requires-clause-within
+put_rest-requires-clause-within g c =
     let end = c.in_ok-end.ensures.end in
     ends_within c.args.log.now.at c.args.log.now.bytes.now end.0 c.in_ok-end.end end.1 end.2
 
 pub returns-clause-told : goal.returns-clause-told
 returns-clause-told g c =
-    let held = g.W.Write.contents in
+    let held = g.W.Output.contents in
     let end = c.in_ok-end.ensures.end in
     let script = c.in_ok-end.ensures.script in
     let choice = c.in_ok-put_rest.ensures.choice in (

@@ -6,12 +6,12 @@ use Rattle.rq_page.proofs.pages.put_page.Goals as goal
 
 pub returns-clause-whole : goal.returns-clause-whole
 returns-clause-whole g c =
-    let old = g.W.Write.contents c.args.output.now in
-    let mid = g.W.Write.contents c.write_all.new.self in
-    let new = g.W.Write.contents c.write_all-2.new.self in
+    let old = g.W.Output.contents c.args.output.now in
+    let mid = g.W.Output.contents c.write_bytes.new.output in
+    let new = g.W.Output.contents c.write_bytes-2.new.output in
     let put = c.in_ok-put_all.ensures in (
       put.0,
       Appends-trans old mid new page_head (put.0 ++ page_foot)
-          (subst (λ (t : List ℕ). Appends old mid t) c.as_bytes.ensures.value c.in_ok-write_all.ensures.bytes)
-          (subst (λ (t : List ℕ). Appends mid new t) (c.as_bytes-2.ensures.value ∙ put.1) c.in_ok-write_all-2.ensures.bytes),
+          (subst (λ (t : List ℕ). Appends old mid t) c.as_bytes.ensures.value c.in_ok-write_bytes.ensures.written)
+          (subst (λ (t : List ℕ). Appends mid new t) (c.as_bytes-2.ensures.value ∙ put.1) c.in_ok-write_bytes-2.ensures.written),
     )
