@@ -2,7 +2,7 @@
 
 ghost use Rattle.std.specs.Prelude.{◌<◌};
 
-use super::{CHECKPOINT, ONE_ELEMENT, log_of};
+use super::{CHECKPOINT, ONE_ELEMENT, answer, log_of};
 use rq_catalog::{Outcome, analyse_kept};
 use rq_front::{Chain, Rest, chain, frame};
 use rq_queue::Part;
@@ -185,26 +185,22 @@ fn a_report_is_made_from_a_checkpoint(rt: HostRuntime) -> Result<(), Fail> {
 }
 
 #[test]
-fn lines_of_version_2_are_read(rt: HostRuntime) {
-    let made = command(&["make2", "a", "b"]);
-    assert!(rt;
-        matches!(
-            made,
-            Some(Command::Make2 {
-                script: "a",
-                log: "b"
-            })
-        )
-    );
-    let upgraded = command(&["upgrade", "a", "b", "3"]);
-    assert!(rt;
-        matches!(
-            upgraded,
-            Some(Command::Upgrade {
-                log: "a",
-                out: "b",
-                ..
-            })
-        )
-    );
+fn a_log_is_made_and_upgraded_to_version_2(rt: HostRuntime) -> Result<(), Fail> {
+    assert!(rt; command(&["make2", "script", "log"]).is_some());
+    let make = Command::Make2 {
+        script: "script",
+        log: "log",
+    };
+    let (done, made) = answer(&rt, &make, ONE_ELEMENT, Vec::new(rt.alloc()), &Open);
+    assert!(rt; done.is_ok() && made.get(7) == Some(&2));
+    let plan = Plan::new(2, 1).ok_or("plan")?;
+    let upgrade = Command::Upgrade {
+        log: "log",
+        out: "out",
+        plan,
+    };
+    let log = log_of(&rt, ONE_ELEMENT)?;
+    let (done, upgraded) = answer(&rt, &upgrade, &log, Vec::new(rt.alloc()), &Open);
+    assert!(rt; done.is_ok() && upgraded == made);
+    Ok(())
 }
