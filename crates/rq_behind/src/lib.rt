@@ -21,5 +21,5 @@ pub use changes::Change;
 pub use efforts::Untried;
 pub use mended_files::mend;
 pub use mended_logs::Mended;
-pub use scan::{SCANNED_LEN, Scan, first_record};
+pub use scan::{Scan, first_record};
 pub use search::{Found, behind};

@@ -8,8 +8,8 @@ use crate::places::spend;
 use crate::runs::{judge, likely_end};
 use rq_record::Version;
 
-/// The most bytes of a frame that is looked for at each place. Only that of a checkpoint has more.
-pub const SCANNED_LEN: usize = 1_048_576;
+// The most bytes of a frame that is looked for at each place. Only that of a checkpoint has more.
+const SCANNED_LEN: usize = 1_048_576;
 
 // How many times the bytes may be looked at in vain, and how many bytes more, which counts where few
 // stand there.

@@ -22,11 +22,8 @@ mod rooms;
 mod shelves;
 mod whose;
 
-pub use elements::Elements;
-pub use lent::{Lent, LentElement, LentNote};
-pub use moves::{KeptMove, Move, MoveOf};
-pub use notes::Notes;
-pub use operations::{AnyRecord, KeptOp, KeptOps, Op, OpOf};
+pub use lent::{LentElement, LentNote};
+pub use moves::{KeptMove, Move};
+pub use operations::{KeptOp, KeptOps, Op};
 pub use part::Part;
-pub use places::{file, unfiled};
 pub use queue_redo::{redo, redo_kept};

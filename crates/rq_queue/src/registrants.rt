@@ -17,9 +17,7 @@ use crate::kept_last::KeptLast;
 use crate::kept_note::KeptNote;
 use crate::rooms::room_after;
 use rq_record::{Fault, KeptName, Name, QueueNo, UnitNo};
-use rq_state::{
-    Compared, KeptRegistrant, Registrant, SHORTEST_REGISTRANT, State, told_registrants,
-};
+use rq_state::{Compared, KeptRegistrant, Registrant, State, told_registrants};
 use std::alloc::Global;
 use std::collections::BTreeMap;
 use std::marker::Model;
@@ -141,7 +139,7 @@ impl Registrants {
     pub(crate) fn room_left(&self, room: u64) -> Option<u64>
         ensures { SomeIff result (6 * length self.now ≤ room) (room - 6 * length self.now) }
     {
-        room_after(room, SHORTEST_REGISTRANT, self.count())
+        room_after(room, KeptRegistrant::SHORTEST, self.count())
     }
 
     /// Registers a name, unless it is registered.

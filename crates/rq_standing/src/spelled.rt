@@ -18,7 +18,7 @@ ghost use Rattle.rq_standing.specs.Stands.{HoldsState};
 use crate::queues::Queues;
 use rq_queue::{LentElement, LentNote, Part};
 use rq_record::Fault;
-use rq_state::{Compared, SHORTEST_DEFINITION, SHORTEST_STATE, SHORTEST_UNIT, compare_all, order};
+use rq_state::{Compared, Definition, State, compare_all, order};
 use std::alloc::Global;
 
 /// How many registrants the parts have.
@@ -111,9 +111,9 @@ impl Queues {
             → result ≡ nat_le (least_bytes t) len }
     {
         rq_state::parts_make_the_state();
-        let lists = SHORTEST_STATE as u128
-            + SHORTEST_DEFINITION as u128 * self.definitions.len() as u128
-            + SHORTEST_UNIT as u128 * self.units.count() as u128;
+        let lists = State::SHORTEST as u128
+            + Definition::SHORTEST as u128 * self.definitions.len() as u128
+            + State::UNIT as u128 * self.units.count() as u128;
         lists <= len as u128 && parts_fit(&self.parts, (len as u128 - lists) as u64)
     }
 

@@ -19,16 +19,10 @@ use crate::fields::KeptFields;
 use crate::state::State;
 use crate::writers::lists::{put_all, put_units};
 use crate::writers::sizes::fields_len;
-pub use crate::writers::sizes::{
-    SHORTEST_DEFINITION, SHORTEST_ELEMENT, SHORTEST_NOTE, SHORTEST_REGISTRANT, SHORTEST_STATE,
-    SHORTEST_UNIT, spelled_len,
-};
+pub use crate::writers::sizes::spelled_len;
 use rq_bytes::put_u64;
-use rq_record::Fault;
+use rq_record::{CheckBytes, Fault};
 use std::alloc::{AllocError, Global};
-
-// The greatest length of a spelling, as a checkpoint record holds it after its kind.
-const BOUND: u128 = 268_435_455;
 
 /// The bytes of a checkpoint of this state, at most 268,435,455: four counts, then definitions by
 /// number, open units rising, registrants by queue and name, elements by id and notes by place,
@@ -48,7 +42,7 @@ fn spell_fields(alloc: Global, fields: &KeptFields) -> Result<Vec<u8>, Fault>
     ensures { Spelled (state_of fields.now) result }
 {
     let size = fields_len(fields);
-    if size > BOUND {
+    if size > CheckBytes::LIMIT as u128 {
         return Err(Fault::TooLarge);
     }
     let mut out = Vec::with_capacity(alloc, size as usize)?;

@@ -12,9 +12,7 @@ use crate::kept_element::KeptElement;
 use crate::kept_registrant::KeptRegistrant;
 use crate::members::{Definition, Last, Mark, Note};
 use crate::writers::output::{put_id, put_kind, put_name, put_payload};
-use crate::writers::sizes::{
-    SHORTEST_DEFINITION, SHORTEST_ELEMENT, SHORTEST_NOTE, SHORTEST_REGISTRANT, last_size, mark_size,
-};
+use crate::writers::sizes::{last_size, mark_size};
 use rq_bytes::{put_u8, put_u16, put_u32, put_u64};
 use std::alloc::AllocError;
 
@@ -123,7 +121,7 @@ impl Spell for Definition {
     }
 
     fn size(&self) -> u32 {
-        SHORTEST_DEFINITION + self.name.bytes().len() as u32
+        Definition::SHORTEST + self.name.bytes().len() as u32
     }
 }
 
@@ -137,7 +135,7 @@ impl Spell for KeptRegistrant {
     }
 
     fn size(&self) -> u32 {
-        SHORTEST_REGISTRANT - 1 + self.name().bytes().len() as u32 + last_size(self.last())
+        KeptRegistrant::SHORTEST - 1 + self.name().bytes().len() as u32 + last_size(self.last())
     }
 }
 
@@ -152,7 +150,7 @@ impl Spell for KeptElement {
     }
 
     fn size(&self) -> u32 {
-        SHORTEST_ELEMENT - 1 + mark_size(self.mark) + self.payload.bytes().len() as u32
+        KeptElement::SHORTEST - 1 + mark_size(self.mark) + self.payload.bytes().len() as u32
     }
 }
 
@@ -167,6 +165,6 @@ impl Spell for Note {
     }
 
     fn size(&self) -> u32 {
-        SHORTEST_NOTE + self.name.bytes().len() as u32
+        Note::SHORTEST + self.name.bytes().len() as u32
     }
 }

@@ -8,23 +8,40 @@ ghost use Rattle.rq_state.specs.Inside.{state_of};
 ghost use Rattle.rq_state.specs.Views.{mark_of, unit_of};
 
 use crate::fields::KeptFields;
-use crate::members::{Last, Mark};
+use crate::kept_element::KeptElement;
+use crate::kept_registrant::KeptRegistrant;
+use crate::members::{Definition, Last, Mark, Note};
 use crate::state::State;
 use crate::writers::members::Spell;
 use rq_record::UnitNo;
 
-/// The bytes of a definition without a name, the fewest that one takes.
-pub const SHORTEST_DEFINITION: u32 = 7;
-/// The bytes of an open unit.
-pub const SHORTEST_UNIT: u32 = 8;
-/// The bytes of a registrant who has no name and did nothing, the fewest that one takes.
-pub const SHORTEST_REGISTRANT: u32 = 6;
-/// The bytes of a Free element without a payload, the fewest that one takes.
-pub const SHORTEST_ELEMENT: u32 = 28;
-/// The bytes of a note without a name, the fewest that one takes.
-pub const SHORTEST_NOTE: u32 = 38;
-/// The bytes of a state without members: four numbers of 8 bytes and five counts of 4.
-pub const SHORTEST_STATE: u32 = 52;
+impl Definition {
+    /// The bytes of one without a name, the fewest that one takes.
+    pub const SHORTEST: u32 = 7;
+}
+
+impl KeptRegistrant {
+    /// The bytes of one who has no name and did nothing, the fewest that one takes.
+    pub const SHORTEST: u32 = 6;
+}
+
+impl KeptElement {
+    /// The bytes of a Free one without a payload, the fewest that one takes.
+    pub const SHORTEST: u32 = 28;
+}
+
+impl Note {
+    /// The bytes of one without a name, the fewest that one takes.
+    pub const SHORTEST: u32 = 38;
+}
+
+impl State {
+    /// The bytes of one without members: four numbers of 8 bytes and five counts of 4.
+    pub const SHORTEST: u32 = 52;
+
+    /// The bytes of an open unit.
+    pub const UNIT: u32 = 8;
+}
 
 /// How many bytes spell what a registrant did last.
 pub(crate) fn last_size(last: Option<&Last>) -> u32
@@ -63,7 +80,7 @@ fn units_size(members: &[UnitNo]) -> u128
     ensures size { result ≡ length (flat_map (to_be_bytes w64) (map unit_of members.now)) }
     ensures small { result ≤ 8 * length members.now }
 {
-    SHORTEST_UNIT as u128 * members.len() as u128
+    State::UNIT as u128 * members.len() as u128
 }
 
 /// The number of bytes that spell a state, also if they are more than a checkpoint holds. It takes
@@ -78,7 +95,7 @@ pub fn spelled_len(state: &State) -> u128
 pub(crate) fn fields_len(fields: &KeptFields) -> u128
     ensures { result ≡ length (state_bytes (state_of fields.now)) }
 {
-    SHORTEST_STATE as u128
+    State::SHORTEST as u128
         + size_of_all(&fields.definitions)
         + units_size(&fields.units)
         + size_of_all(&fields.registrants)
