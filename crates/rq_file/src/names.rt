@@ -56,7 +56,7 @@ pub(crate) fn is_under<R: Files>(rt: &R, file: &R::File, name: &str) -> bool {
 }
 
 /// Refuses with `NotFound` a name under which something else stands than the open file.
-pub fn expect_under<R: Files>(rt: &R, file: &R::File, name: &str) -> io::Result<()> {
+pub(crate) fn expect_under<R: Files>(rt: &R, file: &R::File, name: &str) -> io::Result<()> {
     if is_under(rt, file, name) {
         return Ok(());
     }

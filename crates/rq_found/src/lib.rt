@@ -30,7 +30,7 @@ pub use json::{FrontShown, front_shown};
 pub use numbered::{Numbered, kind_of, queue_named, queues_behind, queues_of, unit_of};
 pub use outputs::write_bytes;
 pub use pieces::{Put, TextPiece, put_digits, put_text_pieces};
-pub use registrants::{LastShown, RegistrantShown, registrants_shown};
+pub use registrants::{RegistrantShown, registrants_shown};
 pub use rq_report::{Output, OverWrite};
 pub use rq_restart::{Fault, Plan};
 pub use shown_log::{ShownLog, begins_at, first_state, front_frames, restarted_from};

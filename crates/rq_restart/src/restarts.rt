@@ -47,7 +47,7 @@ pub(crate) fn whole_front<R: Threads + Sync>(
 /// The restart of a log whose bytes may be shared: `restart` of them. If they are, a checkpoint, and
 /// a payload of more than 22 bytes, are parts of them and no copies. So they stay in memory as long
 /// as one such payload of the state does.
-pub fn restart_of<R: Threads + Sync, G: Gate + Sync>(
+pub(crate) fn restart_of<R: Threads + Sync, G: Gate + Sync>(
     rt: &R,
     alloc: Global,
     bytes: &LogBytes<'_>,
@@ -149,7 +149,7 @@ pub fn restart_own_at<R: Threads + Sync, G: Gate + Sync>(
 /// The restart from a checkpoint of a log whose bytes may be shared: `restart_at` of them. If they
 /// are, another checkpoint behind that one, and a payload of more than 22 bytes, are parts of them
 /// and no copies.
-pub fn restart_of_at<R: Threads + Sync, G: Gate + Sync>(
+pub(crate) fn restart_of_at<R: Threads + Sync, G: Gate + Sync>(
     rt: &R,
     alloc: Global,
     bytes: &LogBytes<'_>,
