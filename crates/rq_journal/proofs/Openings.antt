@@ -18,7 +18,8 @@ use Rattle.rq_restart.specs.declared.redone.RedoneFront.{RedoneFront}
 use Rattle.rq_restart.specs.RedoneFronts.{IsRedoneAt, IsRedoneFront}
 use Rattle.rq_judged.specs.declared.judged.JudgedFront.{JudgedFront}
 use Rattle.rq_judged.specs.JudgedFronts.{IsJudged, IsJudgedAt}
-use Rattle.rq_journal.specs.Appenders.{length_with, behind_header, AppendsEach, AppendsUpTo}
+use Rattle.rq_front.specs.Framers.{length_with, behind_header}
+use Rattle.rq_journal.specs.Appenders.{AppendsEach, AppendsUpTo}
 use Rattle.rq_journal.specs.Openings.{IsOpened, IsOpenedAt, AreWrittenBehind, IsHeldBack}
 use Rattle.rq_journal.specs.declared.appender.Appender.{Appender}
 use Rattle.rq_journal.specs.declared.appender.NotTaken.{NotTaken}

@@ -21,7 +21,8 @@ use Rattle.rq_catalog.specs.declared.judge.Judge.{Judge}
 use Rattle.rq_catalog.specs.Judges.{StandsIn}
 use Rattle.rq_journal.specs.declared.appender.Appender.{Appender}
 use Rattle.rq_journal.specs.declared.appender.NotTaken.{NotTaken}
-use Rattle.rq_journal.specs.Appenders.{Place, IsAppenderAt, length_with}
+use Rattle.rq_front.specs.Framers.{Place, length_with}
+use Rattle.rq_journal.specs.Appenders.{IsAppenderAt}
 use Rattle.rq_journal.specs.Appenders.{AppendsOne, AppendsEach, KeepsPlace, Refuses, AppendsUpTo}
 
 -- a body fits into a frame

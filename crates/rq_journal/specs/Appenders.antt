@@ -1,37 +1,15 @@
 -- Where an appender stands, what it takes there, and what it does not.
-use Rattle.std.specs.Prelude.{◌≡◌, ◌≤◌, ◌<◌, ◌+◌, ⊤, ℕ, false, List, [], ◌∷◌, ◌++◌, length, Option, Some, None}
-use Rattle.rq_model.specs.Records.{Record, Version}
+use Rattle.std.specs.Prelude.{◌≡◌, ◌≤◌, ◌<◌, ⊤, ℕ, false, List, [], ◌∷◌, ◌++◌, Option, Some, None}
+use Rattle.rq_model.specs.Records.{Record}
 use Rattle.rq_model.specs.Spelling.{body_of}
-use Rattle.rq_model.specs.Frames.{log_limit, start, frame, frames_of, last_of, before}
-use Rattle.rq_model.specs.States.{State, empty}
+use Rattle.rq_model.specs.Frames.{log_limit, frame, frames_of, last_of}
 use Rattle.rq_model.specs.Machine.{is_lawful, run}
 use Rattle.rq_model.specs.Appending.{MayFollow}
+use Rattle.rq_front.specs.Framers.{Place, length_with}
 use Rattle.rq_catalog.specs.Judges.{StandsIn}
 use Rattle.rq_journal.specs.declared.appender.Appender.{Appender}
 use Rattle.rq_journal.specs.declared.appender.NotTaken.{NotTaken}
 use Rattle.rq_journal.specs.declared.appender.NotTaken.TheVariants.{Unlawful, Full, Resources}
-
--- where the first of some records is appended: the version, the state there, the 32 bytes before
--- its frame, and how many bytes stand ahead of it
-pub record Place : Type 0 where
-  pub version : Version
-  pub state : State
-  pub link : List ℕ
-  pub ahead : ℕ
-
--- behind the header of a log
-abbrev pub behind_header : Version → Place
-behind_header version =
-    record { version = version; state = empty; link = start version; ahead = 40 }
-
--- before the checkpoint at an offset of b, in the state that it spells
-abbrev pub at_checkpoint : Version → State → List ℕ → ℕ → Place
-at_checkpoint version s b offset =
-    record { version = version; state = s; link = before offset b; ahead = offset }
-
--- how many bytes there are with the frames of these records
-abbrev pub length_with : Place → List Record → ℕ
-length_with at rs = at.ahead + length (frames_of at.link rs)
 
 -- the appender stands behind the frames of these records, which may follow there, in a log that is
 -- no longer than one may be

@@ -6,12 +6,12 @@ ghost use Rattle.rq_model.specs.Records as model;
 ghost use Rattle.rq_model.specs.Machine.{is_lawful, run};
 ghost use Rattle.rq_model.specs.Frames.{start};
 ghost use Rattle.rq_record.specs.Views.{record_of, version_of};
-ghost use Rattle.rq_journal.specs.Appenders.{Place, IsAppenderAt, behind_header};
+ghost use Rattle.rq_front.specs.Framers.{Place, behind_header};
+ghost use Rattle.rq_journal.specs.Appenders.{IsAppenderAt};
 ghost use Rattle.rq_journal.specs.Appenders.{Refuses, KeepsPlace, AppendsUpTo, AppendsOne, AppendsEach};
 
 use rq_catalog::{Judge, Rule};
-use rq_front::{FRAME_LEN, HEADER_LEN, LOG_LIMIT};
-use rq_judged::append_frame;
+use rq_front::{FRAME_LEN, HEADER_LEN, LOG_LIMIT, append_frame};
 use rq_record::{KeptRecord, Record, Version, encode};
 use std::alloc::Global;
 
