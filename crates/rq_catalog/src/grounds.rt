@@ -18,9 +18,9 @@ ghost use Rattle.rq_catalog.specs.Grounds.{has_key, has_name};
 ghost use Rattle.rq_catalog.specs.Units.{is_open_in, outcome_at};
 
 use crate::registrants::RegisteredNames;
-use crate::rules::Rule;
 use crate::units::{Outcome, Units};
 use indexmap::IndexSet;
+use rq_lawful::Rule;
 use rq_record::{Fault, KeptBy, KeptName, KeptRecord, Name, QueueNo, UnitNo, Version};
 use rq_state::{Definition, KeptRegistrant, State, copied_definitions};
 use std::alloc::Global;

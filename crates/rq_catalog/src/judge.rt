@@ -10,8 +10,8 @@ ghost use Rattle.rq_record.specs.declared.fault.Fault.TheVariants.{Resources};
 ghost use Rattle.rq_catalog.specs.Judges.{StandsIn, KeepsStanding};
 
 use crate::grounds::Grounds;
-use crate::rules::Rule;
 use crate::start::open_units_of;
+use rq_lawful::Rule;
 use rq_record::{Fault, KeptRecord, Version};
 use rq_state::State;
 use std::alloc::Global;

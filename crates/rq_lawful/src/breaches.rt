@@ -1,0 +1,171 @@
+//! Which rule a record breaks.
+
+ghost use Rattle.std.specs.Prelude.{◌≡◌, ℕ, ◌&&◌, not, is_some, nat_lt, nat_le, length};
+ghost use Rattle.std.specs.List.{list_any};
+ghost use Rattle.std.specs.Str.{bytes_eq};
+ghost use Rattle.rq_model.specs.Machine as machine;
+ghost use Rattle.rq_model.specs.Records as records;
+ghost use Rattle.rq_model.specs.States.{State};
+ghost use Rattle.rq_record.specs.Views.{record_of, version_of};
+
+use crate::knows::Knows;
+use crate::rules::{LIMIT, QUEUES, Rule};
+use rq_record::{KeptBy, KeptName, KeptRecord, Name, QueueNo, UnitNo, Version};
+
+fn is_defined<K: Knows>(known: &K, queue: QueueNo) -> bool
+    ensures { (s : State) → K.knows known.now s → result ≡ machine.is_defined s queue.0 }
+{
+    (queue.0 as usize) < known.defined()
+}
+
+fn queue_rule<K: Knows>(known: &K, queue: QueueNo) -> Option<Rule>
+    ensures { (s : State) → K.knows known.now s
+        → is_some result ≡ not (machine.is_defined s queue.0) }
+{
+    (!is_defined(known, queue)).then_some(Rule::NotDefined(queue))
+}
+
+// In version 1 an error queue has no error queue itself.
+fn nesting_rule<K: Knows>(version: Version, known: &K, error: QueueNo) -> Option<Rule>
+    ensures { (s : State) → K.knows known.now s
+        → is_some result ≡ not (machine.may_be_error (version_of version) s error.0) }
+{
+    match version {
+        Version::One if known.error_of(error).0 != QueueNo::NONE.0 => Some(Rule::Nested(error)),
+        _ => None,
+    }
+}
+
+// The rule that a limit above 0 and its error queue break.
+fn error_rule<K: Knows>(version: Version, known: &K, limit: u16, error: QueueNo) -> Option<Rule>
+    ensures { (s : State) → K.knows known.now s
+        → is_some result ≡ not (nat_le limit 1000 && (machine.is_defined s error.0
+        && machine.may_be_error (version_of version) s error.0)) }
+{
+    if limit > LIMIT {
+        return Some(Rule::Above(limit));
+    }
+    if is_defined(known, error) {
+        return nesting_rule(version, known, error);
+    }
+    if error.0 == QueueNo::NONE.0 {
+        Some(Rule::NoErrorQueue(limit))
+    } else {
+        Some(Rule::NotDefined(error))
+    }
+}
+
+// The rule that the limit and the error queue of a definition break.
+fn limit_rule<K: Knows>(version: Version, known: &K, limit: u16, error: QueueNo) -> Option<Rule>
+    ensures { (s : State) → K.knows known.now s
+        → is_some result ≡ not (machine.is_limit (version_of version) s limit error.0) }
+{
+    if limit != 0 {
+        return error_rule(version, known, limit, error);
+    }
+    (error.0 != QueueNo::NONE.0).then_some(Rule::NoLimit(error))
+}
+
+fn name_rule<K: Knows>(known: &K, name: Name) -> Option<Rule>
+    ensures { (s : State) → K.knows known.now s
+        → is_some result ≡ not (nat_lt (length s.definitions) 4096
+        && not (list_any (λ d. bytes_eq d.name name) s.definitions)) }
+{
+    if known.defined() >= QUEUES {
+        return Some(Rule::Full);
+    }
+    if known.is_taken(&name) {
+        Some(Rule::Taken(name))
+    } else {
+        None
+    }
+}
+
+fn registrant_rule<K: Knows>(known: &K, queue: QueueNo, name: &KeptName) -> Option<Rule>
+    ensures { (s : State) → K.knows known.now s
+        → is_some result ≡ not (machine.is_registered s queue.0 name.now) }
+{
+    if known.is_registered(queue, name) {
+        None
+    } else {
+        Some(Rule::NotRegistered(queue, name.name()))
+    }
+}
+
+// Whoever an operation is by is registered with its queue.
+fn by_rule<K: Knows>(known: &K, queue: QueueNo, by: &KeptBy) -> Option<Rule>
+    ensures { (s : State) → K.knows known.now s
+        → is_some result ≡ not (machine.is_known s queue.0 by.now) }
+{
+    match by.name() {
+        Some(name) => registrant_rule(known, queue, name),
+        None => None,
+    }
+}
+
+fn operation_rule<K: Knows>(known: &K, unit: UnitNo, queue: QueueNo, by: &KeptBy) -> Option<Rule>
+    ensures { (s : State) → K.knows known.now s
+        → is_some result ≡ not (machine.is_defined s queue.0
+        && (machine.is_open s unit.0 && machine.is_known s queue.0 by.now)) }
+{
+    if !is_defined(known, queue) {
+        return Some(Rule::NotDefined(queue));
+    }
+    if !known.is_open(unit) {
+        return Some(Rule::NotOpen(unit));
+    }
+    by_rule(known, queue, by)
+}
+
+fn kill_rule<K: Knows>(version: Version, known: &K, queue: QueueNo) -> Option<Rule>
+    ensures { (s : State) (element : ℕ) → K.knows known.now s → is_some result
+        ≡ not (machine.is_lawful (version_of version) s (records.Kill queue.0 element)) }
+{
+    match version {
+        Version::One => Some(Rule::NoKill),
+        Version::Two => queue_rule(known, queue),
+    }
+}
+
+fn begin_rule<K: Knows>(known: &K, unit: UnitNo) -> Option<Rule>
+    ensures { (s : State) → K.knows known.now s
+        → is_some result ≡ not (nat_lt s.greatest unit.0) }
+{
+    let greatest = known.greatest();
+    if greatest < unit.0 {
+        None
+    } else {
+        Some(Rule::NotAbove(unit, greatest))
+    }
+}
+
+/// A rule of the version that the record breaks in the state that is known; none exactly if it is
+/// lawful there. This is the one place that says what is lawful.
+pub fn broken<K: Knows>(version: Version, known: &K, next: &KeptRecord) -> Option<Rule>
+    ensures { (s : State) → K.knows known.now s → is_some result
+        ≡ not (machine.is_lawful (version_of version) s (record_of next.now)) }
+{
+    match next {
+        KeptRecord::Define { limit, error, name } => {
+            match limit_rule(version, known, *limit, *error) {
+                Some(rule) => Some(rule),
+                None => name_rule(known, name.name()),
+            }
+        }
+        KeptRecord::Register { queue, .. } => queue_rule(known, *queue),
+        KeptRecord::Deregister { queue, name } => registrant_rule(known, *queue, name),
+        KeptRecord::Begin { unit } => begin_rule(known, *unit),
+        KeptRecord::Enqueue {
+            unit,
+            queue,
+            by,
+            ..
+        } => operation_rule(known, *unit, *queue, by),
+        KeptRecord::Dequeue { unit, queue, by } => operation_rule(known, *unit, *queue, by),
+        KeptRecord::Commit { unit } | KeptRecord::Abort { unit } => {
+            (!known.is_open(*unit)).then_some(Rule::NotOpen(*unit))
+        }
+        KeptRecord::Checkpoint { .. } => None,
+        KeptRecord::Kill { queue, .. } => kill_rule(version, known, *queue),
+    }
+}
