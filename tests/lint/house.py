@@ -83,7 +83,7 @@ ONE_THING = {
     "bytes": ("rq_record rq_writer", "the bytes of a value"),
     "compare": ("rq_queue rq_standing rq_state", "the value's spelling is to come next in the bytes"),
     "count": ("rq_queue rq_standing", "how many members there are"),
-    "lent": ("rq_queue rq_record", "the same value, lent"),
+    "lent": ("rq_queue rq_record rq_state", "the same value, lent"),
     "registrant_count": ("rq_queue rq_state", "how many registrants there are"),
     "copied": ("rq_record rq_state", "the same value again"),
     "register": ("rq_catalog rq_queue", "registers a name with a queue"),

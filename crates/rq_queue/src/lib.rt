@@ -8,6 +8,7 @@ mod kept_last;
 mod kept_note;
 mod keys;
 mod lent;
+mod lent_registrant;
 mod lists;
 mod moves;
 mod notes;
@@ -23,6 +24,7 @@ mod shelves;
 mod whose;
 
 pub use lent::{LentElement, LentNote};
+pub use lent_registrant::LentRegistrant;
 pub use moves::{KeptMove, Move};
 pub use operations::{KeptOp, KeptOps, Op};
 pub use part::Part;

@@ -20,6 +20,7 @@ ghost use Rattle.rq_queue.specs.Rooms.{member_bytes};
 
 use crate::elements::Elements;
 use crate::lent::{LentElement, LentNote};
+use crate::lent_registrant::LentRegistrant;
 use crate::moves::KeptMove;
 use crate::notes::Notes;
 use crate::operations::KeptOp;
@@ -183,6 +184,14 @@ impl Part {
         let registrants = self.registrants.copies(alloc, self.queue)?;
         let notes = self.notes.copies(alloc)?;
         add_members(fields, elements, registrants, notes)
+    }
+
+    /// Lends its registrants: adds them to the list, by name. Refused with Resources.
+    pub fn lend_registrants<'a>(&'a self, lent: &mut Vec<LentRegistrant<'a>>) -> Result<(), Fault>
+        ensures lent { OnOk result (lent.new.items ≡ lent.old.items ++ self.now.registrants) }
+        ensures refused { IfErr result (λ e. e ≡ Resources) }
+    {
+        self.registrants.lend(self.queue, lent)
     }
 
     /// Lends its elements: adds them to the list, in some order. Refused with Resources.

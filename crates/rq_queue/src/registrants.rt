@@ -1,6 +1,6 @@
 //! The registrants of a queue.
 
-ghost use Rattle.std.specs.Prelude.{◌≡◌, [], ℕ, ◌&&◌, ◌||◌, not, map, IfOk, IfErr};
+ghost use Rattle.std.specs.Prelude.{◌≡◌, ◌++◌, [], ℕ, ◌&&◌, ◌||◌, not, map, IfOk, IfErr};
 ghost use Rattle.std.specs.Prelude.{◌*◌, ◌-◌, ◌≤◌, length, OnOk, SomeIff, option_map};
 ghost use Rattle.std.specs.BTreeMap.{insert_entry};
 ghost use Rattle.std.specs.Cmp.Lexicographic.{slice_cmp};
@@ -16,6 +16,7 @@ ghost use Rattle.rq_queue.specs.Roll.{IsRoll, registrant_of, entry_of, picked, i
 
 use crate::kept_last::KeptLast;
 use crate::kept_note::KeptNote;
+use crate::lent_registrant::LentRegistrant;
 use crate::rooms::room_after;
 use rq_record::{Fault, KeptName, Name, QueueNo, UnitNo};
 use rq_state::{Compared, KeptRegistrant, Last, Registrant, State, told_registrants};
@@ -119,6 +120,19 @@ impl Registrants {
         ensures refused { IfErr result (λ e. e ≡ Resources) }
     {
         copied(alloc, queue, &self.lasts)
+    }
+
+    /// Lends all of them, by name: adds them to the list.
+    pub(crate) fn lend<'a>(
+        &'a self,
+        queue: QueueNo,
+        lent: &mut Vec<LentRegistrant<'a>>,
+    ) -> Result<(), Fault>
+        ensures lent { OnOk result
+            (lent.new.items ≡ lent.old.items ++ map (registrant_of queue.0) self.now) }
+        ensures refused { IfErr result (λ e. e ≡ Resources) }
+    {
+        lend_all(queue, &self.lasts, lent)
     }
 
     /// How many they are.
@@ -284,6 +298,22 @@ fn copied(
         all.push(registrant_again(alloc, queue, name, last)?)?;
     }
     Ok(all)
+}
+
+// Lends the registrants, by name.
+fn lend_all<'a>(
+    queue: QueueNo,
+    lasts: &'a BTreeMap<KeptName, KeptLast>,
+    lent: &mut Vec<LentRegistrant<'a>>,
+) -> Result<(), Fault>
+    ensures lent { OnOk result
+        (lent.new.items ≡ lent.old.items ++ map (registrant_of queue.0) lasts.now.entries) }
+    ensures refused { IfErr result (λ e. e ≡ Resources) }
+{
+    for (name, last) in lasts {
+        lent.push(LentRegistrant::of(queue, name, last))?;
+    }
+    Ok(())
 }
 
 fn compare_one(queue: QueueNo, name: &KeptName, last: &KeptLast, bytes: &mut Compared<'_>)
