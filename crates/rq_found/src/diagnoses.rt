@@ -9,9 +9,6 @@ use crate::pieces::Put;
 use rq_restart::Why;
 use std::fmt::Write;
 
-// A crash leaves no more bytes behind a front.
-const TORN_LIMIT: u64 = 1_048_576;
-
 /// What a log is, by its front and by what stands behind that.
 #[derive(Clone, Copy, Debug, PartialEq, Eq)]
 pub enum Diagnosis {
@@ -47,7 +44,7 @@ pub fn diagnosis_of(end: &End, has_right: bool, is_sound: bool) -> Diagnosis
         return Diagnosis::Untrue;
     }
     let rest = end.total.saturating_sub(end.used);
-    if may_be_torn(end.why) && !has_right && rest <= TORN_LIMIT {
+    if may_be_torn(end.why) && !has_right && rest <= Why::TORN_LEN as u64 {
         return Diagnosis::Torn;
     }
     Diagnosis::Damaged

@@ -17,8 +17,8 @@ use crate::pieces::{Put, put_text_pieces};
 use crate::shown_log::ShownLog;
 use rq_catalog::Rule;
 use rq_front::{CARRIED_AT, FRAME_LEN, version};
-use rq_judged::{FrontEnd, front_end, front_end_at};
-use rq_record::{Fault, Version};
+use rq_judged::FrontEnd;
+use rq_record::{CheckBytes, Fault, Version};
 use rq_report::why_word;
 use rq_restart::{Restarted, Why};
 use sha2::{Digest, Sha256};
@@ -26,8 +26,8 @@ use std::alloc::{AllocError, Global};
 use std::fmt::Write;
 use std::thread::Threads;
 
-// The most bytes of a body.
-const BODY_LIMIT: usize = 268_435_456;
+// The most bytes of a body: its kind, and what a checkpoint has.
+const BODY_LIMIT: usize = CheckBytes::LIMIT + 1;
 
 /// Where the front of a log ends, and why, in a sentence; and where the checkpoint stands that the
 /// log begins with, if it was carried on.
@@ -169,11 +169,11 @@ fn ruled_end<R: Threads + Sync>(
 {
     match log.at {
         None => {
-            let found = front_end(rt, alloc, log.bytes, log.plan)?;
+            let found = FrontEnd::of(rt, alloc, log.bytes, log.plan)?;
             Ok(found)
         }
         Some(at) => {
-            let found = front_end_at(rt, alloc, log.bytes, at, log.plan)?;
+            let found = FrontEnd::ended_at(rt, alloc, log.bytes, at, log.plan)?;
             Ok(found)
         }
     }

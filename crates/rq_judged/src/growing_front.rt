@@ -117,7 +117,7 @@ impl GrowingFront {
     }
 
     /// Where the front ends of the bytes that came, and a judge that stands there: what
-    /// `judged_front` answers of them.
+    /// `JudgedFront::of` answers of them.
     pub fn judged<R: Threads + Sync>(
         self,
         rt: &R,

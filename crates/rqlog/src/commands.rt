@@ -17,7 +17,7 @@ use rq_file::{Patient, Replaces, expect_replaceable, name_one_file, put_over};
 use rq_front::header_of;
 use rq_journal::{CARRIED_AT, Fault, Plan, audit_carried};
 use rq_record::{LogBytes, Version};
-use rq_restart::ending_of;
+use rq_restart::Ending;
 use rq_tool::{Open, OverRead, OverWrite, Work, through};
 use std::fs::File;
 use std::io::{self, Read};
@@ -187,7 +187,7 @@ where
         return closed_carried(rt, alloc, log, plan, drops);
     }
     let bytes = log.bytes;
-    let ending = ending_of(rt, alloc, &bytes, plan)?;
+    let ending = Ending::of(rt, alloc, &bytes, plan)?;
     let left = expect_end(
         alloc,
         LastBytes::all(&bytes),

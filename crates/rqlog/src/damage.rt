@@ -4,7 +4,7 @@ ghost use Rattle.std.specs.Prelude.{◌≤◌, length, IfOk};
 
 use crate::refusal::Refusal;
 use rq_behind::{Scan, behind, first_record};
-use rq_journal::{Damage, Ending, Why, damage_behind};
+use rq_journal::{Damage, Ending, Why};
 use rq_record::Version;
 use rq_report::why_word;
 use std::alloc::Global;
@@ -138,7 +138,7 @@ fn moved(damage: Damage, before: usize) -> Damage {
 // beginning of a frame.
 fn bad_end(alloc: Global, last: LastBytes<'_>, end: EndOfFront) -> Result<Option<BadEnd>, Refusal> {
     let place = place_in(last.bytes, last.before, end)?;
-    let damage = damage_behind(alloc, end.version, last.bytes, place, end.why)?;
+    let damage = Damage::left_behind(alloc, end.version, last.bytes, place, end.why)?;
     if damage.is_none() && matches!(end.why, Why::Whole | Why::Cut) {
         return Ok(None);
     }

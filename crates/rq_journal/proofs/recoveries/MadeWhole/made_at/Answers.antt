@@ -1,5 +1,5 @@
 use Rattle.rq_journal.proofs.Recovering.{from_there}
-use Rattle.rq_journal.proofs.recoveries.recovered_at.Goals as goal
+use Rattle.rq_journal.proofs.recoveries.MadeWhole.made_at.Goals as goal
 
 pub returns-in-Ok : goal.returns-in-Ok
 returns-in-Ok g c =

@@ -3,8 +3,8 @@ use Rattle.std.proofs.lemmas.Result.{err_from_is_err_and}
 use Rattle.rq_judged.specs.Refusals.{RefusedAt}
 use Rattle.rq_restart.specs.RedoneFronts.{IsFoundAt}
 use Rattle.rq_restart.proofs.TailEnds.{ends_log_at, refused_there}
-use Rattle.rq_restart.proofs.tails.ending_at.Goals as goal
-use Rattle.rq_restart.proofs.tails.ending_at.Goals.{In_ok-from}
+use Rattle.rq_restart.proofs.tails.Ending.ending_at.Goals as goal
+use Rattle.rq_restart.proofs.tails.Ending.ending_at.Goals.{In_ok-from}
 
 found : (g : _) (c : In_ok-from g) → IsFoundAt c.args.bytes.now c.args.offset c.in_ok-from.from
 found g c = subst (λ (b : List ℕ). IsFoundAt b c.args.offset c.in_ok-from.from) c.borrowed.ensures c.in_ok-from.ensures

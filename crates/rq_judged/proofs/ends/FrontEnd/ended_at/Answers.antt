@@ -4,7 +4,7 @@ use Rattle.rq_model.specs.Frames.{last_of, before}
 use Rattle.rq_model.specs.States.{State}
 use Rattle.rq_model.specs.Machine.{run}
 use Rattle.rq_judged.proofs.FrontEnds.{found_at}
-use Rattle.rq_judged.proofs.ends.front_end_at.Goals as goal
+use Rattle.rq_judged.proofs.ends.FrontEnd.ended_at.Goals as goal
 
 pub judged_behind-requires : goal.judged_behind-requires
 judged_behind-requires g c = (c.args.offset, c.in_ok-begun.ensures)

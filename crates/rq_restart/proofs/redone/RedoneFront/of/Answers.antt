@@ -1,5 +1,5 @@
 use Rattle.rq_restart.proofs.RedoneFronts.{redoes}
-use Rattle.rq_restart.proofs.redone.redone_front.Goals as goal
+use Rattle.rq_restart.proofs.redone.RedoneFront.of.Goals as goal
 
 pub state_behind-requires-clause-front : goal.state_behind-requires-clause-front
 state_behind-requires-clause-front g c κs within = (40, c.in_ok-from.ensures.found)

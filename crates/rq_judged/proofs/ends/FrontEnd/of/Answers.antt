@@ -2,7 +2,7 @@ use Rattle.rq_model.specs.Frames.{last_of, start}
 use Rattle.rq_model.specs.States.{empty}
 use Rattle.rq_model.specs.Machine.{run}
 use Rattle.rq_judged.proofs.FrontEnds.{found}
-use Rattle.rq_judged.proofs.ends.front_end.Goals as goal
+use Rattle.rq_judged.proofs.ends.FrontEnd.of.Goals as goal
 
 pub rule_behind-requires : goal.rule_behind-requires
 rule_behind-requires g c =

@@ -1,8 +1,8 @@
 use Rattle.std.proofs.Common.{List, ℕ, subst}
 use Rattle.rq_restart.specs.RedoneFronts.{IsFoundFront}
 use Rattle.rq_restart.proofs.TailEnds.{ends_log}
-use Rattle.rq_restart.proofs.tails.ending_of.Goals as goal
-use Rattle.rq_restart.proofs.tails.ending_of.Goals.{In_ok-from}
+use Rattle.rq_restart.proofs.tails.Ending.of.Goals as goal
+use Rattle.rq_restart.proofs.tails.Ending.of.Goals.{In_ok-from}
 
 found : (g : _) (c : In_ok-from g) → IsFoundFront c.args.bytes.now c.in_ok-from.from
 found g c = subst (λ (b : List ℕ). IsFoundFront b c.in_ok-from.from) c.borrowed.ensures c.in_ok-from.ensures

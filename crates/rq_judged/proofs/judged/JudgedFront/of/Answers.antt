@@ -3,8 +3,8 @@ use Rattle.rq_record.specs.Views.{version_of}
 use Rattle.rq_judged.specs.Views.{why_of}
 use Rattle.rq_judged.specs.Passes.{StopsIn}
 use Rattle.rq_judged.proofs.Passes.{HasStopped, has_stopped, starts}
-use Rattle.rq_judged.proofs.judged.judged_front.Goals as goal
-use Rattle.rq_judged.proofs.judged.judged_front.Goals.{In_ok-why}
+use Rattle.rq_judged.proofs.judged.JudgedFront.of.Goals as goal
+use Rattle.rq_judged.proofs.judged.JudgedFront.of.Goals.{In_ok-why}
 
 pub finish-requires-clause-passes : goal.finish-requires-clause-passes
 finish-requires-clause-passes g c κs within =

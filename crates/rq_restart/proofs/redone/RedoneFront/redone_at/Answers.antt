@@ -1,5 +1,5 @@
 use Rattle.rq_restart.proofs.RedoneFronts.{redoes_at}
-use Rattle.rq_restart.proofs.redone.redone_front_at.Goals as goal
+use Rattle.rq_restart.proofs.redone.RedoneFront.redone_at.Goals as goal
 
 pub state_behind-requires-clause-front : goal.state_behind-requires-clause-front
 state_behind-requires-clause-front g c κs within = (c.args.offset, c.in_ok-from.ensures.found)

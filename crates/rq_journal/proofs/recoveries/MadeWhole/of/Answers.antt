@@ -1,5 +1,5 @@
 use Rattle.rq_journal.proofs.Recovering.{from_start}
-use Rattle.rq_journal.proofs.recoveries.recovered.Goals as goal
+use Rattle.rq_journal.proofs.recoveries.MadeWhole.of.Goals as goal
 
 pub returns-in-Ok : goal.returns-in-Ok
 returns-in-Ok g c =
