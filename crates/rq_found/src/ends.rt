@@ -179,46 +179,69 @@ fn ruled_end<R: Threads + Sync>(
     }
 }
 
-/// Where the front ends of which the restart is known. Refuses with `Resources` where memory is
-/// refused.
-pub fn end_after<R: Threads + Sync>(
-    rt: &R,
-    alloc: Global,
-    log: &ShownLog<'_>,
-    r: &Restarted,
-) -> Result<End, Fault>
-    ensures end { IfOk result (λ end. IsEndOf r.now (front_end_of end)) }
-    ensures refused { IfErr result (λ e. e ≡ Resources) }
-{
-    let end = FrontEnd {
-        records: r.records(),
-        used: r.used(),
-        total: r.total(),
-        why: r.why(),
-    };
-    // A restart keeps no rule: so of a log that ends by one this reads the front once more. There is a
-    // restart of it, so memory alone is refused.
-    let rule = match end.why {
-        Why::Law => match ruled_end(rt, alloc, log) {
-            Ok((_, rule)) => rule,
-            Err(_) => return Err(Fault::Resources),
-        },
-        Why::Whole | Why::Cut | Why::Length | Why::Chain | Why::Form => None,
-    };
-    let told = told(alloc, log, &end, rule)?;
-    Ok(told)
-}
+impl End {
+    /// Where the front ends of which the restart is known. Refuses with `Resources` where memory is
+    /// refused.
+    pub fn after_restart<R: Threads + Sync>(
+        rt: &R,
+        alloc: Global,
+        log: &ShownLog<'_>,
+        r: &Restarted,
+    ) -> Result<End, Fault>
+        ensures end { IfOk result (λ end. IsEndOf r.now (front_end_of end)) }
+        ensures refused { IfErr result (λ e. e ≡ Resources) }
+    {
+        let end = FrontEnd {
+            records: r.records(),
+            used: r.used(),
+            total: r.total(),
+            why: r.why(),
+        };
+        // A restart keeps no rule: so of a log that ends by one this reads the front once more. There is a
+        // restart of it, so memory alone is refused.
+        let rule = match end.why {
+            Why::Law => match ruled_end(rt, alloc, log) {
+                Ok((_, rule)) => rule,
+                Err(_) => return Err(Fault::Resources),
+            },
+            Why::Whole | Why::Cut | Why::Length | Why::Chain | Why::Form => None,
+        };
+        let told = told(alloc, log, &end, rule)?;
+        Ok(told)
+    }
 
-/// Where the front of a log ends, from the checkpoint on that it begins with, if there is one.
-pub fn end_of<R: Threads + Sync>(rt: &R, alloc: Global, log: &ShownLog<'_>) -> Result<End, Fault>
-    ensures log { OnOk result (IsLog log.now.bytes.now) }
-    ensures end { IfOk result (λ end. (r : fronts.Restarted)
-        × IsRestartFrom log.now.at log.now.bytes.now r × IsEndOf r (front_end_of end)) }
-    ensures refused { IfErr result (RefusedFrom log.now.at log.now.bytes.now) }
-{
-    let (end, rule) = ruled_end(rt, alloc, log)?;
-    let told = told(alloc, log, &end, rule)?;
-    Ok(told)
+    /// Where the front of a log ends, from the checkpoint on that it begins with, if there is one.
+    pub fn of<R: Threads + Sync>(rt: &R, alloc: Global, log: &ShownLog<'_>) -> Result<End, Fault>
+        ensures log { OnOk result (IsLog log.now.bytes.now) }
+        ensures end { IfOk result (λ end. (r : fronts.Restarted)
+            × IsRestartFrom log.now.at log.now.bytes.now r × IsEndOf r (front_end_of end)) }
+        ensures refused { IfErr result (RefusedFrom log.now.at log.now.bytes.now) }
+    {
+        let (end, rule) = ruled_end(rt, alloc, log)?;
+        let told = told(alloc, log, &end, rule)?;
+        Ok(told)
+    }
+
+    /// Where the front of a carried log ends, as it is read, which a restart refuses for its first
+    /// checkpoint: where that would begin, behind no record.
+    pub fn without_front(alloc: Global, log: &ShownLog<'_>) -> Result<End, AllocError>
+        ensures beginning { IfOk result (λ end. end.at ≡ log.now.at) }
+        ensures none { IfOk result (λ end. end.records ≡ 0) }
+        ensures used { IfOk result (λ end. end.used ≡ min carried_at (length log.now.bytes.now)) }
+        ensures total { IfOk result (λ end. end.total ≡ length log.now.bytes.now) }
+    {
+        let used = CARRIED_AT.min(log.bytes.len());
+        let (before, rest) = log.bytes.split_at(used);
+        let (why, reason) = missing_checkpoint(alloc, before, rest)?;
+        Ok(End {
+            at: log.at,
+            records: 0,
+            used: used as u64,
+            total: log.bytes.len() as u64,
+            why,
+            reason,
+        })
+    }
 }
 
 // Why no checkpoint that is right and spells a state stands between these bytes and the rest.
@@ -240,27 +263,6 @@ fn missing_checkpoint(
         return Ok((Why::Form, reason));
     }
     Ok((Why::Chain, chain_reason(alloc, before, rest)?))
-}
-
-/// Where the front of a carried log ends, as it is read, which a restart refuses for its first
-/// checkpoint: where that would begin, behind no record.
-pub fn end_without_front(alloc: Global, log: &ShownLog<'_>) -> Result<End, AllocError>
-    ensures beginning { IfOk result (λ end. end.at ≡ log.now.at) }
-    ensures none { IfOk result (λ end. end.records ≡ 0) }
-    ensures used { IfOk result (λ end. end.used ≡ min carried_at (length log.now.bytes.now)) }
-    ensures total { IfOk result (λ end. end.total ≡ length log.now.bytes.now) }
-{
-    let used = CARRIED_AT.min(log.bytes.len());
-    let (before, rest) = log.bytes.split_at(used);
-    let (why, reason) = missing_checkpoint(alloc, before, rest)?;
-    Ok(End {
-        at: log.at,
-        records: 0,
-        used: used as u64,
-        total: log.bytes.len() as u64,
-        why,
-        reason,
-    })
 }
 
 /// Puts with which checkpoint a log begins that was carried on; of another, nothing.

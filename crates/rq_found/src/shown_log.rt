@@ -99,18 +99,16 @@ pub fn front_frames<'a>(
     PlacedFrames::beginning_at(bytes, offset_of(at), first.next(), used)
 }
 
-/// The restart of a log, from the checkpoint on that it begins with, if there is one.
-pub fn restarted_from<R: Threads + Sync>(
-    rt: &R,
-    alloc: Global,
-    log: &ShownLog<'_>,
-) -> Result<Restarted, Fault>
-    ensures log { OnOk result (IsLog log.now.bytes.now) }
-    ensures restart { IfOk result (λ r. IsRestartFrom log.now.at log.now.bytes.now r) }
-    ensures refused { IfErr result (RefusedFrom log.now.at log.now.bytes.now) }
-{
-    match log.at {
-        None => restart(rt, alloc, log.bytes, log.plan, &Open),
-        Some(at) => restart_at(rt, alloc, log.bytes, at, log.plan, &Open),
+impl ShownLog<'_> {
+    /// The restart of the log, from the checkpoint on that it begins with, if there is one.
+    pub fn restarted<R: Threads + Sync>(&self, rt: &R, alloc: Global) -> Result<Restarted, Fault>
+        ensures log { OnOk result (IsLog self.now.bytes.now) }
+        ensures restart { IfOk result (λ r. IsRestartFrom self.now.at self.now.bytes.now r) }
+        ensures refused { IfErr result (RefusedFrom self.now.at self.now.bytes.now) }
+    {
+        match self.at {
+            None => restart(rt, alloc, self.bytes, self.plan, &Open),
+            Some(at) => restart_at(rt, alloc, self.bytes, at, self.plan, &Open),
+        }
     }
 }

@@ -12,9 +12,7 @@ ghost use Rattle.rq_look.specs.Findings.{end_finding, checkpoint_finding, may_ha
 
 use crate::behind_fronts::{may_have_right, put_rest, standing_behind};
 use rq_behind::Found;
-use rq_found::{
-    Diagnosis, End, Put, ShownLog, Trouble, diagnosis_of, end_of, is_whole, put_beginning, put_end,
-};
+use rq_found::{Diagnosis, End, Put, ShownLog, Trouble, is_whole, put_beginning, put_end};
 use rq_record::Fault;
 use rq_restart::{audit, audit_at};
 use std::alloc::{AllocError, Global};
@@ -100,7 +98,7 @@ fn findings_of(
     Ok(Findings {
         fine: is_fine(end, checkpoints),
         text,
-        diagnosis: diagnosis_of(end, may_have_right(behind), are_true(checkpoints)),
+        diagnosis: Diagnosis::of(end, may_have_right(behind), are_true(checkpoints)),
     })
 }
 
@@ -139,7 +137,7 @@ pub fn check<R: Threads + Sync>(
         (λ found. IsDiagnosis log.now.at log.now.bytes.now found.diagnosis) }
     ensures refused { IfErr result (IsRefusal log.now.at log.now.bytes.now) }
 {
-    let end = end_of(rt, alloc, log)?;
+    let end = End::of(rt, alloc, log)?;
     let behind = standing_behind(alloc, log.bytes, &end)?;
     let checkpoints = audited_from(rt, alloc, log)?;
     let found = findings_of(alloc, log.at, &end, &behind, &checkpoints)?;

@@ -17,9 +17,7 @@ use crate::salvages::{put_spans, words_of};
 use crate::sheet::write_out;
 use crate::wanted::Wanted;
 use rq_behind::Found;
-use rq_found::{
-    Diagnosis, End, Fault, Output, ShownLog, Trouble, end_without_front, put_beginning, put_end,
-};
+use rq_found::{Diagnosis, End, Fault, Output, ShownLog, Trouble, put_beginning, put_end};
 use rq_front::HEADER_LEN;
 use std::alloc::{AllocError, Global};
 
@@ -35,7 +33,7 @@ fn standing(alloc: Global, log: &ShownLog<'_>) -> Result<(End, Found), Fault>
     if log.bytes.len() < HEADER_LEN {
         return Err(Fault::NotALog);
     }
-    let end = end_without_front(alloc, log)?;
+    let end = End::without_front(alloc, log)?;
     let found = standing_behind(alloc, log.bytes, &end)?;
     Ok((end, found))
 }

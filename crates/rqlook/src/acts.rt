@@ -12,8 +12,7 @@ use crate::progress::{Watch, Watched};
 use crate::words::{columns_asked, records_asked, subject_asked};
 use clap::ArgMatches;
 use rq_found::{
-    Diagnosis, Fault, Output, OverWrite, Plan, Seen, ShownLog, Trouble, begins_at, put_diagnosis,
-    write_bytes,
+    Diagnosis, Fault, Output, OverWrite, Plan, Seen, ShownLog, Trouble, begins_at, write_bytes,
 };
 use rq_look::Findings;
 use std::alloc::{AllocError, Global};
@@ -46,7 +45,7 @@ fn verdict_line(alloc: Global, file: &str, diagnosis: Diagnosis) -> Result<Strin
     let seen = Seen(typed_name(file));
     let name = format!(in alloc; "{seen}")?;
     let mut line = String::new(alloc);
-    put_diagnosis(&mut line, diagnosis, name.as_str())?;
+    diagnosis.put_verdict(&mut line, name.as_str())?;
     line.push_str("\n")?;
     Ok(line)
 }

@@ -1,4 +1,4 @@
-use Rattle.rq_found.proofs.ends.end_after.Goals as goal
+use Rattle.rq_found.proofs.ends.End.after_restart.Goals as goal
 
 pub returns-clause-end : goal.returns-clause-end
 returns-clause-end g c = c.in_ok-told.ensures.end c.args.r.now (record {

@@ -1,4 +1,4 @@
-use Rattle.rq_found.proofs.ends.end_of.Goals as goal
+use Rattle.rq_found.proofs.ends.End.of.Goals as goal
 
 pub returns-clause-end : goal.returns-clause-end
 returns-clause-end g c =
