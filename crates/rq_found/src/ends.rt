@@ -13,7 +13,7 @@ ghost use Rattle.rq_found.specs.Refusals.{RefusedFrom};
 
 use crate::frames::{first_frame, stated_length};
 use crate::misfits::misfit_of;
-use crate::pieces::{Put, put_text_pieces};
+use crate::pieces::{Put, TextPiece};
 use crate::shown_log::ShownLog;
 use rq_catalog::Rule;
 use rq_front::{CARRIED_AT, FRAME_LEN, version};
@@ -97,7 +97,7 @@ pub fn form_reason(alloc: Global, version: Version, body: &[u8]) -> Result<Strin
         Some(misfit) => {
             let at = misfit.0;
             let mut text = format!(in alloc; "byte {at} of the body: ")?;
-            put_text_pieces(&mut text, &misfit.1)?;
+            TextPiece::put_all(&mut text, &misfit.1)?;
             Ok(text)
         }
         None => String::from_str(alloc, "no record has the body"),

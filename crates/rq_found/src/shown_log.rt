@@ -31,16 +31,18 @@ pub struct ShownLog<'a> {
     pub plan: &'a Plan,
 }
 
-/// Makes of a carried file the log as which it is read, and answers where the checkpoint stands with
-/// which it begins. Of any other bytes there is none, and they stay as they are.
-pub fn begins_at(bytes: &mut [u8]) -> Option<u64>
-    ensures some { IfSome result (λ at. (at ≡ carried_at) × ((version : Version)
-        × HasCarriedHeader version bytes.old × (bytes.new ≡ as_log version bytes.old))) }
-    ensures none { IfNone result ((IsCarried bytes.old → ⊥) × (bytes.new ≡ bytes.old)) }
-{
-    match read_as_log(bytes) {
-        Some(_) => Some(CARRIED_AT as u64),
-        None => None,
+impl ShownLog<'_> {
+    /// Makes of a carried file the log as which it is read, and answers where the checkpoint stands with
+    /// which it begins. Of any other bytes there is none, and they stay as they are.
+    pub fn begins_at(bytes: &mut [u8]) -> Option<u64>
+        ensures some { IfSome result (λ at. (at ≡ carried_at) × ((version : Version)
+            × HasCarriedHeader version bytes.old × (bytes.new ≡ as_log version bytes.old))) }
+        ensures none { IfNone result ((IsCarried bytes.old → ⊥) × (bytes.new ≡ bytes.old)) }
+    {
+        match read_as_log(bytes) {
+            Some(_) => Some(CARRIED_AT as u64),
+            None => None,
+        }
     }
 }
 

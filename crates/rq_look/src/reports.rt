@@ -14,7 +14,7 @@ ghost use Rattle.rq_look.specs.Looks.{PutsReportAs, StaysUnreported};
 use crate::json::{BytesShown, queue_number, spelled_out, written};
 use rq_found::{
     End, FrontShown, Output, OverWrite, RegistrantShown, ShownLog, Trouble, put_beginning,
-    registrants_shown, write_bytes,
+    write_bytes,
 };
 use rq_record::QueueNo;
 use rq_report::{free_elements, queue_report, write_report_by};
@@ -80,7 +80,7 @@ fn queue_shown<'a>(
         limit: definition.limit,
         error: queue_number(definition.error),
         elements: elements_shown(alloc, state, queue)?,
-        registrants: registrants_shown(alloc, state, queue)?,
+        registrants: RegistrantShown::all_of(alloc, state, queue)?,
     })
 }
 

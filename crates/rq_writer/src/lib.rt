@@ -10,4 +10,4 @@ mod readers;
 
 pub use fields::decimal_number;
 pub use made_logs::{line_at, make, make_in, one_answer};
-pub use readers::{ScriptLine, read_line};
+pub use readers::ScriptLine;

@@ -144,13 +144,15 @@ fn told_line(alloc: Global, version: Version, text: &[u8]) -> Result<ScriptLine,
     Ok(ScriptLine::Told(record))
 }
 
-/// The line that the text tells in the version. `Form` if no line has this text.
-#[tactic(auto, using(crate::proofs::Lines::reads))]
-pub fn read_line(alloc: Global, version: Version, text: &[u8]) -> Result<ScriptLine, Fault>
-    ensures { ReadsLine (version_of version) text.now result }
-{
-    if text == b"checkpoint".as_slice() {
-        return Ok(ScriptLine::Spelled);
+impl ScriptLine {
+    /// The line that the text tells in the version. `Form` if no line has this text.
+    #[tactic(auto, using(crate::proofs::Lines::reads))]
+    pub fn of(alloc: Global, version: Version, text: &[u8]) -> Result<ScriptLine, Fault>
+        ensures { ReadsLine (version_of version) text.now result }
+    {
+        if text == b"checkpoint".as_slice() {
+            return Ok(ScriptLine::Spelled);
+        }
+        told_line(alloc, version, text)
     }
-    told_line(alloc, version, text)
 }

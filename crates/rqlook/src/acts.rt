@@ -11,9 +11,7 @@ use crate::narrow_lines::Narrow;
 use crate::progress::{Watch, Watched};
 use crate::words::{columns_asked, records_asked, subject_asked};
 use clap::ArgMatches;
-use rq_found::{
-    Diagnosis, Fault, Output, OverWrite, Plan, Seen, ShownLog, Trouble, begins_at, write_bytes,
-};
+use rq_found::{Diagnosis, Fault, Output, OverWrite, Plan, Seen, ShownLog, Trouble, write_bytes};
 use rq_look::Findings;
 use std::alloc::{AllocError, Global};
 use std::io::{self, ErrorKind};
@@ -240,7 +238,7 @@ where
     }
     let mut bytes = read_log_file(rt, file_of(words), watch)?;
     watch.begins(rt, &bytes);
-    let at = begins_at(&mut bytes);
+    let at = ShownLog::begins_at(&mut bytes);
     let log = ShownLog {
         bytes: &bytes,
         at,

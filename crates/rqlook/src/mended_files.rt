@@ -7,7 +7,7 @@ use crate::made_files::{expect_place, write_made};
 use crate::progress::Watch;
 use rq_behind::mend;
 use rq_file::Replaces;
-use rq_found::{Plan, ShownLog, Trouble, begins_at};
+use rq_found::{Plan, ShownLog, Trouble};
 use rq_judged::grain_of;
 use rq_look::{Findings, mended_text};
 use std::os::fd::AsFd;
@@ -29,7 +29,7 @@ where
     R::File: AsFd,
 {
     let header = Vec::from_slice(rt.alloc(), bytes.get(..HEADER_LEN).unwrap_or(&[]))?;
-    let at = begins_at(bytes);
+    let at = ShownLog::begins_at(bytes);
     let log = ShownLog { bytes, at, plan };
     let rest = log.bytes.get(header.len()..).unwrap_or(&[]);
     let (found, written) = join(

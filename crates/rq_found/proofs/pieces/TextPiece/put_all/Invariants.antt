@@ -1,7 +1,7 @@
 use Rattle.std.proofs.Common.{◌≡◌, ◌++◌, take, string_bytes}
 use Rattle.std.specs.List.{flat_map}
 use Rattle.rq_found.specs.Texts.{piece_text}
-use Rattle.rq_found.proofs.pieces.put_text_pieces.Given as goal
+use Rattle.rq_found.proofs.pieces.TextPiece.put_all.Given as goal
 
 abbrev pub invariant-loop-piece : goal.invariant-loop-piece
 invariant-loop-piece l =

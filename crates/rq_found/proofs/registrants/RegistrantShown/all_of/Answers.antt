@@ -1,7 +1,7 @@
 use Rattle.std.proofs.Common.{◌++◌, ◌+◌, ◌<◌, [], ◌∷◌, length, map, drop, sym, ap, ◌∙◌, append_assoc, arith}
 use Rattle.std.proofs.lemmas.List.{append-nil, drop_more, drop_all, map-append}
 use Rattle.rq_found.specs.Records.{registrant_entry, registrant_told}
-use Rattle.rq_found.proofs.registrants.registrants_shown.Goals as goal
+use Rattle.rq_found.proofs.registrants.RegistrantShown.all_of.Goals as goal
 
 pub loop-r-preserved : goal.loop-r-preserved
 loop-r-preserved c =
