@@ -1,14 +1,11 @@
-//! The frames of a log: the body of one, what it is linked to, one more at the end, and how workers
-//! share them.
+//! The frames of a log: the body of one, what it is linked to, and one more at the end.
 
-ghost use Rattle.std.specs.Prelude.{◌≡◌, ◌≤◌, ◌==◌, if◌then◌else◌, length, drop, IfOk};
+ghost use Rattle.std.specs.Prelude.{◌≡◌, ◌≤◌, length, drop, IfOk};
 ghost use Rattle.rq_model.specs.Frames.{HasFrame, IsBodyLength, before, body_in, digest, frame};
 ghost use Rattle.rq_record.specs.Writing.{Appends};
-ghost use Rattle.rq_plan.specs.Plans.{grain_of, workers_of};
 
 use byteorder::{BigEndian, ByteOrder};
 use rq_front::frame;
-use rq_plan::Plan;
 use rq_record::Fault;
 
 /// The body of the frame at an offset.
@@ -41,17 +38,4 @@ pub fn append_frame(prev: &[u8; 32], body: &[u8], out: &mut Vec<u8>) -> Result<[
 {
     frame(prev, body, out)?;
     Ok(before(out, out.len()))
-}
-
-/// How many frames a worker checks in one piece: those of the plan's grain, and all of them where
-/// it is alone, so that no thread is started.
-pub fn grain_of(plan: &Plan) -> u32
-    ensures range { 1 ≤ result }
-    ensures size { result ≡ if workers_of plan.now == 1 then 4294967295 else grain_of plan.now }
-{
-    if plan.workers() == 1 {
-        u32::MAX
-    } else {
-        plan.grain()
-    }
 }

@@ -7,9 +7,9 @@ ghost use Rattle.rq_judged.specs.JudgedFronts.{IsJudgedBehind, JudgesFront, Judg
 
 use crate::checkpoint::{Begun, begin_at};
 use crate::ends::Why;
-use crate::frames::{before, grain_of};
+use crate::frames::before;
 use crate::front::end_of;
-use crate::front_pass::{PassSoFar, judge_each};
+use crate::front_pass::{PassSoFar, grain_of, judge_each};
 use rq_catalog::Judge;
 use rq_front::{HEADER_LEN, log_version};
 use rq_plan::Plan;

@@ -15,7 +15,8 @@ mod window;
 
 pub use checkpoint::{Begun, begin_at};
 pub use ends::{FrontEnd, Why};
-pub use frames::{append_frame, before, body_at, grain_of};
+pub use frames::{append_frame, before, body_at};
 pub use front::{Front, front_of, front_of_walk};
+pub use front_pass::grain_of;
 pub use growing_front::GrowingFront;
 pub use judged::JudgedFront;

@@ -14,7 +14,6 @@ ghost use Rattle.rq_judged.specs.Windows.{log_origin};
 
 use crate::ends::Why;
 use crate::frames::before;
-use crate::front::why_of;
 use crate::front_pass::{Verdict, judge_one, stays};
 use crate::judged::JudgedFront;
 use rq_catalog::Judge;
