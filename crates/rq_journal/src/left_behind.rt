@@ -7,7 +7,7 @@ ghost use Rattle.rq_judged.specs.Views.{why_of};
 ghost use Rattle.rq_journal.specs.LeftBehind.{HasNoRightFrame, IsDamage, IsExcess, IsLeftByCrash};
 ghost use Rattle.rq_journal.specs.LeftBehind.{IsSeenBehind, MayBeLeft};
 
-use rq_behind::{Scan, behind, first_record};
+use rq_behind::{Found, Scan};
 use rq_record::{Fault, Version};
 use rq_restart::Why;
 use std::alloc::Global;
@@ -40,7 +40,7 @@ fn led_to(
         (HasNoRightFrame (version_of version) bytes.now used) (IsSeenBehind bytes.now used)) }
     ensures refused { IfErr result (λ e. e ≡ Resources) }
 {
-    let found = behind(alloc, version, bytes, used)?;
+    let found = Found::of(alloc, version, bytes, used)?;
     if let Some(first) = found.spans.first() {
         return Ok(Some(Damage::Right(first.offset())));
     }
@@ -94,7 +94,7 @@ impl Damage {
         if let Some(damage) = led_to(alloc, version, bytes, used)? {
             return Ok(Some(damage));
         }
-        match first_record(version, bytes, used) {
+        match Scan::of(version, bytes, used) {
             Scan::Clear => Ok(None),
             Scan::At(place) => Ok(Some(Damage::Right(place))),
             Scan::GaveUp(place) => Ok(Some(Damage::Unsearched(place))),

@@ -121,25 +121,27 @@ pub fn audited_from<R: Threads + Sync>(
     }
 }
 
-/// Whether a log is whole and each checkpoint of its front true, and what is wrong with it. A
-/// checkpoint that the log begins with is taken at its word, and the text says where it stands.
-///
-/// Refuses what a restart refuses, from there if the log begins so.
-#[tactic(auto, using(crate::proofs::Puts::resources_refused))]
-pub fn check<R: Threads + Sync>(
-    rt: &R,
-    alloc: Global,
-    log: &ShownLog<'_>,
-) -> Result<Findings, Trouble>
-    ensures checked { IfOk result
-        (λ found. IsFindings log.now.at log.now.bytes.now found.fine (string_bytes found.text)) }
-    ensures diagnosis { IfOk result
-        (λ found. IsDiagnosis log.now.at log.now.bytes.now found.diagnosis) }
-    ensures refused { IfErr result (IsRefusal log.now.at log.now.bytes.now) }
-{
-    let end = End::of(rt, alloc, log)?;
-    let behind = standing_behind(alloc, log.bytes, &end)?;
-    let checkpoints = audited_from(rt, alloc, log)?;
-    let found = findings_of(alloc, log.at, &end, &behind, &checkpoints)?;
-    Ok(found)
+impl Findings {
+    /// Whether a log is whole and each checkpoint of its front true, and what is wrong with it. A
+    /// checkpoint that the log begins with is taken at its word, and the text says where it stands.
+    ///
+    /// Refuses what a restart refuses, from there if the log begins so.
+    #[tactic(auto, using(crate::proofs::Puts::resources_refused))]
+    pub fn of<R: Threads + Sync>(
+        rt: &R,
+        alloc: Global,
+        log: &ShownLog<'_>,
+    ) -> Result<Findings, Trouble>
+        ensures checked { IfOk result
+            (λ found. IsFindings log.now.at log.now.bytes.now found.fine (string_bytes found.text)) }
+        ensures diagnosis { IfOk result
+            (λ found. IsDiagnosis log.now.at log.now.bytes.now found.diagnosis) }
+        ensures refused { IfErr result (IsRefusal log.now.at log.now.bytes.now) }
+    {
+        let end = End::of(rt, alloc, log)?;
+        let behind = standing_behind(alloc, log.bytes, &end)?;
+        let checkpoints = audited_from(rt, alloc, log)?;
+        let found = findings_of(alloc, log.at, &end, &behind, &checkpoints)?;
+        Ok(found)
+    }
 }

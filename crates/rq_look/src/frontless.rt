@@ -57,20 +57,22 @@ fn finding_text(
     Ok(text)
 }
 
-/// What a check finds of a carried log, as it is read, which a restart refuses with `NoCheckpoint` or
-/// `BadCheckpoint`: that it has no front, and which frames are right behind where that would begin.
-pub fn check_frontless(alloc: Global, log: &ShownLog<'_>) -> Result<Findings, Trouble>
-    ensures fine { IfOk result (λ found. found.fine ≡ false) }
-    ensures text { IfOk result
-        (λ found. IsFrontless log.now.at log.now.bytes.now (string_bytes found.text)) }
-{
-    let (end, found) = standing(alloc, log)?;
-    let text = finding_text(alloc, log, &end, &found)?;
-    Ok(Findings {
-        fine: false,
-        text,
-        diagnosis: Diagnosis::Damaged,
-    })
+impl Findings {
+    /// What a check finds of a carried log, as it is read, which a restart refuses with `NoCheckpoint` or
+    /// `BadCheckpoint`: that it has no front, and which frames are right behind where that would begin.
+    pub fn of_frontless(alloc: Global, log: &ShownLog<'_>) -> Result<Findings, Trouble>
+        ensures fine { IfOk result (λ found. found.fine ≡ false) }
+        ensures text { IfOk result
+            (λ found. IsFrontless log.now.at log.now.bytes.now (string_bytes found.text)) }
+    {
+        let (end, found) = standing(alloc, log)?;
+        let text = finding_text(alloc, log, &end, &found)?;
+        Ok(Findings {
+            fine: false,
+            text,
+            diagnosis: Diagnosis::Damaged,
+        })
+    }
 }
 
 /// Writes the right frames of such a log that are wanted, how many there are, and that it has no front,

@@ -3,7 +3,7 @@
 ghost use Rattle.std.specs.Prelude.{◌≤◌, length, IfOk};
 
 use crate::refusal::Refusal;
-use rq_behind::{Scan, behind, first_record};
+use rq_behind::{Found, Scan};
 use rq_journal::{Damage, Ending, Why};
 use rq_record::Version;
 use rq_report::why_word;
@@ -159,8 +159,8 @@ fn right_frames(
     requires after { 32 ≤ place }
     requires within { place ≤ length bytes.now }
 {
-    let found = behind(alloc, version, bytes, place)?;
-    if found.spans.is_empty() && matches!(first_record(version, bytes, place), Scan::At(_)) {
+    let found = Found::of(alloc, version, bytes, place)?;
+    if found.spans.is_empty() && matches!(Scan::of(version, bytes, place), Scan::At(_)) {
         return Ok(1);
     }
     Ok(found.spans.len())

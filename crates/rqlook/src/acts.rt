@@ -81,8 +81,8 @@ pub(crate) fn found_of<R: AllocGlobal + Threads + Sync>(
     rt: &R,
     log: &ShownLog<'_>,
 ) -> Result<Findings, Trouble> {
-    match rq_look::check(rt, rt.alloc(), log) {
-        Err(trouble) if is_frontless(log, &trouble) => { rq_look::check_frontless(rt.alloc(), log) }
+    match Findings::of(rt, rt.alloc(), log) {
+        Err(trouble) if is_frontless(log, &trouble) => { Findings::of_frontless(rt.alloc(), log) }
         found => found,
     }
 }

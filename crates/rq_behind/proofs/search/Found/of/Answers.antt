@@ -5,7 +5,7 @@ use Rattle.rq_front.specs.declared.spans.Span.{Span}
 use Rattle.rq_record.specs.Views.{version_of}
 use Rattle.rq_behind.specs.Behind.{AreRightFrames, IsNext, frame_bytes}
 use Rattle.rq_behind.proofs.Sound.{found_all, found_apart, found_more, found_right, frame_ends, next_right}
-use Rattle.rq_behind.proofs.search.behind.Goals as goal
+use Rattle.rq_behind.proofs.search.Found.of.Goals as goal
 
 pub span_at-span-requires-clause-within : goal.span_at-span-requires-clause-within
 span_at-span-requires-clause-within c =

@@ -3,7 +3,7 @@ use Rattle.std.specs.List.{list_all}
 use Rattle.rq_found.specs.Diagnoses.{diagnosis_of}
 use Rattle.rq_look.specs.Findings.{findings_text, all_fine, IsBehind, may_have_right}
 use Rattle.rq_look.proofs.FrontEnds.{ends_within}
-use Rattle.rq_look.proofs.checks.check.Goals as goal
+use Rattle.rq_look.proofs.checks.Findings.of.Goals as goal
 
 pub standing_behind-requires : goal.standing_behind-requires
 standing_behind-requires g c =

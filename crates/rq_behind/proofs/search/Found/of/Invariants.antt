@@ -2,7 +2,7 @@ use Rattle.std.proofs.Common.{◌≡◌, ◌+◌, ◌-◌, ◌≤◌, ◌++◌, 
 use Rattle.rq_front.specs.declared.spans.Span.{Span}
 use Rattle.rq_record.specs.Views.{version_of}
 use Rattle.rq_behind.specs.Behind.{AreRightFrames, frame_bytes}
-use Rattle.rq_behind.proofs.search.behind.Given as goal
+use Rattle.rq_behind.proofs.search.Found.of.Given as goal
 
 abbrev pub invariant-frames : goal.invariant-frames
 invariant-frames l = record {

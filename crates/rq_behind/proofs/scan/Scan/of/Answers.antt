@@ -1,7 +1,7 @@
 use Rattle.std.proofs.Common.{arith}
 use Rattle.rq_record.specs.Views.{version_of}
 use Rattle.rq_behind.proofs.Scanned.{none_more, seen}
-use Rattle.rq_behind.proofs.scan.first_record.Goals as goal
+use Rattle.rq_behind.proofs.scan.Scan.of.Goals as goal
 
 pub returns-in-Some : goal.returns-in-Some
 returns-in-Some c =
