@@ -2,7 +2,7 @@ use Rattle.std.proofs.Common.{◌++◌, ◌∙◌, string_bytes}
 use Rattle.rq_judged.specs.Views.{why_of}
 use Rattle.rq_found.specs.Ends.{beginning_text, end_text}
 use Rattle.rq_look.specs.Findings.{behind_finding}
-use Rattle.rq_look.proofs.frontless.Findings.of_frontless.Goals as goal
+use Rattle.rq_look.proofs.checks.Findings.of_frontless.Goals as goal
 
 pub returns-clause-text : goal.returns-clause-text
 returns-clause-text c =

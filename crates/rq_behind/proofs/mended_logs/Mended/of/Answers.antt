@@ -5,7 +5,7 @@ use Rattle.rq_model.specs.Carrying.{HasCarriedHeader, as_log}
 use Rattle.rq_record.specs.Views.{version_of}
 use Rattle.rq_behind.specs.MendedFiles.{AsLog}
 use Rattle.rq_behind.proofs.Files.{mends_log}
-use Rattle.rq_behind.proofs.mended_files.Mended.of.Goals as goal
+use Rattle.rq_behind.proofs.mended_logs.Mended.of.Goals as goal
 
 pub returns-in-Some : goal.returns-in-Some
 returns-in-Some g c =
