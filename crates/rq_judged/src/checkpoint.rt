@@ -4,7 +4,7 @@ ghost use Rattle.std.specs.Prelude.{◌≡◌, ◌≤◌, ◌+◌, length, optio
 ghost use Rattle.rq_front.specs.Chains.{bodies_at};
 ghost use Rattle.rq_judged.specs.Checkpoints.{BeginsAt, kept_in, chain_start};
 
-use crate::frames::grain_of;
+use crate::front_pass::grain_of;
 use rq_front::{Chain, HEADER_LEN, Span, chain, log_version};
 use rq_plan::Plan;
 use rq_record::{Fault, Version};

@@ -4,7 +4,6 @@ ghost use Rattle.std.specs.Prelude.{◌≡◌, ◌≤◌, ◌+◌, ◌++◌, ℕ
 ghost use Rattle.std.specs.Prelude.{IfErr, OnOk};
 ghost use Rattle.std.specs.Thread.{IsSync};
 ghost use Rattle.rq_model.specs.Frames.{bodies_of, log_limit};
-ghost use Rattle.rq_model.specs.Fronts.{Ends};
 ghost use Rattle.rq_model.specs.Records as records;
 ghost use Rattle.rq_model.specs.States as model;
 ghost use Rattle.rq_record.specs.Views.{record_of, version_of};
@@ -18,9 +17,9 @@ ghost use Rattle.rq_judged.specs.Views.{why_of};
 
 use crate::bodies::{FEW, PartedRecords, put_together, read_bodies};
 use crate::ends::Why;
-use crate::frames::grain_of;
+use crate::front_pass::{grain_of, why_of};
 use rq_catalog::{Analysis, analyse_kept};
-use rq_front::{Chain, Rest, Walk};
+use rq_front::{Chain, Walk};
 use rq_plan::Plan;
 use rq_record::{Fault, KeptRecord, LogBytes, Version};
 use rq_state::State;
@@ -46,18 +45,6 @@ pub struct Front {
     pub end: usize,
     /// Why they end there.
     pub why: Why,
-}
-
-/// Why the front ends behind all frames of a chain, by what follows them.
-pub(crate) fn why_of(rest: Rest) -> Why
-    ensures { why_of result ≡ Ends (rest_of rest) }
-{
-    match rest {
-        Rest::Whole => Why::Whole,
-        Rest::Cut => Why::Cut,
-        Rest::Length => Why::Length,
-        Rest::Digest => Why::Chain,
-    }
 }
 
 /// Where the front ends, and why: behind `kept` frames of a chain, of which `read` were read.

@@ -18,8 +18,8 @@ use crate::shown_records::{ShownFrame, ShownRecord};
 use crate::wanted::Wanted;
 use rq_behind::Found;
 use rq_found::{
-    End, Output, PlacedFrames, Put, ShownLog, Trouble, end_of, first_state, form_reason,
-    front_frames, put_beginning, put_end, queues_behind, queues_of,
+    End, Output, PlacedFrames, Put, ShownLog, Trouble, first_state, form_reason, front_frames,
+    put_beginning, put_end, queues_behind, queues_of,
 };
 use rq_front::Span;
 use rq_record::{Fault, KeptRecord};
@@ -277,7 +277,7 @@ pub fn dump<R: Threads + Sync, W: Output>(
         (W.contents output.old) (W.contents output.new)) }
     ensures faults { CountsFaults (W.faults output.old) (W.faults output.new) result }
 {
-    let end = end_of(rt, alloc, log)?;
+    let end = End::of(rt, alloc, log)?;
     let first = first_state(alloc, log.bytes, log.at)?;
     let mut text = String::new(alloc);
     put_lines(alloc, log, &end, &first, wanted, &mut text, output)

@@ -27,8 +27,8 @@ ghost use Rattle.rq_look.specs.Scripts.{script_line};
 use crate::sheet::{relieve, write_out};
 use crate::shown_records::by_of;
 use rq_found::{
-    End, Numbered, Output, Placed, Put, ShownLog, Trouble, end_of, first_state, front_frames,
-    is_whole, put_digits,
+    End, Numbered, Output, Placed, Put, ShownLog, Trouble, first_state, front_frames, is_whole,
+    put_digits,
 };
 use rq_record::{KeptBy, KeptName, KeptRecord, QueueNo, UnitNo};
 use rq_report::put_error;
@@ -263,7 +263,7 @@ pub(crate) fn put_front_script<R: Threads + Sync, W: Output>(
         (W.contents output.old) (W.contents output.new)) }
     ensures faults { CountsFaults (W.faults output.old) (W.faults output.new) result }
 {
-    let end = end_of(rt, alloc, log)?;
+    let end = End::of(rt, alloc, log)?;
     let first = first_state(alloc, log.bytes, log.at)?;
     put_records(alloc, log, &first, end.used, output)?;
     Ok(end)

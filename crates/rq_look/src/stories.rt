@@ -10,7 +10,7 @@ use crate::sheet::{relieve, write_out};
 use crate::shown_records::{ShownRecord, unit_number};
 use rq_found::{
     End, Event, FollowedQueues, Numbered, Output, Placed, PlacedFrames, Put, ShownLog, Subject,
-    Trouble, end_of, first_state, front_frames, put_beginning, put_end,
+    Trouble, first_state, front_frames, put_beginning, put_end,
 };
 use std::alloc::{AllocError, Global};
 use std::fmt::Write;
@@ -217,6 +217,6 @@ pub fn story<R: Threads + Sync, W: Output>(
         (W.contents output.old) (W.contents output.new)) }
     ensures faults { CountsFaults (W.faults output.old) (W.faults output.new) result }
 {
-    let end = end_of(rt, alloc, log)?;
+    let end = End::of(rt, alloc, log)?;
     tell(alloc, log.bytes, &end, subject, output)
 }

@@ -117,19 +117,21 @@ fn commands<'a>(
     Ok(commands)
 }
 
-/// The command of a program by its name, what its help says of it, its version, and the table of its
-/// commands, one of which must be given.
-pub fn program_command<'a>(
-    alloc: Global,
-    name: &'static str,
-    about: &'static str,
-    version: &'static str,
-    texts: &'static [Subcommand],
-) -> Result<Command<'a>, AllocError> {
-    let commands = commands(alloc, texts)?;
-    Command::new(alloc, name)
-        .about(about)
-        .version(version)
-        .subcommand_required(true)
-        .subcommands(commands)
+impl Subcommand {
+    /// The command of a program by its name, what its help says of it, its version, and the table of
+    /// its commands, one of which must be given.
+    pub fn program_command<'a>(
+        alloc: Global,
+        name: &'static str,
+        about: &'static str,
+        version: &'static str,
+        texts: &'static [Subcommand],
+    ) -> Result<Command<'a>, AllocError> {
+        let commands = commands(alloc, texts)?;
+        Command::new(alloc, name)
+            .about(about)
+            .version(version)
+            .subcommand_required(true)
+            .subcommands(commands)
+    }
 }

@@ -5,7 +5,7 @@ use crate::fronts::OpenLog;
 use crate::refusal::Refusal;
 use rq_journal::{NotTaken, Rule};
 use rq_record::{Fault, KeptRecord, Record, Version};
-use rq_writer::{ScriptLine, line_at, read_line};
+use rq_writer::{ScriptLine, line_at};
 use std::alloc::{AllocError, Global};
 use std::fmt;
 
@@ -137,7 +137,7 @@ fn rule_of(alloc: Global, log: &OpenLog, record: &Record) -> Reason {
 
 // Why a line is not appended that the log's version does not have.
 fn reason_unread(alloc: Global, log: &OpenLog, text: &[u8]) -> Reason {
-    match read_line(alloc, Version::Two, text) {
+    match ScriptLine::of(alloc, Version::Two, text) {
         Ok(ScriptLine::Told(record)) => rule_of(alloc, log, &record),
         Err(Fault::Resources) => Reason::Memory,
         _ => Reason::Misfit(field_missed(text)),
@@ -169,7 +169,7 @@ fn append_record(alloc: Global, log: &mut OpenLog, record: &Record) -> Result<()
 
 // Appends the frame of a line's record.
 fn append_line(alloc: Global, log: &mut OpenLog, text: &[u8]) -> Result<(), Reason> {
-    match read_line(alloc, log.version(), text) {
+    match ScriptLine::of(alloc, log.version(), text) {
         Ok(ScriptLine::Told(record)) => append_record(alloc, log, &record),
         Ok(ScriptLine::Spelled) => Err(Reason::Checkpoint),
         Err(Fault::Resources) => Err(Reason::Memory),

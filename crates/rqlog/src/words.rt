@@ -123,5 +123,5 @@ fn subcommands() -> &'static [Subcommand] {
 /// The program's command.
 pub(crate) fn program<'a>(alloc: Global) -> Result<Command<'a>, AllocError> {
     let about = "Appends to the log of a recoverable queue manager, marks it and carries it on";
-    rq_words::program_command(alloc, "rqlog", about, VERSION, subcommands())
+    Subcommand::program_command(alloc, "rqlog", about, VERSION, subcommands())
 }

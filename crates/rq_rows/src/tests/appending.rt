@@ -5,7 +5,7 @@ use rq_journal::{
     Appender, NotTaken, Opened, carried, frames_behind, is_carried, marked, open, read_as_log,
 };
 use rq_record::{KeptRecord, LogBytes, QueueNo, Record, UnitNo, Version};
-use rq_restart::{Fault, Open, Plan, Restarted, Why, audit, redone_front, restart, restart_at};
+use rq_restart::{Fault, Open, Plan, RedoneFront, Restarted, Why, audit, restart, restart_at};
 use sha2::{Digest, Sha256};
 use std::alloc::Global;
 use std::test::Fail;
@@ -118,7 +118,7 @@ fn goes_on_from<R: Threads + Sync + AllocGlobal>(rt: &R, log: &[u8], at: u64, pl
 fn a_log_is_marked_and_carried_on(rt: HostRuntime) -> Result<(), Fail> {
     let plan = Plan::new(1, 1).ok_or("plan")?;
     let log = log_of(&rt, ONE_ELEMENT)?;
-    let front = redone_front(&rt, rt.alloc(), &LogBytes::borrowed(&log), &plan)?;
+    let front = RedoneFront::of(&rt, rt.alloc(), &LogBytes::borrowed(&log), &plan)?;
     let mut new = carried(rt.alloc(), &front)?;
     assert!(rt; is_carried(&new) && !is_carried(&log));
     assert!(rt; is_no_log(restart(&rt, rt.alloc(), &new, &plan, &Open)));

@@ -1,0 +1,23 @@
+use Rattle.std.proofs.Common.{◌≡◌, ◌∙◌, List, ℕ, length, subst}
+use Rattle.rq_restart.specs.RedoneFronts.{IsFoundFront}
+use Rattle.rq_restart.proofs.RedoneFronts.{restarts}
+use Rattle.rq_restart.proofs.restart_ends.Restarted.of_own.Goals as goal
+use Rattle.rq_restart.proofs.restart_ends.Restarted.of_own.Goals.{In_ok-from}
+
+found : (g : _) (c : In_ok-from g) → IsFoundFront c.args.bytes.items c.in_ok-from.from
+found g c = subst (λ (b : List ℕ). IsFoundFront b c.in_ok-from.from)
+    (c.shared.ensures ∙ c.in_ok-log.ensures) c.in_ok-from.ensures
+
+total : (g : _) (c : In_ok-from g) → c.len-total.result ≡ length c.args.bytes.items
+total g c = c.len-total.ensures ∙ c.args.bytes.ok.0
+
+pub finish-requires-clause-front : goal.finish-requires-clause-front
+finish-requires-clause-front g c κs within =
+    let d = (goal.at.finish-requires-clause-front g c).In_ok-from in
+    (c.args.bytes.items, 40, (found g d).found, total g d)
+
+pub returns : goal.returns
+returns g c =
+    let d = (goal.at.returns g c).In_ok-from in
+    restarts c.args.bytes.items c.in_ok-from.from (found g d) c.len-total.result (total g d) c.finish.result
+    c.finish.ensures.answer c.finish.ensures.refused
