@@ -34,7 +34,7 @@ pub struct Opened {
 impl Opened {
     /// Stands behind a front that was judged.
     #[tactic(auto, using(crate::proofs::Openings::opened, crate::proofs::Openings::opened_at))]
-    pub fn after(front: JudgedFront) -> Opened
+    pub fn of(front: JudgedFront) -> Opened
         ensures whole { (b : List ℕ) → IsJudged b front → IsOpened b result }
         ensures from { (b : List ℕ) (offset : ℕ) → IsJudgedAt b offset front → IsOpenedAt b offset result }
     {
@@ -59,14 +59,14 @@ impl Opened {
     }
 
     /// Stands behind a front of which the state was made. Refused with `Resources` alone.
-    pub fn after_redone(alloc: Global, front: &RedoneFront) -> Result<Opened, Fault>
+    pub fn of_redone(alloc: Global, front: &RedoneFront) -> Result<Opened, Fault>
         ensures whole { IfOk result (λ opened. (b : List ℕ) → IsRedoneFront b front.now → IsOpened b opened) }
         ensures from { IfOk result (λ opened. (b : List ℕ) (offset : ℕ) → IsRedoneAt b offset front.now
             → IsOpenedAt b offset opened) }
         ensures refused { IfErr result (λ e. e ≡ Resources) }
     {
         let judge = Judge::of(alloc, front.version, &front.state)?;
-        Ok(Opened::after(JudgedFront {
+        Ok(Opened::of(JudgedFront {
             judge,
             last: front.last,
             used: front.used,
@@ -88,7 +88,7 @@ pub fn open<R: Threads + Sync>(
 ) -> Result<Opened, Fault>
     ensures opens { Opens bytes.now result }
 {
-    Ok(Opened::after(JudgedFront::of(rt, alloc, bytes, plan)?))
+    Ok(Opened::of(JudgedFront::of(rt, alloc, bytes, plan)?))
 }
 
 /// Opens a carried file that was read as a log (`read_as_log`), to write behind its front: as `open`,
@@ -104,7 +104,7 @@ pub fn open_carried<R: Threads + Sync>(
 ) -> Result<Opened, Fault>
     ensures opens { OpensCarried bytes.now result }
 {
-    Ok(Opened::after(JudgedFront::judged_at(rt, alloc, bytes, CARRIED_AT as u64, plan)?))
+    Ok(Opened::of(JudgedFront::judged_at(rt, alloc, bytes, CARRIED_AT as u64, plan)?))
 }
 
 /// Why records are not written.

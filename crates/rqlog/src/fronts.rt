@@ -140,7 +140,7 @@ where
     let mut front = GrowingFront::new(rt.alloc());
     let read = feed_file(rt, file, &mut front, plan)?;
     let judged = front.judged(rt, rt.alloc(), plan)?;
-    Ok(open_at(rt.alloc(), Opened::after(judged), read, 0))
+    Ok(open_at(rt.alloc(), Opened::of(judged), read, 0))
 }
 
 /// Where the front of the log in an open file ends, behind which records may follow, or do if what
@@ -198,7 +198,7 @@ pub(crate) fn redone_log<R: Threads + Sync>(
 ) -> Result<(OpenLog, RedoneFront), Refusal> {
     let front = redone_in(rt, alloc, log, plan)?;
     let bytes = log.bytes.as_slice();
-    let opened = Opened::after_redone(alloc, &front)?;
+    let opened = Opened::of_redone(alloc, &front)?;
     let before = numbered_before(bytes, log.is_carried);
     let mut open = open_at(alloc, opened, bytes.len(), before);
     open.expect_end(alloc, LastBytes::all(bytes), drops)?;
