@@ -17,7 +17,7 @@ pub use keeper::Keeper;
 pub use pieces::go_on;
 pub use redone::{RedoneFront, front_state};
 pub use restart_ends::Restarted;
-pub use restarts::{restart, restart_at};
+pub use restarts::{restart, restart_at, restart_own, restart_own_at};
 pub use rq_judged::Why;
 pub use rq_plan::{Gate, Open, Plan};
 pub use rq_record::{Fault, LogBytes, Version};

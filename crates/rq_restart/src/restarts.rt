@@ -61,45 +61,24 @@ pub(crate) fn restart_of<R: Threads + Sync, G: Gate + Sync>(
     finish(rt, alloc, from, total, plan, gate)
 }
 
-impl Restarted {
-    /// The restart of a log that nobody else needs: `restart` of its bytes. A checkpoint, and a payload
-    /// of more than 22 bytes, are parts of them and no copies. If the records of the front have no such
-    /// part, the bytes are let go before a queue is redone. Else they stay in memory as long as one such
-    /// payload does.
-    pub fn of_own<R: Threads + Sync, G: Gate + Sync>(
-        rt: &R,
-        alloc: Global,
-        bytes: Vec<u8>,
-        plan: &Plan,
-        gate: &G,
-    ) -> Result<Restarted, Fault>
-        ensures { Restarts bytes.items result }
-    {
-        let total = bytes.len();
-        let log = ArcSlice::from_vec(bytes)?;
-        let from = whole_front(rt, alloc, &LogBytes::shared(&log), plan)?;
-        drop(log);
-        finish(rt, alloc, from, total, plan, gate)
-    }
-
-    /// The restart from a checkpoint of a log that nobody else needs: `restart_at` of its bytes, which
-    /// are let go or kept as `Restarted::of_own` does it.
-    pub fn of_own_at<R: Threads + Sync, G: Gate + Sync>(
-        rt: &R,
-        alloc: Global,
-        bytes: Vec<u8>,
-        offset: u64,
-        plan: &Plan,
-        gate: &G,
-    ) -> Result<Restarted, Fault>
-        ensures { RestartsAt bytes.items offset result }
-    {
-        let total = bytes.len();
-        let owned = ArcSlice::from_vec(bytes)?;
-        let from = front_from(rt, alloc, &LogBytes::shared(&owned), offset, plan)?;
-        drop(owned);
-        finish(rt, alloc, from, total, plan, gate)
-    }
+/// The restart of a log that nobody else needs: `restart` of its bytes. A checkpoint, and a payload
+/// of more than 22 bytes, are parts of them and no copies. If the records of the front have no such
+/// part, the bytes are let go before a queue is redone. Else they stay in memory as long as one such
+/// payload does.
+pub fn restart_own<R: Threads + Sync, G: Gate + Sync>(
+    rt: &R,
+    alloc: Global,
+    bytes: Vec<u8>,
+    plan: &Plan,
+    gate: &G,
+) -> Result<Restarted, Fault>
+    ensures { Restarts bytes.items result }
+{
+    let total = bytes.len();
+    let log = ArcSlice::from_vec(bytes)?;
+    let from = whole_front(rt, alloc, &LogBytes::shared(&log), plan)?;
+    drop(log);
+    finish(rt, alloc, from, total, plan, gate)
 }
 
 /// The front of a log, and the state behind it and the aborts of its open units.
@@ -146,6 +125,25 @@ pub(crate) fn front_from<R: Threads + Sync>(
         state: begun.state,
         front,
     })
+}
+
+/// The restart from a checkpoint of a log that nobody else needs: `restart_at` of its bytes, which
+/// are let go or kept as `restart_own` does it.
+pub fn restart_own_at<R: Threads + Sync, G: Gate + Sync>(
+    rt: &R,
+    alloc: Global,
+    bytes: Vec<u8>,
+    offset: u64,
+    plan: &Plan,
+    gate: &G,
+) -> Result<Restarted, Fault>
+    ensures { RestartsAt bytes.items offset result }
+{
+    let total = bytes.len();
+    let owned = ArcSlice::from_vec(bytes)?;
+    let from = front_from(rt, alloc, &LogBytes::shared(&owned), offset, plan)?;
+    drop(owned);
+    finish(rt, alloc, from, total, plan, gate)
 }
 
 /// The restart from a checkpoint of a log whose bytes may be shared: `restart_at` of them. If they

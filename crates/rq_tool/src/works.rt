@@ -13,7 +13,9 @@ ghost use Rattle.rq_tool.specs.declared.works.Work.TheVariants.{Audit, Close, Up
 
 use crate::input::are_bytes;
 use rq_report::{Output, write_report_by};
-use rq_restart::{Fault, Gate, LogBytes, Plan, Restarted, audit_of, closed, upgrade};
+use rq_restart::{
+    Fault, Gate, LogBytes, Plan, audit_of, closed, restart_own, restart_own_at, upgrade,
+};
 use std::alloc::{AllocError, Global};
 use std::fmt::Write;
 use std::marker::Sync;
@@ -59,7 +61,7 @@ pub(crate) fn put_report<R: Threads + Sync, O: Output, G: Gate + Sync>(
         (O.faults output.old) (O.faults output.new)
         (O.contents output.old) (O.contents output.new) result }
 {
-    let restarted = Restarted::of_own(rt, alloc, bytes, plan, gate)?;
+    let restarted = restart_own(rt, alloc, bytes, plan, gate)?;
     write_report_by(rt, alloc, &restarted, plan, output)
 }
 
@@ -82,7 +84,7 @@ pub(crate) fn put_report_at<R: Threads + Sync, O: Output, G: Gate + Sync>(
     rq_model::true_checkpoints_report_the_same();
     rq_model::versions();
     are_bytes(&bytes);
-    let from_there = Restarted::of_own_at(rt, alloc, bytes, offset, plan, gate)?;
+    let from_there = restart_own_at(rt, alloc, bytes, offset, plan, gate)?;
     write_report_by(rt, alloc, &from_there, plan, output)
 }
 

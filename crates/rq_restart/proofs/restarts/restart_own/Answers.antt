@@ -1,8 +1,8 @@
 use Rattle.std.proofs.Common.{◌≡◌, ◌∙◌, List, ℕ, length, subst}
 use Rattle.rq_restart.specs.RedoneFronts.{IsFoundFront}
 use Rattle.rq_restart.proofs.RedoneFronts.{restarts}
-use Rattle.rq_restart.proofs.restart_ends.Restarted.of_own.Goals as goal
-use Rattle.rq_restart.proofs.restart_ends.Restarted.of_own.Goals.{In_ok-from}
+use Rattle.rq_restart.proofs.restarts.restart_own.Goals as goal
+use Rattle.rq_restart.proofs.restarts.restart_own.Goals.{In_ok-from}
 
 found : (g : _) (c : In_ok-from g) → IsFoundFront c.args.bytes.items c.in_ok-from.from
 found g c = subst (λ (b : List ℕ). IsFoundFront b c.in_ok-from.from)

@@ -1,8 +1,8 @@
 use Rattle.std.proofs.Common.{◌≡◌, ◌∙◌, List, ℕ, length, subst}
 use Rattle.rq_restart.specs.RedoneFronts.{IsFoundAt}
 use Rattle.rq_restart.proofs.RedoneFronts.{restarts_at}
-use Rattle.rq_restart.proofs.restart_ends.Restarted.of_own_at.Goals as goal
-use Rattle.rq_restart.proofs.restart_ends.Restarted.of_own_at.Goals.{In_ok-from}
+use Rattle.rq_restart.proofs.restarts.restart_own_at.Goals as goal
+use Rattle.rq_restart.proofs.restarts.restart_own_at.Goals.{In_ok-from}
 
 found : (g : _) (c : In_ok-from g) → IsFoundAt c.args.bytes.items c.args.offset c.in_ok-from.from
 found g c = subst (λ (b : List ℕ). IsFoundAt b c.args.offset c.in_ok-from.from)
