@@ -9,9 +9,10 @@ ghost use Rattle.rq_record.specs.Views.{record_of, version_of};
 ghost use Rattle.rq_journal.specs.Appenders.{Place, IsAppenderAt, behind_header};
 ghost use Rattle.rq_journal.specs.Appenders.{Refuses, KeepsPlace, AppendsUpTo, AppendsOne, AppendsEach};
 
-use rq_catalog::{Judge, Rule};
+use rq_catalog::Judge;
 use rq_front::{FRAME_LEN, HEADER_LEN, LOG_LIMIT};
 use rq_judged::append_frame;
+use rq_lawful::Rule;
 use rq_record::{KeptRecord, Record, Version, encode};
 use std::alloc::Global;
 
