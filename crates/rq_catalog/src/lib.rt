@@ -11,6 +11,5 @@ mod units;
 
 pub use analysis::{Analysis, analyse, analyse_in, analyse_kept, indices};
 pub use judge::Judge;
-pub use rq_lawful::Rule;
 pub use start::{Engaging, engage_by_marks, engage_by_notes};
 pub use units::Outcome;

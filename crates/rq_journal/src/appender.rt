@@ -10,8 +10,9 @@ ghost use Rattle.rq_front.specs.Framers.{Place, behind_header};
 ghost use Rattle.rq_journal.specs.Appenders.{IsAppenderAt};
 ghost use Rattle.rq_journal.specs.Appenders.{Refuses, KeepsPlace, AppendsUpTo, AppendsOne, AppendsEach};
 
-use rq_catalog::{Judge, Rule};
+use rq_catalog::Judge;
 use rq_front::{FRAME_LEN, HEADER_LEN, LOG_LIMIT, append_frame};
+use rq_lawful::Rule;
 use rq_record::{KeptRecord, Record, Version, encode};
 use std::alloc::Global;
 

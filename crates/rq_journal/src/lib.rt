@@ -15,7 +15,7 @@ pub use checkpoints::{checkpoint_of, marked};
 pub use left_behind::Damage;
 pub use opened_logs::{NotWritten, Opened, frames_behind, open, open_carried};
 pub use recoveries::{MadeWhole, NotRecovered};
-pub use rq_catalog::Rule;
 pub use rq_front::{CARRIED_AT, is_carried, read_as_log, write_as_carried};
+pub use rq_lawful::Rule;
 pub use rq_record::Fault;
 pub use rq_restart::{Ending, Plan, Why};
