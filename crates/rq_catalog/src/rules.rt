@@ -4,7 +4,7 @@ use rq_record::{Name, QueueNo, UnitNo};
 use std::fmt;
 
 /// A rule that a record breaks.
-#[derive(Clone, Copy, Debug)]
+#[derive(Clone, Copy, PartialEq, Eq, Debug)]
 pub enum Rule {
     /// The unit is not open.
     NotOpen(UnitNo),
