@@ -8,6 +8,8 @@ use Rattle.rq_model.specs.Machine.{is_lawful, run, step}
 use Rattle.rq_model.specs.Appending.{MayFollow}
 use Rattle.rq_record.specs.Writing.{HasKind}
 use Rattle.rq_front.specs.Framers.{Place, IsFramerAt, length_with}
+use Rattle.rq_lawful.specs.declared.rules.Rule.{Rule}
+use Rattle.rq_lawful.specs.Breaks.{Breaks}
 use Rattle.rq_catalog.specs.declared.judge.Judge.{Judge}
 use Rattle.rq_catalog.specs.Judges.{StandsIn}
 use Rattle.rq_journal.specs.declared.appender.Appender.{Appender}
@@ -28,9 +30,11 @@ pub record IsSpelled (r : Record) (body : List ℕ) : Type 0 where
   pub fits : IsBodyLength (length body)
   pub spells : (version : Version) → HasKind version r → Spells version r (body_of r)
 
--- the one is lawful where the other is, and a judge stands behind both alike
+-- the one is lawful where the other is, and breaks no other rule; and a judge stands behind both alike
 pub record IsJudgedAs (a r : Record) : Type 0 where
   pub lawful : (version : Version) (s : State) → is_lawful version s a ≡ is_lawful version s r
+  pub breaks : (version : Version) (s : State) (rule : Rule) → Breaks version s a rule
+      → Breaks version s r rule
   pub stands : (version : Version) (j : Judge) (s : State) → StandsIn version j (step s a)
       → StandsIn version j (step s r)
 
@@ -43,11 +47,11 @@ AppendsOne a b r old new = (at : Place) (rs : List Record) → IsAppenderAt at r
 abbrev pub KeepsPlace : Appender → Appender → Type 0
 KeepsPlace a b = (at : Place) (rs : List Record) → IsAppenderAt at rs a → IsAppenderAt at rs b
 
--- why a record is not taken behind these: it is not lawful there, and there would be room; or there
+-- why a record is not taken behind these: it breaks a rule there, and there would be room; or there
 -- is none; or memory was refused
 abbrev pub IsRefused : Place → List Record → Record → NotTaken → Type 0
-IsRefused at rs r (Unlawful rule) = (is_lawful at.version (run at.state rs) r ≡ false)
-    × (length_with at (rs ++ r ∷ []) ≤ log_limit)
+IsRefused at rs r (Unlawful rule) = Breaks at.version (run at.state rs) r rule
+    × (is_lawful at.version (run at.state rs) r ≡ false) × (length_with at (rs ++ r ∷ []) ≤ log_limit)
 IsRefused at rs r Full = log_limit < length_with at (rs ++ r ∷ [])
 IsRefused at rs r Resources = ⊤
 

@@ -8,8 +8,9 @@ ghost use Rattle.rq_front.specs.Framers.{Place, behind_header};
 ghost use Rattle.rq_journal.specs.Appenders.{IsAppenderAt, IsSpelled, IsJudgedAs};
 ghost use Rattle.rq_journal.specs.Appenders.{Refuses, KeepsPlace, AppendsUpTo, AppendsOne, AppendsEach};
 
-use rq_catalog::{Judge, Rule};
+use rq_catalog::Judge;
 use rq_front::{FRAME_LEN, Framer};
+use rq_lawful::Rule;
 use rq_record::{
     CheckBytes, Fault, KeptBy, KeptPayload, KeptRecord, Payload, Record, Version, encode,
 };

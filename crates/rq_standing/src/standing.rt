@@ -13,7 +13,8 @@ ghost use Rattle.rq_standing.specs.Stands.{Stands, IsTakenAs, state_with};
 
 use crate::open_units::OpenUnits;
 use crate::queues::Queues;
-use rq_catalog::{Judge, Rule};
+use rq_catalog::Judge;
+use rq_lawful::Rule;
 use rq_record::{ElemId, Fault, KeptRecord, Version};
 use std::alloc::Global;
 

@@ -11,7 +11,7 @@ use crate::tests::spelled;
 use Plain::{
     Abort, Begin, Checkpoint, Commit, Define, Dequeue, Deregister, Enqueue, Kill, Register,
 };
-use rq_catalog::Rule;
+use rq_lawful::Rule;
 use rq_plan::Plan;
 use rq_record::{ElemId, KeptRecord, Record, Version};
 use rq_standing::{Standing, Taken};

@@ -28,6 +28,7 @@ returns-in-Some-clause-refused c at rs h =
     let told = c.has_room.ensures in
     let some = c.if-not-has_room.false in
     let short : a.framer.len + (36 + length body) ≤ log_limit = grind (arith, nat_tests, told, some) in (
+      c.in-Ok.ensures.breaks at.version here c.in-Some.rule (c.in-Some.ensures.which at.version here h.judge),
       sym (c.in-Ok.ensures.lawful at.version here) ∙ c.in-Some.ensures.unlawful at.version here h.judge,
       omega (arith, short, h.framer.len, ap length c.requires.bytes, one_longer at rs (record_of c.args.next.now)),
     )
