@@ -118,13 +118,14 @@ impl Judge {
     {
         let is_lawful = self.broken(next).is_none();
         if is_lawful {
-            self.note(next)?;
+            self.advance(next)?;
         }
         Ok(is_lawful)
     }
 
-    // Takes a record that is lawful.
-    fn note(&mut self, next: &KeptRecord) -> Result<(), Fault>
+    /// Takes a record that is lawful after those that were taken: `broken` answers none. Refused only
+    /// with `Resources`, and then nothing is taken.
+    pub fn advance(&mut self, next: &KeptRecord) -> Result<(), Fault>
         ensures stands { OnOk result ((version : records.Version) (s : State) →
             StandsIn version self.old s
             → StandsIn version self.new (machine.step s (record_of next.now))) }

@@ -10,7 +10,7 @@ pub(crate) const QUEUES: usize = 4096;
 pub(crate) const LIMIT: u16 = 1000;
 
 /// A rule that a record breaks.
-#[derive(Clone, Copy, Debug)]
+#[derive(Clone, Copy, PartialEq, Eq, Debug)]
 pub enum Rule {
     /// The unit is not open.
     NotOpen(UnitNo),

@@ -11,7 +11,7 @@ use Rattle.rq_catalog.specs.declared.judge.Judge.{Judge}
 use Rattle.rq_catalog.specs.Grounds.{AreGroundsOf, KeepsKnowing}
 use Rattle.rq_catalog.specs.Judges.{StandsIn, KeepsStanding}
 use Rattle.rq_catalog.proofs.Knowing.{commits, aborts, closed_step, same_units, on_ok, on_err}
-use Rattle.rq_catalog.proofs.judge.Judge.note.Goals as goal
+use Rattle.rq_catalog.proofs.judge.Judge.advance.Goals as goal
 
 pub returns-in-Commit-clause-stands : goal.returns-in-Commit-clause-stands
 returns-in-Commit-clause-stands c = λ version s stands.
