@@ -49,7 +49,7 @@ impl Knows for Catalogue {
     }
 
     fn is_registered(&self, queue: QueueNo, name: &KeptName) -> bool {
-        self.grounds.has_registered(queue, name)
+        self.grounds.knows_registrant(queue, name)
     }
 
     fn is_open(&self, unit: UnitNo) -> bool {

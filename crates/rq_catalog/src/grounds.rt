@@ -128,7 +128,7 @@ impl Grounds {
         self.names.contains(name)
     }
 
-    pub(crate) fn has_registered(&self, queue: QueueNo, name: &KeptName) -> bool
+    pub(crate) fn knows_registrant(&self, queue: QueueNo, name: &KeptName) -> bool
         ensures { (s : model.State) → AreGroundsOf self.now s
             → result ≡ machine.is_registered s queue.0 name.now }
     {
