@@ -40,6 +40,13 @@ impl Framer {
         Framer { last, len }
     }
 
+    /// How many bytes the log has.
+    pub fn len(&self) -> usize
+        ensures { result ≡ self.now.len }
+    {
+        self.len
+    }
+
     /// Whether the log has room for the frame of a body of so many bytes: with it, it has at most
     /// 4,294,967,295.
     pub fn has_room(&self, len: usize) -> bool

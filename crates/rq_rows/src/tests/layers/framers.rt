@@ -89,6 +89,6 @@ fn a_log_has_at_most_4294967295_bytes(rt: HostRuntime) -> Result<(), Fail> {
     assert!(rt; !puts(&mut framer, b"bc", &mut out)?);
     assert!(rt; puts(&mut framer, b"b", &mut out)?);
     assert!(rt; !puts(&mut framer, b"c", &mut out)?);
-    assert!(rt; out.len() == 74);
+    assert!(rt; out.len() == 74 && framer.len() == 4_294_967_295);
     Ok(())
 }
