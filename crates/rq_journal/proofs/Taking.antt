@@ -1,10 +1,10 @@
 -- A record that is taken, and one that is not.
 use Rattle.std.proofs.Common.{◌≡◌, ℕ, ◌+◌, ◌≤◌, true, List, [], ◌∷◌, ◌++◌, length, refl, sym, ap, subst}
 use Rattle.std.proofs.Common.{◌∙◌, append_assoc, arith}
-use Rattle.std.specs.Prelude.{Option, Some}
+use Rattle.std.specs.Prelude.{Some}
 use Rattle.std.proofs.lemmas.Bool.{and_from}
 use Rattle.std.proofs.lemmas.List.{append-nil, length-append}
-use Rattle.rq_model.specs.Records.{By, Record, Define, Register, Deregister, Begin, Enqueue, Dequeue, Commit, Abort}
+use Rattle.rq_model.specs.Records.{Record, Define, Register, Deregister, Begin, Enqueue, Dequeue, Commit, Abort}
 use Rattle.rq_model.specs.Records.{Checkpoint, Kill, Version, One, Two}
 use Rattle.rq_model.specs.Spelling.{body_of, IsRecord, Spells}
 use Rattle.rq_model.specs.Frames.{log_limit, IsBodyLength, digest, frame, frames_of, last_of}
@@ -17,53 +17,18 @@ use Rattle.rq_model.proofs.Runs.{frame_long}
 use Rattle.rq_model.proofs.Longest.{frames_of_join, last_of_join}
 use Rattle.rq_model.proofs.Restarts.{run_join, lawful_join, lawful_cut, each_cut}
 use Rattle.rq_record.specs.Writing.{HasKind}
-use Rattle.rq_lawful.specs.declared.rules.Rule.{Rule}
-use Rattle.rq_lawful.specs.declared.rules.Rule.TheVariants.{NotAbove}
-use Rattle.rq_lawful.specs.Breaks.{Breaks}
 use Rattle.rq_catalog.specs.declared.judge.Judge.{Judge}
 use Rattle.rq_front.specs.Framers.{Place, Frames, length_with}
 use Rattle.rq_catalog.specs.Judges.{StandsIn, KeepsStanding}
 use Rattle.rq_journal.specs.declared.appender.Appender.{Appender}
 use Rattle.rq_journal.specs.declared.appender.NotTaken.{NotTaken}
-use Rattle.rq_journal.specs.Appenders.{IsAppenderAt, IsJudgedAs}
+use Rattle.rq_journal.specs.Appenders.{IsAppenderAt}
 use Rattle.rq_journal.specs.Appenders.{AppendsOne, AppendsEach, KeepsPlace, Refuses, AppendsUpTo}
 
 -- a body fits into a frame
 pub body_fits : (r : Record) → RecordHasOneBody
     → ((version : Version) → HasKind version r → Spells version r (body_of r)) → IsBodyLength (length (body_of r))
 body_fits r one spelled = (one Two r (body_of r) (body_of r) (spelled Two tt) (spelled Two tt)).1
-
--- a judge does not look at a payload, nor at the bytes of a checkpoint
-same_rule : (unit queue priority : ℕ) (by : Option By) (p q : List ℕ) (version : Version) (s : State) (rule : Rule)
-    → Breaks version s (Enqueue unit queue priority by p) rule → Breaks version s (Enqueue unit queue priority by q) rule
-same_rule unit queue priority by p q version s (NotAbove other greatest) h = absurd cc
-same_rule unit queue priority by p q version s _ h = h
-
-pub without_payload : (unit queue priority : ℕ) (by : Option By) (p q : List ℕ)
-    → IsJudgedAs (Enqueue unit queue priority by p) (Enqueue unit queue priority by q)
-without_payload unit queue priority by p q = record {
-  lawful = λ version s. refl;
-  breaks = same_rule unit queue priority by p q;
-  stands = λ version j s h. record {
-    rules = h.rules;
-    knows = record {
-      definitions = h.knows.definitions;
-      names = h.knows.names;
-      registrants = h.knows.registrants;
-      greatest = h.knows.greatest;
-    };
-    units = h.units;
-  };
-}
-
-same_rule_of_bytes : (p q : List ℕ) (version : Version) (s : State) (rule : Rule)
-    → Breaks version s (Checkpoint p) rule → Breaks version s (Checkpoint q) rule
-same_rule_of_bytes p q version s (NotAbove other greatest) h = absurd cc
-same_rule_of_bytes p q version s _ h = h
-
-pub without_bytes : (p q : List ℕ) → IsJudgedAs (Checkpoint p) (Checkpoint q)
-without_bytes p q =
-    record { lawful = λ version s. refl; breaks = same_rule_of_bytes p q; stands = λ version j s h. h }
 
 -- a lawful record has a kind of its version
 has_kind : (version : Version) (s : State) (r : Record) → is_lawful version s r ≡ true → HasKind version r
