@@ -5,8 +5,8 @@ use Rattle.rq_model.specs.Machine.{best, is_free_at, is_lawful, step}
 use Rattle.rq_model.specs.Records.{Record, Enqueue, Dequeue, Commit, Abort, Kill, Two}
 use Rattle.rq_model.specs.States.{Element, State}
 use Rattle.rq_standing.specs.Ends.{ends}
-use Rattle.rq_standing.specs.declared.fates.Fate.{Fate}
-use Rattle.rq_standing.specs.declared.fates.Fate.TheVariants.{Gone}
+use Rattle.rq_queue.specs.declared.fates.Fate.{Fate}
+use Rattle.rq_queue.specs.declared.fates.Fate.TheVariants.{Gone}
 use Rattle.rq_found.specs.declared.events.Effect.TheVariants.{Put, Taken, Ended}
 use Rattle.rq_found.specs.declared.events.Event.{Event}
 use Rattle.rq_found.specs.declared.events.Event.TheVariants.{NoElement, To}

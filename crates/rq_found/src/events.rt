@@ -1,6 +1,6 @@
 //! What happens to elements.
 
-use rq_standing::Fate;
+use rq_queue::Fate;
 use std::fmt;
 
 /// What happens to an element.

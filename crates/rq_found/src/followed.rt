@@ -13,14 +13,15 @@ use crate::frames::Placed;
 use crate::numbered::{Numbered, queues_of};
 use rq_lawful::Rule;
 use rq_record::{ElemId, Fault, KeptRecord, QueueNo, UnitNo, Version};
-use rq_standing::{Fate, Machine, Taken};
+use rq_queue::Fate;
+use rq_standing::{Machine, Taken};
 use rq_state::State;
 use std::alloc::Global;
 
 // What a DEQUEUE of a queue does.
 fn taking(machine: &Machine, queue: QueueNo) -> Event {
     match machine.first(queue) {
-        Some(e) => Event::To(e.id.0, Effect::Taken),
+        Some(e) => Event::To(e.id().0, Effect::Taken),
         None => Event::NoElement,
     }
 }

@@ -7,7 +7,7 @@ ghost use Rattle.rq_found.specs.declared.trouble.Trouble.TheVariants.{Log};
 use crate::curves::{Curve, bin_of};
 use rq_found::{Effect, End, Event, Followed, Numbered, Trouble, front_frames, kind_of};
 use rq_record::{Fault, KeptRecord, QueueNo};
-use rq_standing::Fate;
+use rq_queue::Fate;
 use rq_state::{Mark, State};
 use std::alloc::{AllocError, Global};
 use std::collections::BTreeMap;

@@ -11,7 +11,8 @@ use rq_found::{
 };
 use rq_front::FRAME_LEN;
 use rq_record::{Fault, KeptRecord, Name, QueueNo, UnitNo};
-use rq_standing::{Fate, Machine};
+use rq_queue::Fate;
+use rq_standing::Machine;
 use rq_state::{Definition, State};
 use std::alloc::{AllocError, Global};
 use std::collections::BTreeMap;
