@@ -1,12 +1,12 @@
 //! What is found in a log, to be shown: where its front begins and ends, and why; its frames and
-//! records, the queues as who reads them follows them, and what each record does. `rq_look`, `rq_stats`
+//! records, the state that goes along with them, and what each record does. `rq_look`, `rq_stats`
 //! and `rq_page` show it.
 #![tactic(auto)]
 
 mod diagnoses;
 mod ends;
 mod events;
-mod followed_queues;
+mod followed;
 mod frames;
 mod hidden;
 mod json;
@@ -21,7 +21,7 @@ mod trouble;
 pub use diagnoses::Diagnosis;
 pub use ends::{End, form_reason, is_whole, put_beginning, put_end};
 pub use events::{Effect, Event};
-pub use followed_queues::FollowedQueues;
+pub use followed::Followed;
 pub use frames::{Placed, PlacedFrames};
 pub use hidden::{Seen, is_hidden};
 pub use json::FrontShown;

@@ -2,6 +2,7 @@
 
 ghost use Rattle.std.specs.Prelude.{◌≡◌, ◌<◌, [], IfOk, IfErr, OnOk, string_bytes};
 ghost use Rattle.rq_front.specs.Chains.{IsLog};
+ghost use Rattle.rq_record.specs.declared.fault.Fault.TheVariants.{Resources};
 ghost use Rattle.rq_found.specs.Refusals.{CountsFaults, IsBroken};
 ghost use Rattle.rq_look.specs.Looks.{AppendsSome, LacksStory, StaysWithoutStory};
 
@@ -9,9 +10,10 @@ use crate::lines::put_record;
 use crate::sheet::{relieve, write_out};
 use crate::shown_records::{ShownRecord, unit_number};
 use rq_found::{
-    End, Event, FollowedQueues, Numbered, Output, Placed, PlacedFrames, Put, ShownLog, Subject,
+    End, Event, Followed, Numbered, Output, Placed, PlacedFrames, Put, ShownLog, Subject,
     Trouble, first_state, front_frames, put_beginning, put_end,
 };
+use rq_record::Fault;
 use std::alloc::{AllocError, Global};
 use std::fmt::Write;
 use std::thread::Threads;
@@ -85,7 +87,7 @@ fn tell_record<W: Output>(
     alloc: Global,
     placed: Placed<'_>,
     subject: Subject,
-    machine: &mut FollowedQueues,
+    followed: &mut Followed,
     text: &mut String,
     output: &mut W,
 ) -> Result<u64, Trouble>
@@ -96,8 +98,8 @@ fn tell_record<W: Output>(
     ensures refused { IfErr result IsBroken }
     ensures faults { CountsFaults (W.faults output.old) (W.faults output.new) result }
 {
-    let it = machine.follow(placed)?;
-    let count = put_events(alloc, text, &Cause::Record(&it), machine.events(), subject)?;
+    let it = followed.follow(placed)?;
+    let count = put_events(alloc, text, &Cause::Record(&it), followed.events(), subject)?;
     relieve(text, output)?;
     Ok(count)
 }
@@ -106,7 +108,7 @@ fn tell_record<W: Output>(
 fn tell_front<W: Output>(
     alloc: Global,
     frames: PlacedFrames<'_>,
-    machine: &mut FollowedQueues,
+    followed: &mut Followed,
     subject: Subject,
     text: &mut String,
     output: &mut W,
@@ -121,7 +123,7 @@ fn tell_front<W: Output>(
 {
     let mut told: u64 = 0;
     for placed in frames {
-        let count = tell_record(alloc, placed, subject, machine, text, output)?;
+        let count = tell_record(alloc, placed, subject, followed, text, output)?;
         told = told.saturating_add(count);
     }
     Ok(told)
@@ -131,17 +133,19 @@ fn tell_front<W: Output>(
 fn tell_restart(
     alloc: Global,
     text: &mut String,
-    machine: &mut FollowedQueues,
+    followed: &mut Followed,
     subject: Subject,
-) -> Put {
-    let units = machine.open_units()?;
+) -> Result<(), Fault>
+    ensures { IfErr result (λ e. e ≡ Resources) }
+{
+    let units = followed.state().open_units(alloc)?;
     for unit in units.iter() {
-        machine.abort(*unit)?;
+        followed.abort(*unit)?;
         put_events(
             alloc,
             text,
-            &Cause::Restart(*unit),
-            machine.events(),
+            &Cause::Restart(unit.0),
+            followed.events(),
             subject,
         )?;
     }
@@ -152,7 +156,7 @@ fn tell_restart(
 fn tell_all<W: Output>(
     alloc: Global,
     frames: PlacedFrames<'_>,
-    machine: &mut FollowedQueues,
+    followed: &mut Followed,
     end: &End,
     subject: Subject,
     text: &mut String,
@@ -165,13 +169,13 @@ fn tell_all<W: Output>(
         (LacksStory subject (W.contents output.old) (W.contents output.new)) }
     ensures faults { CountsFaults (W.faults output.old) (W.faults output.new) result }
 {
-    let told = tell_front(alloc, frames, machine, subject, text, output)?;
+    let told = tell_front(alloc, frames, followed, subject, text, output)?;
     if told == 0 {
         return Err(Trouble::Nothing(subject));
     }
     put_beginning(text, end.at)?;
     put_end(text, end)?;
-    tell_restart(alloc, text, machine, subject)?;
+    tell_restart(alloc, text, followed, subject)?;
     write_out(text, output)?;
     Ok(())
 }
@@ -190,10 +194,10 @@ fn tell<W: Output>(
     ensures faults { CountsFaults (W.faults output.old) (W.faults output.new) result }
 {
     let first = first_state(alloc, bytes, end.at)?;
-    let mut machine = FollowedQueues::of(alloc, &first)?;
+    let mut followed = Followed::of(alloc, &first)?;
     let mut text = String::new(alloc);
     let frames = front_frames(bytes, &first, end.at, end.used);
-    tell_all(alloc, frames, &mut machine, end, subject, &mut text, output)
+    tell_all(alloc, frames, &mut followed, end, subject, &mut text, output)
 }
 
 /// Writes what became of an element, or what a unit did: a line for each record of the front that
