@@ -13,7 +13,7 @@ mod whole_files;
 
 pub use late::{Late, in_place};
 pub use named::NamedFile;
-pub use names::{Names, name_one_file};
+pub use names::Names;
 pub use paths::folder_within;
 pub use patient::Patient;
 pub use predecessors::Replaces;

@@ -44,11 +44,13 @@ fn give_to<F: OpenFile + AsFd>(file: &F, old: &Metadata) -> io::Result<()> {
     OpenFile::set_permissions(file, Permissions::from_mode(old.mode() & PERMISSIONS))
 }
 
-/// Whether two paths name one file, also by links. No pipe or device is one.
-pub fn name_one_file<R: Files>(rt: &R, one: &str, other: &str) -> bool {
-    match (fs::metadata(rt, one), fs::metadata(rt, other)) {
-        (Ok(one), Ok(other)) => one.is_file() && is_same(&one, &other),
-        _ => false,
+impl Names {
+    /// Whether two paths name one file, also by links. No pipe or device is one.
+    pub fn name_one_file<R: Files>(rt: &R, one: &str, other: &str) -> bool {
+        match (fs::metadata(rt, one), fs::metadata(rt, other)) {
+            (Ok(one), Ok(other)) => one.is_file() && is_same(&one, &other),
+            _ => false,
+        }
     }
 }
 

@@ -265,27 +265,29 @@ fn missing_checkpoint(
     Ok((Why::Chain, chain_reason(alloc, before, rest)?))
 }
 
-/// Puts with which checkpoint a log begins that was carried on; of another, nothing.
-pub fn put_beginning(text: &mut String, at: Option<u64>) -> Put
-    ensures { OnOk result (string_bytes text.new ≡ string_bytes text.old ++ beginning_text at) }
-{
-    match at {
-        None => Ok(()),
-        Some(at) => write!(text, "carried: begins with the checkpoint at {at}\n"),
+impl End {
+    /// Puts where the front ends, as a line.
+    pub fn put_end(text: &mut String, end: &End) -> Put
+        ensures { OnOk result (string_bytes text.new ≡ string_bytes text.old
+            ++ end_text end.now.records end.now.used end.now.total (why_of end.now.why)
+            (string_bytes end.now.reason)) }
+    {
+        let (records, used, total) = (end.records, end.used, end.total);
+        let (why, reason) = (why_word(end.why), end.reason.as_str());
+        write!(
+            text,
+            "front ends behind {records} records, at {used} of {total} bytes, {why}: {reason}\n"
+        )?;
+        Ok(())
     }
-}
 
-/// Puts where the front ends, as a line.
-pub fn put_end(text: &mut String, end: &End) -> Put
-    ensures { OnOk result (string_bytes text.new ≡ string_bytes text.old
-        ++ end_text end.now.records end.now.used end.now.total (why_of end.now.why)
-        (string_bytes end.now.reason)) }
-{
-    let (records, used, total) = (end.records, end.used, end.total);
-    let (why, reason) = (why_word(end.why), end.reason.as_str());
-    write!(
-        text,
-        "front ends behind {records} records, at {used} of {total} bytes, {why}: {reason}\n"
-    )?;
-    Ok(())
+    /// Puts with which checkpoint a log begins that was carried on; of another, nothing.
+    pub fn put_beginning(text: &mut String, at: Option<u64>) -> Put
+        ensures { OnOk result (string_bytes text.new ≡ string_bytes text.old ++ beginning_text at) }
+    {
+        match at {
+            None => Ok(()),
+            Some(at) => write!(text, "carried: begins with the checkpoint at {at}\n"),
+        }
+    }
 }

@@ -12,8 +12,8 @@ use crate::events::{Effect, Event};
 use crate::frames::Placed;
 use crate::numbered::{Numbered, queues_of};
 use rq_lawful::Rule;
-use rq_record::{ElemId, Fault, KeptRecord, QueueNo, UnitNo, Version};
 use rq_queue::Fate;
+use rq_record::{ElemId, Fault, KeptRecord, QueueNo, UnitNo, Version};
 use rq_standing::{Machine, Taken};
 use rq_state::State;
 use std::alloc::Global;
@@ -89,7 +89,7 @@ impl Followed {
     }
 
     /// The state.
-    pub fn state(&self) -> &Machine
+    pub fn machine(&self) -> &Machine
         ensures { result.now ≡ self.now.machine }
     {
         &self.machine

@@ -19,7 +19,7 @@ mod shown_log;
 mod trouble;
 
 pub use diagnoses::Diagnosis;
-pub use ends::{End, form_reason, is_whole, put_beginning, put_end};
+pub use ends::{End, form_reason, is_whole};
 pub use events::{Effect, Event};
 pub use followed::Followed;
 pub use frames::{Placed, PlacedFrames};
@@ -31,5 +31,5 @@ pub use pieces::{Put, TextPiece, put_digits};
 pub use registrants::RegistrantShown;
 pub use rq_report::{Output, OverWrite};
 pub use rq_restart::{Fault, Plan};
-pub use shown_log::{ShownLog, first_state, front_frames};
+pub use shown_log::ShownLog;
 pub use trouble::{Subject, Trouble};

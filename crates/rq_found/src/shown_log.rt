@@ -60,21 +60,23 @@ fn state_at(alloc: Global, bytes: &[u8], at: u64) -> Option<State>
     }
 }
 
-/// The state behind which the records of a front begin: that of the checkpoint at the offset, if
-/// there is one, which a restart has found there.
-pub fn first_state(alloc: Global, bytes: &[u8], at: Option<u64>) -> Result<State, Fault>
-    ensures beginning { at ≡ None → IfOk result (λ s. s ≡ empty) }
-    ensures there { (offset : ℕ) (kept : List ℕ) → at ≡ Some offset
-        → IsCheckpointAt bytes.now offset kept → IfOk result (SpelledIn bytes.now kept) }
-    ensures refused { IfErr result (λ e. e ≡ Resources) }
-{
-    let Some(at) = at else {
-        return Ok(State::empty(alloc));
-    };
-    // The restart read the same state, so memory alone is refused.
-    match state_at(alloc, bytes, at) {
-        Some(state) => Ok(state),
-        None => Err(Fault::Resources),
+impl ShownLog<'_> {
+    /// The state behind which the records of a front begin: that of the checkpoint at the offset, if
+    /// there is one, which a restart has found there.
+    pub fn first_state(alloc: Global, bytes: &[u8], at: Option<u64>) -> Result<State, Fault>
+        ensures beginning { at ≡ None → IfOk result (λ s. s ≡ empty) }
+        ensures there { (offset : ℕ) (kept : List ℕ) → at ≡ Some offset
+            → IsCheckpointAt bytes.now offset kept → IfOk result (SpelledIn bytes.now kept) }
+        ensures refused { IfErr result (λ e. e ≡ Resources) }
+    {
+        let Some(at) = at else {
+            return Ok(State::empty(alloc));
+        };
+        // The restart read the same state, so memory alone is refused.
+        match state_at(alloc, bytes, at) {
+            Some(state) => Ok(state),
+            None => Err(Fault::Resources),
+        }
     }
 }
 
@@ -88,17 +90,19 @@ fn offset_of(at: Option<u64>) -> u64
     }
 }
 
-/// The frames of a front that begins behind a state, in the first `used` bytes: from the checkpoint
-/// at the offset on, if there is one, else from the header on.
-pub fn front_frames<'a>(
-    bytes: &'a [u8],
-    first: &State,
-    at: Option<u64>,
-    used: u64,
-) -> PlacedFrames<'a>
-    ensures { StandFrom bytes.now (front_at at) first.now.next used result }
-{
-    PlacedFrames::beginning_at(bytes, offset_of(at), first.next(), used)
+impl PlacedFrames<'_> {
+    /// The frames of a front that begins behind a state, in the first `used` bytes: from the checkpoint
+    /// at the offset on, if there is one, else from the header on.
+    pub fn front_frames<'a>(
+        bytes: &'a [u8],
+        first: &State,
+        at: Option<u64>,
+        used: u64,
+    ) -> PlacedFrames<'a>
+        ensures { StandFrom bytes.now (front_at at) first.now.next used result }
+    {
+        PlacedFrames::beginning_at(bytes, offset_of(at), first.next(), used)
+    }
 }
 
 impl ShownLog<'_> {

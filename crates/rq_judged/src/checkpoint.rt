@@ -47,28 +47,30 @@ fn chain_start(offset: u64, len: usize) -> usize
     }
 }
 
-/// The chain from an offset on, and the state that the checkpoint there spells.
-pub fn begin_at<R: Threads + Sync>(
-    rt: &R,
-    alloc: Global,
-    bytes: &[u8],
-    offset: u64,
-    plan: &Plan,
-) -> Result<Begun, Fault>
-    ensures { BeginsAt bytes.now offset result }
-{
-    rq_model::frames_are_right();
-    rq_model::frames_join();
-    let version = log_version(bytes)?;
-    let start = chain_start(offset, bytes.len());
-    let found = chain(rt, alloc, bytes, start, grain_of(plan))?;
-    let Some(kept) = kept_in(bytes, &found.spans) else {
-        return Err(Fault::NoCheckpoint);
-    };
-    let state = read_in(alloc, version, kept)?;
-    Ok(Begun {
-        version,
-        found,
-        state,
-    })
+impl Begun {
+    /// The chain from an offset on, and the state that the checkpoint there spells.
+    pub fn begun_at<R: Threads + Sync>(
+        rt: &R,
+        alloc: Global,
+        bytes: &[u8],
+        offset: u64,
+        plan: &Plan,
+    ) -> Result<Begun, Fault>
+        ensures { BeginsAt bytes.now offset result }
+    {
+        rq_model::frames_are_right();
+        rq_model::frames_join();
+        let version = log_version(bytes)?;
+        let start = chain_start(offset, bytes.len());
+        let found = chain(rt, alloc, bytes, start, grain_of(plan))?;
+        let Some(kept) = kept_in(bytes, &found.spans) else {
+            return Err(Fault::NoCheckpoint);
+        };
+        let state = read_in(alloc, version, kept)?;
+        Ok(Begun {
+            version,
+            found,
+            state,
+        })
+    }
 }

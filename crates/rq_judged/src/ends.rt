@@ -11,7 +11,7 @@ ghost use Rattle.rq_catalog.specs.Judges.{StandsIn};
 ghost use Rattle.rq_judged.specs.FrontEnds.{FindsEnd, FindsEndAt, is_law};
 ghost use Rattle.rq_judged.specs.Views.{why_of};
 
-use crate::checkpoint::begin_at;
+use crate::checkpoint::Begun;
 use crate::frames::body_at;
 use crate::judged::{JudgedFront, judged_behind};
 use rq_catalog::Judge;
@@ -142,7 +142,7 @@ impl FrontEnd {
         ensures { FindsEndAt bytes.now offset result }
     {
         rq_model::numbers_after();
-        let begun = begin_at(rt, alloc, bytes, offset, plan)?;
+        let begun = Begun::begun_at(rt, alloc, bytes, offset, plan)?;
         let front = judged_behind(alloc, &begun, bytes)?;
         let rule = rule_behind(alloc, &front, bytes)?;
         let records = begun.state.next() + front.records as u64;

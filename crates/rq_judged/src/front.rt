@@ -129,35 +129,6 @@ fn settled(found: &Chain, known: Known) -> Front
     }
 }
 
-/// The front of the log of the version, in the frames of a chain, from a state on. Of shared bytes its
-/// checkpoints and long payloads are parts.
-pub fn front_of<R: Threads + Sync>(
-    rt: &R,
-    alloc: Global,
-    version: Version,
-    bytes: &LogBytes<'_>,
-    found: &Chain,
-    state: &State,
-    plan: &Plan,
-) -> Result<Front, Fault>
-    requires chain { (offset : ℕ) × IsChain bytes.now offset found.now }
-    requires next { state.now.next ≤ 4294967295 }
-    ensures front { IfOk result (λ f. (offset : ℕ) → IsChain bytes.now offset found.now
-        → IsFrontFrom (version_of version) state.now bytes.now offset
-        (map record_of f.records.items) f.end (why_of f.why)) }
-    ensures bodies { IfOk result
-        (λ f. (left : List (List ℕ)) × (bodies_at bytes.now found.now.spans.items
-        ≡ bodies_of (map record_of f.records.items) ++ left)) }
-    ensures analysis { IfOk result (λ f. IsAnalysis (version_of version) state.now
-        (map record_of f.records.items) f.analysis) }
-    ensures refused { IfErr result (λ e. e ≡ Resources) }
-{
-    let workers = plan.workers();
-    let parts = read_bodies(rt, alloc, version, bytes, &found.spans, workers)?;
-    let known = known_of(alloc, version, parts, state)?;
-    Ok(settled(found, known))
-}
-
 // Checks the digests of a walk, while another thread puts the records of its bodies together and
 // goes through them.
 fn check_meanwhile<R: Threads + Sync>(
@@ -192,41 +163,72 @@ fn check_meanwhile<R: Threads + Sync>(
     )
 }
 
-/// The front of the log of the version, in the frames of a walk, from a state on. Of shared bytes its
-/// checkpoints and long payloads are parts.
-///
-/// Where threads are to be had, the records are read before any digest is known to be right, and
-/// those behind the first wrong one are dropped again: so the one pass over them, which is one
-/// thread's work, runs beside the digests.
-pub fn front_of_walk<R: Threads + Sync>(
-    rt: &R,
-    alloc: Global,
-    version: Version,
-    bytes: &LogBytes<'_>,
-    walk: Walk,
-    state: &State,
-    plan: &Plan,
-) -> Result<Front, Fault>
-    requires walk { (offset : ℕ) × Walks bytes.now offset walk }
-    requires inside { All (λ s. s.start + s.len ≤ length bytes.now) (spans_of walk) }
-    requires short { length bytes.now ≤ log_limit }
-    requires next { state.now.next ≤ 4294967295 }
-    ensures front { IfOk result (λ f. (offset : ℕ) → Walks bytes.now offset walk
-        → IsFrontFrom (version_of version) state.now bytes.now offset
-        (map record_of f.records.items) f.end (why_of f.why)) }
-    ensures analysis { IfOk result (λ f. IsAnalysis (version_of version) state.now
-        (map record_of f.records.items) f.analysis) }
-    ensures refused { IfErr result (λ e. e ≡ Resources) }
-{
-    let grain = grain_of(plan);
-    if plan.workers() < 2 || walk.spans().len() <= FEW {
-        let found = walk.checked(rt, bytes.as_slice(), grain);
-        return front_of(rt, alloc, version, bytes, &found, state, plan);
+impl Front {
+    /// The front of the log of the version, in the frames of a walk, from a state on. Of shared bytes its
+    /// checkpoints and long payloads are parts.
+    ///
+    /// Where threads are to be had, the records are read before any digest is known to be right, and
+    /// those behind the first wrong one are dropped again: so the one pass over them, which is one
+    /// thread's work, runs beside the digests.
+    pub fn of_walk<R: Threads + Sync>(
+        rt: &R,
+        alloc: Global,
+        version: Version,
+        bytes: &LogBytes<'_>,
+        walk: Walk,
+        state: &State,
+        plan: &Plan,
+    ) -> Result<Front, Fault>
+        requires walk { (offset : ℕ) × Walks bytes.now offset walk }
+        requires inside { All (λ s. s.start + s.len ≤ length bytes.now) (spans_of walk) }
+        requires short { length bytes.now ≤ log_limit }
+        requires next { state.now.next ≤ 4294967295 }
+        ensures front { IfOk result (λ f. (offset : ℕ) → Walks bytes.now offset walk
+            → IsFrontFrom (version_of version) state.now bytes.now offset
+            (map record_of f.records.items) f.end (why_of f.why)) }
+        ensures analysis { IfOk result (λ f. IsAnalysis (version_of version) state.now
+            (map record_of f.records.items) f.analysis) }
+        ensures refused { IfErr result (λ e. e ≡ Resources) }
+    {
+        let grain = grain_of(plan);
+        if plan.workers() < 2 || walk.spans().len() <= FEW {
+            let found = walk.checked(rt, bytes.as_slice(), grain);
+            return Front::of(rt, alloc, version, bytes, &found, state, plan);
+        }
+        let workers = plan.workers();
+        let parts = read_bodies(rt, alloc, version, bytes, walk.spans(), workers)?;
+        let (found, known) = check_meanwhile(rt, alloc, version, bytes, walk, parts, state, grain);
+        let mut known = known?;
+        keep_first(alloc, version, &mut known, found.spans.len(), state)?;
+        Ok(settled(&found, known))
     }
-    let workers = plan.workers();
-    let parts = read_bodies(rt, alloc, version, bytes, walk.spans(), workers)?;
-    let (found, known) = check_meanwhile(rt, alloc, version, bytes, walk, parts, state, grain);
-    let mut known = known?;
-    keep_first(alloc, version, &mut known, found.spans.len(), state)?;
-    Ok(settled(&found, known))
+
+    /// The front of the log of the version, in the frames of a chain, from a state on. Of shared bytes its
+    /// checkpoints and long payloads are parts.
+    pub fn of<R: Threads + Sync>(
+        rt: &R,
+        alloc: Global,
+        version: Version,
+        bytes: &LogBytes<'_>,
+        found: &Chain,
+        state: &State,
+        plan: &Plan,
+    ) -> Result<Front, Fault>
+        requires chain { (offset : ℕ) × IsChain bytes.now offset found.now }
+        requires next { state.now.next ≤ 4294967295 }
+        ensures front { IfOk result (λ f. (offset : ℕ) → IsChain bytes.now offset found.now
+            → IsFrontFrom (version_of version) state.now bytes.now offset
+            (map record_of f.records.items) f.end (why_of f.why)) }
+        ensures bodies { IfOk result
+            (λ f. (left : List (List ℕ)) × (bodies_at bytes.now found.now.spans.items
+            ≡ bodies_of (map record_of f.records.items) ++ left)) }
+        ensures analysis { IfOk result (λ f. IsAnalysis (version_of version) state.now
+            (map record_of f.records.items) f.analysis) }
+        ensures refused { IfErr result (λ e. e ≡ Resources) }
+    {
+        let workers = plan.workers();
+        let parts = read_bodies(rt, alloc, version, bytes, &found.spans, workers)?;
+        let known = known_of(alloc, version, parts, state)?;
+        Ok(settled(found, known))
+    }
 }

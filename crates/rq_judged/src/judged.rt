@@ -5,7 +5,7 @@ ghost use Rattle.rq_record.specs.declared.fault.Fault.TheVariants.{Resources};
 ghost use Rattle.rq_judged.specs.Checkpoints.{IsBegun};
 ghost use Rattle.rq_judged.specs.JudgedFronts.{IsJudgedBehind, JudgesFront, JudgesFrontAt};
 
-use crate::checkpoint::{Begun, begin_at};
+use crate::checkpoint::Begun;
 use crate::ends::Why;
 use crate::frames::before;
 use crate::front::end_of;
@@ -82,7 +82,7 @@ impl JudgedFront {
     ) -> Result<JudgedFront, Fault>
         ensures { JudgesFrontAt bytes.now offset result }
     {
-        let begun = begin_at(rt, alloc, bytes, offset, plan)?;
+        let begun = Begun::begun_at(rt, alloc, bytes, offset, plan)?;
         let front = judged_behind(alloc, &begun, bytes)?;
         Ok(front)
     }

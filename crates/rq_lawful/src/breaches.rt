@@ -12,8 +12,9 @@ ghost use Rattle.rq_lawful.specs.Breaks.{Breaks, unit_needed, queue_needed, regi
 ghost use Rattle.rq_lawful.specs.declared.rules.Rule.TheVariants as rules;
 
 use crate::knows::Knows;
-use crate::rules::{LIMIT, QUEUES, Rule};
+use crate::rules::Rule;
 use rq_record::{KeptBy, KeptName, KeptRecord, Name, QueueNo, UnitNo, Version};
+use rq_state::Definition;
 
 fn is_defined<K: Knows>(known: &K, queue: QueueNo) -> bool
     ensures { (s : State) → K.knows known.now s → result ≡ machine.is_defined s queue.0 }
@@ -49,7 +50,7 @@ fn error_rule<K: Knows>(version: Version, known: &K, limit: u16, error: QueueNo)
     ensures which { (s : State) (name : List ℕ) → K.knows known.now s → nat_le 1 limit ≡ true
         → IfSome result (Breaks (version_of version) s (records.Define limit error.0 name)) }
 {
-    if limit > LIMIT {
+    if limit > Definition::LIMIT {
         return Some(Rule::Above(limit));
     }
     if is_defined(known, error) {
@@ -82,7 +83,7 @@ fn name_rule<K: Knows>(known: &K, name: Name) -> Option<Rule>
     ensures which { (version : records.Version) (s : State) (limit error : ℕ) → K.knows known.now s
         → IfSome result (Breaks version s (records.Define limit error name)) }
 {
-    if known.defined() >= QUEUES {
+    if known.defined() >= Definition::MOST {
         return Some(Rule::Full);
     }
     if known.is_taken(&name) {

@@ -1,13 +1,8 @@
 //! The rules of the machine.
 
 use rq_record::{Name, QueueNo, UnitNo};
+use rq_state::Definition;
 use std::fmt;
-
-/// The greatest number of queues.
-pub(crate) const QUEUES: usize = 4096;
-
-/// The greatest limit of a queue.
-pub(crate) const LIMIT: u16 = 1000;
 
 /// A rule that a record breaks.
 #[derive(Clone, Copy, PartialEq, Eq, Debug)]
@@ -57,7 +52,7 @@ impl fmt::Display for Rule {
                 )
             }
             Rule::Taken(name) => write!(f, "a queue is named {} already", name.text()),
-            Rule::Full => write!(f, "{QUEUES} queues are defined already"),
+            Rule::Full => write!(f, "{} queues are defined already", Definition::MOST),
             Rule::NoLimit(error) => write!(
                 f,
                 "limit 0 goes with no error queue, and {} is named",
@@ -69,7 +64,7 @@ impl fmt::Display for Rule {
                     "limit {limit} goes with an error queue, and none is named"
                 )
             }
-            Rule::Above(limit) => write!(f, "limit {limit} is above {LIMIT}"),
+            Rule::Above(limit) => write!(f, "limit {limit} is above {}", Definition::LIMIT),
             Rule::Nested(error) => write!(f, "error queue {} has an error queue", error.0),
             Rule::NoKill => write!(f, "version 1 has no kill"),
         }

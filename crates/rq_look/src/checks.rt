@@ -12,7 +12,7 @@ ghost use Rattle.rq_look.specs.Findings.{end_finding, checkpoint_finding, may_ha
 
 use crate::behind_fronts::{may_have_right, put_rest, standing_behind};
 use rq_behind::Found;
-use rq_found::{Diagnosis, End, Put, ShownLog, Trouble, is_whole, put_beginning, put_end};
+use rq_found::{Diagnosis, End, Put, ShownLog, Trouble, is_whole};
 use rq_record::Fault;
 use rq_restart::{audit, audit_at};
 use std::alloc::{AllocError, Global};
@@ -65,9 +65,9 @@ fn front_text(alloc: Global, at: Option<u64>, end: &End) -> Result<String, Alloc
         (string_bytes end.now.reason)) }
 {
     let mut text = String::new(alloc);
-    put_beginning(&mut text, at)?;
+    End::put_beginning(&mut text, at)?;
     if !is_whole(end.why) {
-        put_end(&mut text, end)?;
+        End::put_end(&mut text, end)?;
     }
     Ok(text)
 }

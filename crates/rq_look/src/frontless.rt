@@ -17,7 +17,7 @@ use crate::salvages::{put_spans, words_of};
 use crate::sheet::write_out;
 use crate::wanted::Wanted;
 use rq_behind::Found;
-use rq_found::{Diagnosis, End, Fault, Output, ShownLog, Trouble, put_beginning, put_end};
+use rq_found::{Diagnosis, End, Fault, Output, ShownLog, Trouble};
 use rq_front::HEADER_LEN;
 use std::alloc::{AllocError, Global};
 
@@ -51,8 +51,8 @@ fn finding_text(
         ++ behind_finding (why_of end.now.why) found.now end.now.total) }
 {
     let mut text = String::new(alloc);
-    put_beginning(&mut text, log.at)?;
-    put_end(&mut text, end)?;
+    End::put_beginning(&mut text, log.at)?;
+    End::put_end(&mut text, end)?;
     put_rest(&mut text, end, found)?;
     Ok(text)
 }

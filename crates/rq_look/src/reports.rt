@@ -13,8 +13,7 @@ ghost use Rattle.rq_look.specs.Looks.{PutsReportAs, StaysUnreported};
 
 use crate::json::{BytesShown, queue_number, spelled_out, written};
 use rq_found::{
-    End, FrontShown, Output, OverWrite, RegistrantShown, ShownLog, Trouble, put_beginning,
-    write_bytes,
+    End, FrontShown, Output, OverWrite, RegistrantShown, ShownLog, Trouble, write_bytes,
 };
 use rq_record::QueueNo;
 use rq_report::{free_elements, queue_report, write_report_by};
@@ -201,7 +200,7 @@ fn beginning_of(alloc: Global, at: Option<u64>) -> Result<String, AllocError>
     ensures { IfOk result (λ text. string_bytes text ≡ beginning_text at) }
 {
     let mut text = String::new(alloc);
-    put_beginning(&mut text, at)?;
+    End::put_beginning(&mut text, at)?;
     Ok(text)
 }
 

@@ -10,8 +10,7 @@ use crate::lines::put_record;
 use crate::sheet::{relieve, write_out};
 use crate::shown_records::{ShownRecord, unit_number};
 use rq_found::{
-    End, Event, Followed, Numbered, Output, Placed, PlacedFrames, Put, ShownLog, Subject,
-    Trouble, first_state, front_frames, put_beginning, put_end,
+    End, Event, Followed, Numbered, Output, Placed, PlacedFrames, Put, ShownLog, Subject, Trouble,
 };
 use rq_record::Fault;
 use std::alloc::{AllocError, Global};
@@ -138,7 +137,7 @@ fn tell_restart(
 ) -> Result<(), Fault>
     ensures { IfErr result (λ e. e ≡ Resources) }
 {
-    let units = followed.state().open_units(alloc)?;
+    let units = followed.machine().open_units(alloc)?;
     for unit in units.iter() {
         followed.abort(*unit)?;
         put_events(
@@ -173,8 +172,8 @@ fn tell_all<W: Output>(
     if told == 0 {
         return Err(Trouble::Nothing(subject));
     }
-    put_beginning(text, end.at)?;
-    put_end(text, end)?;
+    End::put_beginning(text, end.at)?;
+    End::put_end(text, end)?;
     tell_restart(alloc, text, followed, subject)?;
     write_out(text, output)?;
     Ok(())
@@ -193,11 +192,19 @@ fn tell<W: Output>(
         (LacksStory subject (W.contents output.old) (W.contents output.new)) }
     ensures faults { CountsFaults (W.faults output.old) (W.faults output.new) result }
 {
-    let first = first_state(alloc, bytes, end.at)?;
+    let first = ShownLog::first_state(alloc, bytes, end.at)?;
     let mut followed = Followed::of(alloc, &first)?;
     let mut text = String::new(alloc);
-    let frames = front_frames(bytes, &first, end.at, end.used);
-    tell_all(alloc, frames, &mut followed, end, subject, &mut text, output)
+    let frames = PlacedFrames::front_frames(bytes, &first, end.at, end.used);
+    tell_all(
+        alloc,
+        frames,
+        &mut followed,
+        end,
+        subject,
+        &mut text,
+        output,
+    )
 }
 
 /// Writes what became of an element, or what a unit did: a line for each record of the front that

@@ -7,7 +7,7 @@ ghost use Rattle.rq_found.specs.declared.trouble.Trouble.TheVariants.{Log};
 use crate::records::{Happening, put_row};
 use crate::shown::{Linkable, Linked};
 use crate::steps::{At, STEPS, Step, step_of, step_of_operation, step_of_unit};
-use rq_found::{End, Event, Followed, Numbered, PlacedFrames, Trouble, front_frames, unit_of};
+use rq_found::{End, Event, Followed, Numbered, PlacedFrames, Trouble, unit_of};
 use rq_record::{Fault, KeptRecord, Name};
 use rq_state::State;
 use std::alloc::{AllocError, Global};
@@ -239,7 +239,7 @@ impl Lives {
     ) -> Result<(), Fault>
         ensures { IfErr result (λ e. e ≡ Resources) }
     {
-        for unit in followed.state().open_units(alloc)? {
+        for unit in followed.machine().open_units(alloc)? {
             followed.abort(unit)?;
             self.take_elements(alloc, shown, followed.events(), At::Restart, Some(unit.0))?;
             if shown.shows(Linkable::Unit, unit.0) {
@@ -281,7 +281,7 @@ pub(crate) fn lives_of(
     }
     let truths = truths_of(alloc, checkpoints)?;
     let mut followed = Followed::of(alloc, first)?;
-    let frames = front_frames(bytes, first, end.at, end.used);
+    let frames = PlacedFrames::front_frames(bytes, first, end.at, end.used);
     lives.walk(alloc, shown, frames, &mut followed, &truths)?;
     lives.take_restart(alloc, shown, &mut followed)?;
     Ok(lives)

@@ -21,7 +21,7 @@ use crate::surveys::{Survey, surveyed};
 use crate::tables::put_queue_table;
 use crate::units::put_open;
 use rq_behind::Found;
-use rq_found::{Diagnosis, End, Output, Put, ShownLog, Trouble, first_state, write_bytes};
+use rq_found::{Diagnosis, End, Output, Put, ShownLog, Trouble, write_bytes};
 use rq_look::{audited_from, may_have_right, standing_behind};
 use rq_restart::Restarted;
 use rq_state::State;
@@ -119,7 +119,7 @@ fn contents_of(
 {
     let elements = asked.elements.to_vec(alloc)?;
     let units = asked.units.to_vec(alloc)?;
-    let first = first_state(alloc, bytes, found.end.at)?;
+    let first = ShownLog::first_state(alloc, bytes, found.end.at)?;
     let seen = surveyed(alloc, bytes, &first, &found.end, found.restarted.state())?;
     Ok(Contents {
         found,

@@ -4,8 +4,8 @@ use crate::markup::Html::{Count, Number, Tag};
 use crate::markup::{put_html, put_optional};
 use crate::shown::{Linkable, Linked};
 use rq_found::{Effect, Event, Numbered, Put, unit_of};
-use rq_record::KeptRecord;
 use rq_queue::Fate;
+use rq_record::KeptRecord;
 
 /// As many steps of one life are kept.
 pub(crate) const STEPS: usize = 10_000;

@@ -5,9 +5,9 @@ ghost use Rattle.rq_record.specs.declared.fault.Fault.TheVariants.{Resources};
 ghost use Rattle.rq_found.specs.declared.trouble.Trouble.TheVariants.{Log};
 
 use crate::curves::{Curve, bin_of};
-use rq_found::{Effect, End, Event, Followed, Numbered, Trouble, front_frames, kind_of};
-use rq_record::{Fault, KeptRecord, QueueNo};
+use rq_found::{Effect, End, Event, Followed, Numbered, PlacedFrames, Trouble, kind_of};
 use rq_queue::Fate;
+use rq_record::{Fault, KeptRecord, QueueNo};
 use rq_state::{Mark, State};
 use std::alloc::{AllocError, Global};
 use std::collections::BTreeMap;
@@ -155,7 +155,7 @@ impl Survey {
         ensures { IfErr result (λ e. e ≡ Resources) }
     {
         let mut followed = Followed::of(alloc, first)?;
-        for placed in front_frames(bytes, first, end.at, end.used) {
+        for placed in PlacedFrames::front_frames(bytes, first, end.at, end.used) {
             let it = followed.follow(placed)?;
             self.take(alloc, &it, followed.events(), end.total)?;
         }

@@ -10,7 +10,7 @@ ghost use Rattle.rq_restart.specs.Audits.{audited_of, audits};
 
 use crate::pieces::go_on;
 use rq_front::{Span, chain, log_version};
-use rq_judged::{Begun, Front, begin_at, front_of, grain_of};
+use rq_judged::{Begun, Front, grain_of};
 use rq_plan::Plan;
 use rq_record::{Fault, KeptRecord, LogBytes, Version};
 use rq_standing::Standing;
@@ -107,7 +107,7 @@ fn checkpoints_of<R: Threads + Sync>(
         → IsAuditedFrom (version_of begun.now.version) begun.now.state bytes.now offset v.items) }
     ensures refused { IfErr result (λ e. e ≡ Resources) }
 {
-    let front = front_of(
+    let front = Front::of(
         rt,
         alloc,
         begun.version,
@@ -186,7 +186,7 @@ pub fn audit_at<R: Threads + Sync>(
 ) -> Result<Vec<(u64, bool)>, Fault>
     ensures { AuditsAt bytes.now offset result }
 {
-    let begun = begin_at(rt, alloc, bytes, offset, plan)?;
+    let begun = Begun::begun_at(rt, alloc, bytes, offset, plan)?;
     checkpoints_of(rt, alloc, &LogBytes::borrowed(bytes), &begun, plan)
 }
 

@@ -9,6 +9,4 @@ mod spelled;
 mod standing;
 mod states;
 
-pub use open_units::OpenUnits;
-pub use queues::Queues;
 pub use standing::{Standing, Taken};

@@ -124,7 +124,7 @@ impl Queues {
             → result ≡ (nat_le self.now.next 4294967295
             && (is_some bytes.now && nat_le (least_bytes t) len)) }
     {
-        self.next <= 4_294_967_295 && bytes.agree() && self.fits(len)
+        self.next <= State::RECORDS && bytes.agree() && self.fits(len)
     }
 
     // The number of registrants and their spellings are to come next.

@@ -5,13 +5,10 @@ ghost use Rattle.rq_record.specs.declared.fault.Fault.TheVariants.{Resources};
 
 use crate::rows::Value::{Number, Word};
 use crate::rows::{PAYLOADS, Row, UNITS, put_greatest};
-use rq_found::{
-    Effect, End, Event, Followed, Numbered, PlacedFrames, ShownLog, first_state, front_frames,
-    kind_of,
-};
+use rq_found::{Effect, End, Event, Followed, Numbered, PlacedFrames, ShownLog, kind_of};
 use rq_front::FRAME_LEN;
-use rq_record::{Fault, KeptRecord, Name, QueueNo, UnitNo};
 use rq_queue::Fate;
+use rq_record::{Fault, KeptRecord, Name, QueueNo, UnitNo};
 use rq_standing::Machine;
 use rq_state::{Definition, State};
 use std::alloc::{AllocError, Global};
@@ -175,7 +172,7 @@ impl Measures {
     fn restart(&mut self, alloc: Global, followed: &mut Followed, number: u64) -> Result<(), Fault>
         ensures { IfErr result (λ e. e ≡ Resources) }
     {
-        for unit in followed.state().open_units(alloc)? {
+        for unit in followed.machine().open_units(alloc)? {
             followed.abort(unit)?;
             self.take_events(followed.events());
             self.cut_off = self.cut_off.saturating_add(1);
@@ -199,7 +196,7 @@ impl Measures {
         self.take_units(first.units(), first.next())?;
         self.walk(frames, &mut followed)?;
         self.restart(alloc, &mut followed, end.records)?;
-        self.depths = depths_of(alloc, followed.state())?;
+        self.depths = depths_of(alloc, followed.machine())?;
         Ok(())
     }
 }
@@ -217,8 +214,8 @@ fn depths_of(alloc: Global, state: &Machine) -> Result<Vec<u64>, AllocError> {
 pub(crate) fn counted(alloc: Global, log: &ShownLog<'_>, end: &End) -> Result<Measures, Fault>
     ensures { IfErr result (λ e. e ≡ Resources) }
 {
-    let first = first_state(alloc, log.bytes, log.at)?;
-    let frames = front_frames(log.bytes, &first, log.at, end.used);
+    let first = ShownLog::first_state(alloc, log.bytes, log.at)?;
+    let frames = PlacedFrames::front_frames(log.bytes, &first, log.at, end.used);
     let mut measures = Measures::new(alloc);
     measures.take_all(alloc, &first, frames, end)?;
     Ok(measures)

@@ -13,7 +13,7 @@ ghost use Rattle.rq_stats.specs.Statistics.{AreNumbers, PutsNumbers};
 
 use crate::measures::{Measures, counted};
 use crate::shown::{StatisticsShown, lines_of, rows_of};
-use rq_found::{End, FrontShown, Output, ShownLog, Trouble, put_beginning, put_end, write_bytes};
+use rq_found::{End, FrontShown, Output, ShownLog, Trouble, write_bytes};
 use std::alloc::{AllocError, Global};
 use std::thread::Threads;
 
@@ -30,8 +30,8 @@ fn text_of(
 {
     let lines = lines_of(alloc, measures)?;
     let mut text = String::new(alloc);
-    put_beginning(&mut text, at)?;
-    put_end(&mut text, end)?;
+    End::put_beginning(&mut text, at)?;
+    End::put_end(&mut text, end)?;
     text.push_str(lines.as_str())?;
     Ok(text)
 }

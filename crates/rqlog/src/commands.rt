@@ -13,7 +13,7 @@ use crate::new_log::{expect_free, put_new};
 use crate::recovery::recover;
 use crate::refusal::{Refusal, Stream, failed};
 use clap::ArgMatches;
-use rq_file::{Patient, Replaces, name_one_file, put_over};
+use rq_file::{Names, Patient, Replaces, put_over};
 use rq_front::header_of;
 use rq_journal::{CARRIED_AT, Fault, Plan, audit_carried};
 use rq_record::{LogBytes, Version};
@@ -226,7 +226,7 @@ where
     R: Files<File = File> + Eprint + AllocGlobal + Threads + Sync,
 {
     let out = words.get_str("OUT").unwrap_or("-");
-    if name_one_file(rt, path, out) {
+    if Names::name_one_file(rt, path, out) {
         return close_in_place(rt, out, plan, words.get_flag("drop"));
     }
     let rule = replaced_by(words);

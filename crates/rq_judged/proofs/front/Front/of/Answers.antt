@@ -3,7 +3,7 @@ use Rattle.rq_record.specs.Views.{version_of}
 use Rattle.rq_front.specs.Chains.{bodies_at}
 use Rattle.rq_front.specs.declared.spans.Span.{Span}
 use Rattle.rq_judged.specs.Readings.{IsKnownOfBodies, AreApart}
-use Rattle.rq_judged.proofs.front.front_of.Goals as goal
+use Rattle.rq_judged.proofs.front.Front.of.Goals as goal
 
 -- what is known of the chain's bodies
 known : (g : _) (c : goal.After-settled g)

@@ -6,7 +6,7 @@ use Rattle.rq_front.specs.Walks.{Walks, spans_of}
 use Rattle.rq_front.specs.declared.spans.Span.{Span}
 use Rattle.rq_judged.specs.FrontEnds.{IsChain}
 use Rattle.rq_judged.specs.Readings.{IsKnownOfBodies, KnowsBodies, AreApart}
-use Rattle.rq_judged.proofs.front.front_of_walk.Goals as goal
+use Rattle.rq_judged.proofs.front.Front.of_walk.Goals as goal
 
 -- what is known of the bodies of the chain
 known : (g : _) (c : goal.After-drop-found-2 g) (offset : ℕ) → Walks c.args.bytes.now offset c.args.walk

@@ -1,6 +1,6 @@
 use Rattle.std.proofs.Common.{◌≡◌, subst}
 use Rattle.rq_model.specs.Checkpoints.{IsCheckpointAt}
-use Rattle.rq_found.proofs.shown_log.first_state.Goals as goal
+use Rattle.rq_found.proofs.shown_log.ShownLog.first_state.Goals as goal
 
 pub returns-in-Some-state_at-clause-there : goal.returns-in-Some-state_at-clause-there
 returns-in-Some-state_at-clause-there c = λ offset kept given stands.

@@ -7,7 +7,7 @@ use Rattle.rq_front.specs.Chains.{bodies_at}
 use Rattle.rq_judged.specs.declared.checkpoint.Begun.{Begun}
 use Rattle.rq_judged.specs.Checkpoints.{BeginsAt, kept_in}
 use Rattle.rq_judged.proofs.Checkpoints.{begun_at, chain_at, none_at, read_begins}
-use Rattle.rq_judged.proofs.checkpoint.begin_at.Goals as goal
+use Rattle.rq_judged.proofs.checkpoint.Begun.begun_at.Goals as goal
 
 pub returns-in_default : goal.returns-in_default
 returns-in_default g c =
