@@ -4,11 +4,13 @@
 
 mod draws;
 mod elements;
+mod fates;
 mod kept_last;
 mod kept_note;
 mod keys;
 mod lent;
 mod lists;
+mod looks;
 mod moves;
 mod notes;
 mod operations;
@@ -19,10 +21,12 @@ mod priorities;
 mod queue_redo;
 mod registrants;
 mod rooms;
+mod searches;
 mod shelves;
 mod whose;
 
 pub use elements::Elements;
+pub use fates::Fate;
 pub use lent::{Lent, LentElement, LentNote};
 pub use moves::{KeptMove, Move, MoveOf};
 pub use notes::Notes;
