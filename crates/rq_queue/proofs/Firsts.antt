@@ -58,7 +58,7 @@ find_none : (p : Element → Bool) (es : List Element) → AllByRecursion (λ e.
 find_none p [] h = refl
 find_none p (e ∷ es) h = ap (λ b. cond b (Some e) (find p es)) h.0 ∙ find_none p es h.1
 
-any_sorted : (p : Element → Bool) (xs : List Element) → list_any p (sorted xs) ≡ list_any p xs
+pub any_sorted : (p : Element → Bool) (xs : List Element) → list_any p (sorted xs) ≡ list_any p xs
 any_sorted p [] = refl
 any_sorted p (x ∷ xs) = any_put p id_before x (sorted xs) ∙ ap (λ b. p x || b) (any_sorted p xs)
 

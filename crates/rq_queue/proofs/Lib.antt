@@ -15,3 +15,4 @@ pub mod Known
 pub mod Building
 pub mod Gathered
 pub mod Listing
+pub mod Searching

@@ -70,7 +70,7 @@ in_order [] keyed up apart = tt
 in_order (x ∷ es) keyed up apart =
     (all_after x es keyed.0 keyed.1 up.0 apart.0, in_order es keyed.1 up.1 apart.1)
 
-all_free : (queue : ℕ) (es : List Entry) → AllByRecursion IsKeyed es
+pub all_free : (queue : ℕ) (es : List Entry) → AllByRecursion IsKeyed es
     → AllByRecursion (λ (e : Element). e.home ≡ queue) (values_of es)
     → AllByRecursion (λ e. is_free_at queue e ≡ true) (values_of es)
 all_free queue [] keyed home = tt
@@ -81,10 +81,10 @@ front_of : (P : Element → Type 0) (xs ys : List Element) → AllByRecursion P 
 front_of P [] ys h = tt
 front_of P (x ∷ xs) ys h = (h.0, front_of P xs ys h.1)
 
-moved_all : (P : Element → Type 0) (xs : List Element) → AllByRecursion P (sorted xs) → (e : Element) → IsIn e xs → P e
+pub moved_all : (P : Element → Type 0) (xs : List Element) → AllByRecursion P (sorted xs) → (e : Element) → IsIn e xs → P e
 moved_all P xs h e i = all_in P e (sorted xs) h (in_moved xs (sorted xs) e (same_elements xs) i)
 
-each_here : (P : Element → Type 0) (xs : List Element) → ((e : Element) → IsIn e xs → P e) → AllByRecursion P xs
+pub each_here : (P : Element → Type 0) (xs : List Element) → ((e : Element) → IsIn e xs → P e) → AllByRecursion P xs
 each_here P [] f = tt
 each_here P (x ∷ xs) f = (f x (inl refl), each_here P xs (λ e i. f e (inr i)))
 

@@ -45,7 +45,8 @@ impl<'a, M: Ordinal> Lent<'a, M> {
         }
     }
 
-    fn member(&self) -> &'a M
+    /// The member itself.
+    pub fn member(&self) -> &'a M
         ensures { result.now ≡ self.now }
     {
         self.member
@@ -94,8 +95,11 @@ pub(crate) fn lend_values<'a, K: Ord, M: Ordinal>(
     Ok(())
 }
 
-// Lends the elements of a list.
-fn lend_list<'a>(lent: &mut Vec<LentElement<'a>>, list: &'a [KeptElement]) -> Result<(), Fault>
+/// Lends the elements of a list.
+pub(crate) fn lend_list<'a>(
+    lent: &mut Vec<LentElement<'a>>,
+    list: &'a [KeptElement],
+) -> Result<(), Fault>
     ensures lent { OnOk result (lent.new.items ≡ lent.old.items ++ list.now) }
     ensures refused { IfErr result (λ e. e ≡ Resources) }
 {

@@ -4,12 +4,14 @@
 
 mod draws;
 mod elements;
+mod fates;
 mod kept_last;
 mod kept_note;
 mod keys;
 mod lent;
 mod lent_registrant;
 mod lists;
+mod looks;
 mod moves;
 mod notes;
 mod operations;
@@ -20,9 +22,11 @@ mod priorities;
 mod queue_redo;
 mod registrants;
 mod rooms;
+mod searches;
 mod shelves;
 mod whose;
 
+pub use fates::Fate;
 pub use lent::{LentElement, LentNote};
 pub use lent_registrant::LentRegistrant;
 pub use moves::{KeptMove, Move};
