@@ -7,6 +7,6 @@ mod chains;
 pub(crate) mod countdowns;
 pub(crate) mod courses;
 mod framers;
+mod machine;
 mod plain;
 pub(crate) mod rooms;
-mod standing;

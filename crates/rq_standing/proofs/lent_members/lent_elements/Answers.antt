@@ -5,7 +5,7 @@ use Rattle.std.proofs.lemmas.List.{flat_map_more, take_more}
 use Rattle.std.proofs.lemmas.List.Sorted.{IsPermutation-trans, IsPermutation-append_left}
 use Rattle.rq_model.specs.Queues.{Part}
 use Rattle.rq_model.specs.States.{Element}
-use Rattle.rq_standing.proofs.spelled.lent_elements.Goals as goal
+use Rattle.rq_standing.proofs.lent_members.lent_elements.Goals as goal
 
 pub loop-part-preserved : goal.loop-part-preserved
 loop-part-preserved c =

@@ -2,7 +2,7 @@ use Rattle.std.proofs.Common.{◌≡◌, ◌<◌, ◌+◌, ◌++◌, ◌∷◌, 
 use Rattle.std.specs.List.{flat_map}
 use Rattle.std.proofs.lemmas.List.{flat_map_more, take_more}
 use Rattle.rq_model.specs.Queues.{Part}
-use Rattle.rq_standing.proofs.spelled.lent_notes.Goals as goal
+use Rattle.rq_standing.proofs.lent_members.lent_notes.Goals as goal
 
 pub loop-part-preserved : goal.loop-part-preserved
 loop-part-preserved c =
