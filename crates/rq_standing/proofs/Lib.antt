@@ -5,3 +5,5 @@ mod UnitEnds
 mod Spellings
 mod OneState
 mod Looks
+mod Ending
+mod ComingTrue

@@ -5,11 +5,11 @@ use Rattle.std.specs.List.{filter, find, list_any, AllByRecursion}
 use Rattle.std.specs.Str.{bytes_eq}
 use Rattle.std.proofs.lemmas.Bool.{and_parts, false≢true, eqb-true}
 use Rattle.std.proofs.lemmas.Bool.Decides.{nat_tests}
-use Rattle.rq_model.specs.Machine.{best}
+use Rattle.rq_model.specs.Machine.{best, is_free_at}
 use Rattle.rq_model.specs.Queues.{elements_at, registrants_at}
 use Rattle.rq_model.specs.Reports.{IsListing}
 use Rattle.rq_model.specs.StepLaws.{StepByParts}
-use Rattle.rq_model.specs.States.{State, Element, Registrant, is_registrant}
+use Rattle.rq_model.specs.States.{State, Element, Registrant, is_free, is_registrant}
 use Rattle.rq_model.specs.WellFormed.{IsWellFormed, IsRegistrant, IsElement, IsIn}
 use Rattle.rq_model.proofs.Lists.{by_cases, filter_none, each_weaker}
 
@@ -77,3 +77,46 @@ nothing_free law s queue well past =
     ∙ ap (best queue) (filter_none (λ (e : Element). e.home == queue) s.elements
     (each_weaker (IsElement s) (λ (e : Element). (e.home == queue) ≡ false)
     (λ e is. other e.home (length s.definitions) queue is.home past) s.elements well.elements))
+
+-- A queue's free elements are found in its part.
+and_false : (b : Bool) → (b && false) ≡ false
+and_false true = refl
+and_false false = refl
+
+pub free_found : (queue id : ℕ) (es : List Element)
+    → list_any (λ e. is_free_at queue e && (e.id == id)) (elements_at queue es)
+    ≡ list_any (λ e. is_free_at queue e && (e.id == id)) es
+free_found queue id [] = refl
+free_found queue id (e ∷ es) = by_cases (e.home == queue)
+    (λ b. (e.home == queue) ≡ b
+    → list_any (λ e. is_free_at queue e && (e.id == id)) (cond b (e ∷ elements_at queue es) (elements_at queue es))
+    ≡ ((is_free_at queue e && (e.id == id)) || list_any (λ e. is_free_at queue e && (e.id == id)) es))
+    (λ _ t. ap (λ b. (is_free_at queue e && (e.id == id)) || b) (free_found queue id es))
+    (λ _ f. free_found queue id es
+    ∙ ap (λ b. (b && (e.id == id)) || list_any (λ e. is_free_at queue e && (e.id == id)) es)
+    (sym (ap (λ b. is_free e.mark && b) f ∙ and_false (is_free e.mark)))) refl
+
+pub none_free_at : (s : State) (queue id : ℕ) → IsWellFormed s → length s.definitions ≤ queue
+    → list_any (λ e. is_free_at queue e && (e.id == id)) s.elements ≡ false
+none_free_at s queue id well past =
+    sym (free_found queue id s.elements)
+    ∙ ap (list_any (λ e. is_free_at queue e && (e.id == id)))
+    (filter_none (λ (e : Element). e.home == queue) s.elements
+    (each_weaker (IsElement s) (λ (e : Element). (e.home == queue) ≡ false)
+    (λ e is. other e.home (length s.definitions) queue is.home past) s.elements well.elements))
+
+pub free_here : (queue : ℕ) (es : List Element)
+    → filter (λ (e : Element). is_free e.mark) (elements_at queue es) ≡ filter (is_free_at queue) es
+free_here queue [] = refl
+free_here queue (e ∷ es) = by_cases (e.home == queue)
+    (λ b. filter (λ (e : Element). is_free e.mark) (cond b (e ∷ elements_at queue es) (elements_at queue es))
+    ≡ cond (is_free e.mark && b) (e ∷ filter (is_free_at queue) es) (filter (is_free_at queue) es))
+    (λ _. by_cases (is_free e.mark)
+    (λ b. cond b (e ∷ filter (λ (e : Element). is_free e.mark) (elements_at queue es))
+    (filter (λ (e : Element). is_free e.mark) (elements_at queue es))
+    ≡ cond (b && true) (e ∷ filter (is_free_at queue) es) (filter (is_free_at queue) es))
+    (λ _. ap (λ fs. e ∷ fs) (free_here queue es)) (λ _. free_here queue es))
+    (λ _. by_cases (is_free e.mark)
+    (λ b. filter (λ (e : Element). is_free e.mark) (elements_at queue es)
+    ≡ cond (b && false) (e ∷ filter (is_free_at queue) es) (filter (is_free_at queue) es))
+    (λ _. free_here queue es) (λ _. free_here queue es))

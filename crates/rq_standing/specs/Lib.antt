@@ -3,3 +3,5 @@ pub mod Units
 pub mod Stands
 pub mod Spelled
 pub mod Machines
+pub mod Ends
+pub mod Fates

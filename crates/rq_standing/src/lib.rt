@@ -3,6 +3,7 @@
 #![tactic(auto)]
 
 mod asks;
+mod ends;
 mod lent_members;
 mod machine;
 mod open_units;
@@ -12,5 +13,6 @@ mod spelled;
 mod states;
 mod taken;
 
+pub use ends::fates_come_true;
 pub use machine::Machine;
 pub use taken::Taken;

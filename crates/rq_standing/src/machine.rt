@@ -1,8 +1,8 @@
 //! The one-thread machine: the state of the queue manager, queue by queue.
 
-ghost use Rattle.std.specs.Prelude.{◌≡◌, ◌≤◌, ◌<◌, ◌&&◌, nat_le, IfOk, IfErr, IfSome, length, not};
+ghost use Rattle.std.specs.Prelude.{◌≡◌, ◌==◌, ◌≤◌, ◌<◌, ◌&&◌, nat_le, IfOk, IfErr, IfSome, length, not};
 ghost use Rattle.std.specs.Prelude.{is_some, map, filter, option_copied, option_map};
-ghost use Rattle.std.specs.List.{find};
+ghost use Rattle.std.specs.List.{find, list_any};
 ghost use Rattle.std.specs.List.Sorted.{IsPermutation};
 ghost use Rattle.std.specs.Str.{bytes_eq};
 ghost use Rattle.rq_lawful.specs.Breaks.{Breaks};
@@ -15,14 +15,15 @@ ghost use Rattle.rq_record.specs.Views.{record_of, version_of};
 ghost use Rattle.rq_record.specs.declared.fault.Fault.TheVariants.{Resources};
 ghost use Rattle.rq_state.specs.Spelling.{ReadsState, Spelled};
 ghost use Rattle.rq_state.specs.Views.{unit_of};
+ghost use Rattle.rq_standing.specs.Ends.{ends};
 ghost use Rattle.rq_standing.specs.Machines.{IsDone, state_after};
 ghost use Rattle.rq_standing.specs.Spelled.{least_bytes};
 
 use crate::queues::Queues;
 use crate::taken::Taken;
 use rq_lawful::{Rule, broken};
-use rq_queue::Part;
-use rq_record::{Fault, KeptName, KeptRecord, QueueNo, UnitNo, Version};
+use rq_queue::{Fate, Part};
+use rq_record::{ElemId, Fault, KeptName, KeptRecord, QueueNo, UnitNo, Version};
 use rq_state::{Definition, KeptElement, Last, State, read_in};
 use std::alloc::Global;
 use std::marker::Model;
@@ -37,6 +38,7 @@ pub struct Machine {
 
 impl Model for Machine {
     ghost use Rattle.rq_model.specs.States.{State};
+    ghost use Rattle.rq_standing.specs.Ends.{ends};
     ghost use Rattle.rq_standing.specs.Machines.{state_in, HoldOneState};
 
     ghost Value = { State };
@@ -159,6 +161,35 @@ impl Machine {
             return None;
         }
         self.part(queue).last(name)
+    }
+
+    /// Whether a queue has the element of this id, and it is free: a KILL takes it out.
+    pub fn is_free(&self, queue: QueueNo, id: ElemId) -> bool
+        ensures { result ≡ list_any
+            (λ e. machine.is_free_at queue.0 e && (e.id == id.0)) self.now.elements }
+    {
+        if queue.0 as usize >= self.queues.definitions.len() {
+            return false;
+        }
+        self.part(queue).is_free(id)
+    }
+
+    /// How many elements of a queue are free.
+    pub fn free_count(&self, queue: QueueNo) -> usize
+        requires { queue.0 < length self.now.definitions }
+        ensures { result ≡ length (filter (machine.is_free_at queue.0) self.now.elements) }
+    {
+        self.part(queue).free_count()
+    }
+
+    /// What a COMMIT or an ABORT that is not done yet makes of the elements that its unit put in or
+    /// took, by id; nothing of any other record. Refused with `Resources` alone.
+    pub fn ends(&self, alloc: Global, what: &KeptRecord) -> Result<Vec<(ElemId, Fate)>, Fault>
+        ensures ends { IfOk result
+            (λ v. map (λ p. (p.0.0, p.1)) v.items ≡ ends self.now (record_of what.now)) }
+        ensures refused { IfErr result (λ e. e ≡ Resources) }
+    {
+        self.queues.ends(alloc, what)
     }
 
     /// A rule of the version that the record breaks; none exactly if it is lawful.

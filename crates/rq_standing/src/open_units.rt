@@ -62,6 +62,16 @@ impl OpenUnits {
         Ok(())
     }
 
+    /// The queues that a unit named.
+    pub(crate) fn queues_named(&self, unit: UnitNo) -> &[u64]
+        ensures { result.now ≡ queues_of self.now unit.0 }
+    {
+        match self.named.get(&unit.0) {
+            Some(queues) => queues,
+            None => &[],
+        }
+    }
+
     /// A unit ends. The queues that it named.
     pub(crate) fn end(&mut self, alloc: Global, unit: UnitNo) -> Vec<u64>
         ensures queues { result.items ≡ queues_of self.old unit.0 }
