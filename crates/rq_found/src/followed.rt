@@ -28,7 +28,7 @@ fn taking(machine: &Machine, queue: QueueNo) -> Event {
 
 // What a KILL of a queue's element does.
 fn killing(machine: &Machine, queue: QueueNo, element: ElemId) -> Event {
-    if machine.is_free(queue, element) {
+    if machine.has_free(queue, element) {
         Event::To(element.0, Effect::Ended(Fate::Gone))
     } else {
         Event::NoElement

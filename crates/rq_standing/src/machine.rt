@@ -164,7 +164,7 @@ impl Machine {
     }
 
     /// Whether a queue has the element of this id, and it is free: a KILL takes it out.
-    pub fn is_free(&self, queue: QueueNo, id: ElemId) -> bool
+    pub fn has_free(&self, queue: QueueNo, id: ElemId) -> bool
         ensures { result ≡ list_any
             (λ e. machine.is_free_at queue.0 e && (e.id == id.0)) self.now.elements }
     {
@@ -175,7 +175,7 @@ impl Machine {
     }
 
     /// How many elements of a queue are free.
-    pub fn free_count(&self, queue: QueueNo) -> usize
+    pub fn depth(&self, queue: QueueNo) -> usize
         requires { queue.0 < length self.now.definitions }
         ensures { result ≡ length (filter (machine.is_free_at queue.0) self.now.elements) }
     {

@@ -205,7 +205,7 @@ impl Measures {
 fn depths_of(alloc: Global, state: &Machine) -> Result<Vec<u64>, AllocError> {
     let mut depths = Vec::new(alloc);
     for queue in 0..state.definitions().len() {
-        depths.push(state.free_count(QueueNo(queue as u32)) as u64)?;
+        depths.push(state.depth(QueueNo(queue as u32)) as u64)?;
     }
     Ok(depths)
 }

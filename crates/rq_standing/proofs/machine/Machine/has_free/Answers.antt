@@ -8,7 +8,7 @@ use Rattle.rq_model.specs.States.{Element}
 use Rattle.rq_model.specs.WellFormed.{IsWellFormed}
 use Rattle.rq_model.proofs.Lists.{each_passes}
 use Rattle.rq_standing.proofs.Looks.{free_found, none_free_at}
-use Rattle.rq_standing.proofs.machine.Machine.is_free.Goals as goal
+use Rattle.rq_standing.proofs.machine.Machine.has_free.Goals as goal
 
 pub is_free-requires : goal.is_free-requires
 is_free-requires c =

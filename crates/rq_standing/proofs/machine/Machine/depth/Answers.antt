@@ -3,7 +3,7 @@ use Rattle.std.specs.Prelude.{filter}
 use Rattle.rq_model.specs.Queues.{Part}
 use Rattle.rq_model.specs.States.{Element, is_free}
 use Rattle.rq_standing.proofs.Looks.{free_here}
-use Rattle.rq_standing.proofs.machine.Machine.free_count.Goals as goal
+use Rattle.rq_standing.proofs.machine.Machine.depth.Goals as goal
 
 pub returns : goal.returns
 returns c =
