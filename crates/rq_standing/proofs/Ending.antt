@@ -4,6 +4,9 @@ use Rattle.std.proofs.Common.{zero, suc, ◌+◌, Option, Some, None, get_or, ta
 use Rattle.std.specs.Prelude.{if◌then◌else◌}
 use Rattle.std.specs.List.{AllByRecursion, filter, list_any}
 use Rattle.std.specs.List.Sorted.{IsPermutation}
+use Rattle.std.specs.BTreeMap.{is_at}
+use Rattle.std.specs.BTreeSet.{BTreeSet, IsEmpty, Updates, contains}
+use Rattle.std.specs.Ordering.{is_eq, nat_cmp}
 use Rattle.std.proofs.lemmas.Bool.{false≢true, eq-eqb, eqb-true, cases_Bool}
 use Rattle.std.proofs.lemmas.Bool.Decides.{nat_tests}
 use Rattle.std.proofs.lemmas.List.{append-nil, flat_map_more, take_more}
@@ -13,6 +16,7 @@ use Rattle.rq_model.specs.Queues.{Part, elements_at, is_engaged, is_marked}
 use Rattle.rq_model.specs.Records.{Record, Commit, Abort}
 use Rattle.rq_model.specs.States.{State, Element, Definition, Mark, Free, Fresh, Held, definition_at, is_fresh, is_held}
 use Rattle.rq_model.specs.WellFormed.{IsElement, IsIn}
+use Rattle.rq_catalog.proofs.Runs.{any_push}
 use Rattle.rq_model.proofs.Lists.{by_cases, each_of, each_weaker, filter_none, filter_same}
 use Rattle.rq_queue.specs.Fates.{fate_under, at_commit, at_abort}
 use Rattle.rq_queue.specs.declared.fates.Fate.{Fate}
@@ -59,13 +63,13 @@ nothing_at x s unit q old holds past = subst (λ (es : List Element). IsPermutat
 split : (unit : ℕ) (p r : ℕ → Bool) (q : ℕ) → ((k : ℕ) → r k ≡ cond (q == k) true (p k)) → p q ≡ false → (es : List Element)
     → IsPermutation (marked_where unit r es) (marked_where unit p es ++ marked_where unit (λ k. k == q) es)
 split unit p r q more new [] = IsPermutation-refl []
-split unit p r q more new (e ∷ es) = by_cases (is_marked unit e.mark)
+split unit p r q more new (e ∷ es) = let rest = split unit p r q more new es in by_cases (is_marked unit e.mark)
     (λ m. IsPermutation (cond (m && r e.home) (e ∷ all) all)
     (cond (m && p e.home) (e ∷ before) before ++ cond (m && (e.home == q)) (e ∷ here) here))
     (λ _. by_cases (e.home == q)
     (λ b. (e.home == q) ≡ b → IsPermutation (cond (true && r e.home) (e ∷ all) all)
     (cond (true && p e.home) (e ∷ before) before ++ cond (true && b) (e ∷ here) here))
-    (λ _ same. there (eqb-true e.home q same)) (λ _ other. elsewhere other) refl)
+    (λ _ same. there rest (eqb-true e.home q same)) (λ _ other. elsewhere rest other) refl)
     (λ _. rest)
   where
     all : List Element
@@ -77,12 +81,9 @@ split unit p r q more new (e ∷ es) = by_cases (is_marked unit e.mark)
     here : List Element
     here = marked_where unit (λ k. k == q) es
 
-    rest : IsPermutation all (before ++ here)
-    rest = split unit p r q more new es
-
-    there : e.home ≡ q → IsPermutation (cond (true && r e.home) (e ∷ all) all)
+    there : IsPermutation all (before ++ here) → e.home ≡ q → IsPermutation (cond (true && r e.home) (e ∷ all) all)
         (cond (true && p e.home) (e ∷ before) before ++ e ∷ here)
-    there same =
+    there rest same =
         subst (λ b. IsPermutation (cond (true && b) (e ∷ all) all) (cond (true && p e.home) (e ∷ before) before ++ e ∷ here))
         (sym (more e.home ∙ ap (λ b. cond b true (p e.home)) (eq-eqb q e.home (sym same))))
         (subst (λ b. IsPermutation (e ∷ all) (cond (true && b) (e ∷ before) before ++ e ∷ here))
@@ -93,9 +94,9 @@ split unit p r q more new (e ∷ es) = by_cases (is_marked unit e.mark)
     turned : (a b : ℕ) → (a == b) ≡ false → (b == a) ≡ false
     turned a b h = grind (arith, nat_tests, h)
 
-    elsewhere : (e.home == q) ≡ false → IsPermutation (cond (true && r e.home) (e ∷ all) all)
+    elsewhere : IsPermutation all (before ++ here) → (e.home == q) ≡ false → IsPermutation (cond (true && r e.home) (e ∷ all) all)
         (cond (true && p e.home) (e ∷ before) before ++ here)
-    elsewhere other =
+    elsewhere rest other =
         subst (λ b. IsPermutation (cond (true && b) (e ∷ all) all) (cond (true && p e.home) (e ∷ before) before ++ here))
         (sym (more e.home ∙ ap (λ b. cond b true (p e.home)) (turned e.home q other)))
         (by_cases (p e.home) (λ b. IsPermutation (cond (true && b) (e ∷ all) all) (cond (true && b) (e ∷ before) before ++ here))
@@ -222,3 +223,43 @@ fates_of_marked definitions r unit ends (e ∷ es) = by_cases (is_marked unit e.
     (λ _ f. fates_of_marked definitions r unit ends es
     ∙ ap (λ t. fated e.id t ++ fates definitions r es)
     (sym (no_fate (definition_at definitions e.home) r unit e ends f))) refl
+
+-- More of a list of numbers.
+pub any_more : (qs : List ℕ) (i d k : ℕ) → i < length qs
+    → list_any (λ v. v == k) (take (i + 1) qs) ≡ cond (get_or qs i d == k) true (list_any (λ v. v == k) (take i qs))
+any_more qs i d k l = ap (list_any (λ v. v == k)) (take_more qs i d l)
+    ∙ any_push (λ v. v == k) (take i qs) (get_or qs i d)
+    ∙ turned (list_any (λ v. v == k) (take i qs)) (get_or qs i d == k)
+  where
+    turned : (a b : Bool) → (a || b) ≡ cond b true a
+    turned true true = refl
+    turned true false = refl
+    turned false true = refl
+    turned false false = refl
+
+-- Which numbers a set has, after one more.
+same_number : (a b : ℕ) → is_eq (nat_cmp a b) ≡ (a == b)
+same_number a b = by_cases (a == b) (λ c. (a == b) ≡ c → is_eq (nat_cmp a b) ≡ c) (λ _ t. grind (arith, t))
+    (λ _ f. grind (arith, f)) refl
+
+pub has_more : (old new : BTreeSet ℕ) (q : ℕ) → Updates nat_cmp old new q true → (k : ℕ)
+    → contains nat_cmp new k ≡ cond (q == k) true (contains nat_cmp old k)
+has_more old new q updates k = updates.0 k ∙ ap (λ b. cond b true (contains nat_cmp old k)) (same_number q k)
+
+pub seen_more : (old new : BTreeSet ℕ) (qs : List ℕ) (i : ℕ) → i < length qs → Updates nat_cmp old new (get_or qs i 0) true
+    → ((k : ℕ) → contains nat_cmp old k ≡ list_any (λ v. v == k) (take i qs))
+    → (k : ℕ) → contains nat_cmp new k ≡ list_any (λ v. v == k) (take (i + 1) qs)
+seen_more old new qs i l updates so_far k = has_more old new (get_or qs i 0) updates k
+    ∙ ap (λ b. cond (get_or qs i 0 == k) true b) (so_far k) ∙ sym (any_more qs i 0 k l)
+
+pub was_there : (added there : Bool) → added ≡ not there → added ≡ false → there ≡ true
+was_there added true is f = refl
+was_there added false is f = absurd (false≢true (sym f ∙ is))
+
+pub was_not : (added there : Bool) → added ≡ not there → added ≡ true → there ≡ false
+was_not added true is t = absurd (false≢true (sym is ∙ t))
+was_not added false is t = refl
+
+-- no queue was named
+pub nothing_seen : (seen : BTreeSet ℕ) → IsEmpty seen → (k : ℕ) → contains nat_cmp seen k ≡ false
+nothing_seen seen none k = ap (list_any (is_at (nat_cmp k))) none

@@ -27,11 +27,11 @@ fn is_named(definitions: &[Definition], name: &Name) -> bool
 }
 
 // The part of a queue.
-pub(crate) fn part_here(parts: &[Part], queue: QueueNo) -> &Part
-    requires { queue.0 < length parts.now }
-    ensures { result.now ≡ part_at parts.now queue.0 }
+pub(crate) fn part_here(parts: &[Part], queue: usize) -> &Part
+    requires { queue < length parts.now }
+    ensures { result.now ≡ part_at parts.now queue }
 {
-    &parts[queue.0 as usize]
+    &parts[queue]
 }
 
 impl Knows for Queues {
@@ -56,7 +56,7 @@ impl Knows for Queues {
         if queue.0 as usize >= self.parts.len() {
             return false;
         }
-        part_here(&self.parts, queue).has_registered(name)
+        part_here(&self.parts, queue.0 as usize).has_registered(name)
     }
 
     fn is_open(&self, unit: UnitNo) -> bool {

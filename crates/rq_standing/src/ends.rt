@@ -13,6 +13,7 @@ ghost use Rattle.rq_standing.specs.Ends.{ends, fates, marked_where, unit_ended};
 ghost use Rattle.rq_standing.specs.Fates.{FatesComeTrue};
 ghost use Rattle.rq_standing.specs.Stands.{HoldsState};
 
+use crate::asks::part_here;
 use crate::queues::Queues;
 use rq_queue::{Fate, LentElement};
 use rq_record::{ElemId, Fault, KeptRecord, UnitNo};
@@ -84,7 +85,8 @@ impl Queues {
         if queue >= self.parts.len() as u64 {
             return Ok(());
         }
-        self.parts[queue as usize].lend_marked_by(unit, lent)
+        part_here(&self.parts, queue as usize).lend_marked_by(unit, lent)?;
+        Ok(())
     }
 
     // Lends what the unit put in or took of these queues, of each once.
@@ -141,6 +143,7 @@ impl Queues {
             return Err(Fault::Resources);
         }
         let lent = self.lent_by_unit(alloc, unit)?;
-        fates_of(alloc, &self.definitions, what, &lent)
+        let fates = fates_of(alloc, &self.definitions, what, &lent)?;
+        Ok(fates)
     }
 }

@@ -35,4 +35,4 @@ order-requires c =
     (rising d c.requires.0 c.requires.1)
 
 pub returns-clause-lent : goal.returns-clause-lent
-returns-clause-lent c = λ s holds. c.order.ensures ∙ all_are c s holds
+returns-clause-lent c = λ s holds. c.order.ensures ∙ all_are (goal.at.returns-clause-lent c).In_ok-lent s holds

@@ -47,9 +47,10 @@ lent_is c t holds = λ i. record {
 
 pub spell_lent-requires : goal.spell_lent-requires
 spell_lent-requires c =
+    let d = (goal.at.spell_lent-requires c).After-deref-6 in
     let t = c.requires.holds.0 in
     let holds = c.requires.holds.1 in
-    let few : AreFew (lent c) = subst AreFew (sym (lent_is c t holds))
+    let few : AreFew (lent d) = subst AreFew (sym (lent_is d t holds))
     (are_few t holds.well (subst (λ n. n ≤ 4294967295) holds.next c.requires.next)) in
     record {
       definitions = few.definitions;
