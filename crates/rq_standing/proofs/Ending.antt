@@ -172,15 +172,6 @@ each_at P (x ∷ xs) (suc i) d h l = each_at P xs i d h.1 (omega (arith, l))
 abbrev fated_in : List Definition → Record → Element → List (ℕ × Fate)
 fated_in definitions r e = fated e.id (fate_under r (definition_at definitions e.home) e)
 
--- one element more
-pub fates_more : (definitions : List Definition) (r : Record) (es : List Element) (i : ℕ) (d : Element) (told : Option Fate)
-    (before : List (ℕ × Fate)) → i < length es → told ≡ fate_under r (definition_at definitions (get_or es i d).home) (get_or es i d)
-    → before ≡ fates definitions r (take i es) → before ++ fated (get_or es i d).id told ≡ fates definitions r (take (i + 1) es)
-fates_more definitions r es i d told before l is so_far =
-    (λ j. so_far j ++ fated (get_or es i d).id (is j))
-    ∙ flat_map_more (fated_in definitions r) [] (take i es) (get_or es i d)
-    ∙ ap (fates definitions r) (sym (take_more es i d l))
-
 -- a record that ends no unit makes nothing of any
 pub none_end : (definitions : List Definition) (r : Record) → unit_ended r ≡ None → (es : List Element) → fates definitions r es ≡ []
 none_end definitions r none [] = refl
