@@ -71,14 +71,14 @@ fn checkpoints_among<R: Threads + Sync>(
         let KeptRecord::Checkpoint { bytes } = &records[place] else {
             continue;
         };
-        let before = &records[done..place];
+        let piece = &records[done..place];
         let offset = spans[place].offset() as u64;
         tell_behind(
             rt,
             alloc,
             version,
             &mut machine,
-            before,
+            piece,
             bytes.bytes(),
             offset,
             plan,

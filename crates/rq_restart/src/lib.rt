@@ -4,7 +4,6 @@
 #![tactic(auto)]
 
 mod audits;
-mod keeper;
 mod pieces;
 mod redone;
 mod restart_ends;
@@ -13,7 +12,6 @@ mod tails;
 mod upgrades;
 
 pub use audits::{audit, audit_at, audit_of, every_log_has_audit};
-pub use keeper::Keeper;
 pub use pieces::go_on;
 pub use redone::{RedoneFront, front_state};
 pub use restart_ends::Restarted;

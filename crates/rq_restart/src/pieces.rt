@@ -5,7 +5,7 @@ ghost use Rattle.rq_exchange.specs.Gathering.{ComesTo};
 ghost use Rattle.rq_model.specs.States.{empty};
 ghost use Rattle.rq_record.specs.Views.{record_of, version_of};
 ghost use Rattle.rq_record.specs.declared.fault.Fault.TheVariants.{Resources};
-ghost use Rattle.rq_restart.specs.Keepers.{TakesOne};
+ghost use Rattle.rq_restart.specs.Taking.{TakesOne};
 
 use rq_exchange::front_redone;
 use rq_plan::Plan;

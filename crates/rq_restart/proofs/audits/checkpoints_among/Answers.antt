@@ -1,4 +1,4 @@
-use Rattle.std.proofs.Common.{◌<◌, ◌∙◌, ◌++◌, List, ℕ, length, map, take, sym, ap, subst, arith}
+use Rattle.std.proofs.Common.{◌<◌, ◌∙◌, ◌++◌, List, ℕ, length, map, take, sym, ap, subst, arith, drop, ◌-◌}
 use Rattle.std.specs.Prelude.{slice_index_or}
 use Rattle.std.proofs.lemmas.List.{length-map, take_all}
 use Rattle.rq_model.specs.Records.{Checkpoint}
@@ -40,7 +40,8 @@ tell_behind-requires-clause-lawful g c κs within =
     let s = c.args.state.now in
     let all = c.args.records.now in
     let before = c.loop-place.invariant in
-    ap (λ (t : State). all_lawful version t (map record_of c.index-records-before.result.now)) before.state
+    ap (λ (t : State). all_lawful version t
+    (map record_of (take (c.loop-place.place - c.loop-place.done) (drop c.loop-place.done all)))) before.state
     ∙ lawful_between version s all c.loop-place.done c.loop-place.place before.within c.requires.framed.1.lawful
 
 pub loop-place-preserved : goal.loop-place-preserved
@@ -52,7 +53,8 @@ loop-place-preserved g c =
     let r = c.index-records-place.result in
     let is = c.index-records-place.is in
     let before = c.loop-place.invariant in
-    let here = ap (λ (t : State). run t (map record_of c.index-records-before.result.now)) before.state
+    let here = ap (λ (t : State). run t
+    (map record_of (take (c.loop-place.place - c.loop-place.done) (drop c.loop-place.done all)))) before.state
     ∙ run_between s all c.loop-place.done i before.within in
     let told : List Audited = map audited_of c.loop-place.found.items in
     let at_place = c.offset-offset.result in

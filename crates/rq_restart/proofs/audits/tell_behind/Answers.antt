@@ -1,4 +1,4 @@
-use Rattle.std.proofs.Common.{◌∙◌, ◌++◌, ◌∷◌, [], Bool, List, map, ap}
+use Rattle.std.proofs.Common.{◌≡◌, ◌∙◌, ◌++◌, ◌∷◌, [], Bool, List, map, ap}
 use Rattle.std.proofs.lemmas.List.{map-append}
 use Rattle.rq_model.specs.Machine.{run}
 use Rattle.rq_model.specs.States.{State}

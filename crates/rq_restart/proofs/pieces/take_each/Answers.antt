@@ -1,6 +1,6 @@
 use Rattle.std.proofs.Common.{refl, arith}
 use Rattle.rq_record.specs.Views.{version_of}
-use Rattle.rq_restart.proofs.Keepers.{all_taken, ends_there, one_further}
+use Rattle.rq_restart.proofs.Taking.{all_taken, ends_there, one_further}
 use Rattle.rq_restart.proofs.pieces.take_each.Goals as goal
 
 pub loop-place-init : goal.loop-place-init
