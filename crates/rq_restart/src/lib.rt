@@ -1,6 +1,6 @@
 //! Restart of a recoverable queue manager's log: the front of the log, and the state behind it.
-//! Also restarts from checkpoints and their audit, closed and upgraded logs, and a keeper of the
-//! state that goes along with a log.
+//! Also restarts from checkpoints and their audit, closed and upgraded logs, and many records that go
+//! onto a machine at once.
 #![tactic(auto)]
 
 mod audits;
