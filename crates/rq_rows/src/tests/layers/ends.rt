@@ -89,7 +89,7 @@ fn free_in(machine: &Machine, queue: QueueNo) -> Option<usize> {
     if queue.0 as usize >= machine.definitions().len() {
         return None;
     }
-    Some(machine.free_count(queue))
+    Some(machine.depth(queue))
 }
 
 #[test]
@@ -99,9 +99,9 @@ fn it_tells_what_the_end_of_a_unit_makes_of_its_elements(rt: HostRuntime) -> Res
     for case in CASES {
         assert!(rt; tells(alloc, &mut machine, case)?);
     }
-    assert!(rt; free_in(&machine, DEAD) == Some(1) && machine.is_free(DEAD, ElemId(5)));
-    assert!(rt; free_in(&machine, JOBS) == Some(0) && !machine.is_free(JOBS, ElemId(5)));
-    assert!(rt; free_in(&machine, MAIL) == Some(1) && machine.is_free(MAIL, ElemId(4)));
-    assert!(rt; !machine.is_free(MAIL, ElemId(6)) && !machine.is_free(QueueNo(3), ElemId(4)));
+    assert!(rt; free_in(&machine, DEAD) == Some(1) && machine.has_free(DEAD, ElemId(5)));
+    assert!(rt; free_in(&machine, JOBS) == Some(0) && !machine.has_free(JOBS, ElemId(5)));
+    assert!(rt; free_in(&machine, MAIL) == Some(1) && machine.has_free(MAIL, ElemId(4)));
+    assert!(rt; !machine.has_free(MAIL, ElemId(6)) && !machine.has_free(QueueNo(3), ElemId(4)));
     Ok(())
 }
