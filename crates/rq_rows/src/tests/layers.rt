@@ -6,6 +6,7 @@ mod bytes;
 mod chains;
 pub(crate) mod countdowns;
 pub(crate) mod courses;
+mod ends;
 mod framers;
 mod machine;
 mod plain;
