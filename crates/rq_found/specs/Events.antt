@@ -1,5 +1,5 @@
 -- What happens to elements at a record, and the state behind it.
-use Rattle.std.specs.Prelude.{ℕ, ◌&&◌, ◌==◌, Option, Some, None, if◌then◌else◌, List, [], ◌∷◌, map}
+use Rattle.std.specs.Prelude.{ℕ, Bool, ◌&&◌, ◌==◌, Option, Some, None, if◌then◌else◌, List, [], ◌∷◌, map}
 use Rattle.std.specs.List.{list_any}
 use Rattle.rq_model.specs.Machine.{best, is_free_at, is_lawful, step}
 use Rattle.rq_model.specs.Records.{Record, Enqueue, Dequeue, Commit, Abort, Kill, Two}
@@ -24,12 +24,14 @@ at_end it = To it.0 (Ended it.1)
 abbrev pub finds : State → ℕ → ℕ → Bool
 finds s queue element = list_any (λ e. is_free_at queue e && (e.id == element)) s.elements
 
+abbrev pub at_killing : ℕ → Bool → Event
+at_killing element there = if there then To element (Ended Gone) else NoElement
+
 -- to each element that the record has to do with, as it is lawful
 abbrev pub happens : State → Record → List Event
 happens s (Enqueue unit queue priority by payload) = To s.next Put ∷ []
 happens s (Dequeue unit queue by) = at_taking (best queue s.elements) ∷ []
-happens s (Kill queue element) =
-    (if finds s queue element then To element (Ended Gone) else NoElement) ∷ []
+happens s (Kill queue element) = at_killing element (finds s queue element) ∷ []
 happens s (Commit unit) = map at_end (ends s (Commit unit))
 happens s (Abort unit) = map at_end (ends s (Abort unit))
 happens s r = []

@@ -1,17 +1,18 @@
 //! The state that goes along with the records of a front, and what happens at each of them.
 
 ghost use Rattle.std.specs.Prelude.{◌≡◌, ◌++◌, map, min, length, IfOk, IfErr, OnOk};
+ghost use Rattle.rq_model.specs.Machine.{best};
 ghost use Rattle.rq_model.specs.Records.{Abort, Two};
 ghost use Rattle.rq_model.specs.Spelling.{Spells};
 ghost use Rattle.rq_record.specs.Views.{record_of};
 ghost use Rattle.rq_record.specs.declared.fault.Fault.TheVariants.{Resources};
 ghost use Rattle.rq_state.specs.Views.{unit_of};
-ghost use Rattle.rq_found.specs.Events.{events_at, happens, state_behind};
+ghost use Rattle.rq_found.specs.Events.{at_end, at_killing, at_taking, events_at, finds, happens};
+ghost use Rattle.rq_found.specs.Events.{state_behind};
 
 use crate::events::{Effect, Event};
 use crate::frames::Placed;
 use crate::numbered::{Numbered, queues_of};
-use rq_lawful::Rule;
 use rq_queue::Fate;
 use rq_record::{ElemId, Fault, KeptRecord, QueueNo, UnitNo, Version};
 use rq_standing::{Machine, Taken};
@@ -19,7 +20,9 @@ use rq_state::State;
 use std::alloc::Global;
 
 // What a DEQUEUE of a queue does.
-fn taking(machine: &Machine, queue: QueueNo) -> Event {
+fn taking(machine: &Machine, queue: QueueNo) -> Event
+    ensures { result ≡ at_taking (best queue.0 machine.now.elements) }
+{
     match machine.first(queue) {
         Some(e) => Event::To(e.id().0, Effect::Taken),
         None => Event::NoElement,
@@ -27,7 +30,9 @@ fn taking(machine: &Machine, queue: QueueNo) -> Event {
 }
 
 // What a KILL of a queue's element does.
-fn killing(machine: &Machine, queue: QueueNo, element: ElemId) -> Event {
+fn killing(machine: &Machine, queue: QueueNo, element: ElemId) -> Event
+    ensures { result ≡ at_killing element.0 (finds machine.now queue.0 element.0) }
+{
     if machine.has_free(queue, element) {
         Event::To(element.0, Effect::Ended(Fate::Gone))
     } else {
@@ -36,7 +41,11 @@ fn killing(machine: &Machine, queue: QueueNo, element: ElemId) -> Event {
 }
 
 // Adds what the end of a unit does to the elements that it put in or took.
-fn put_ends(ends: &[(ElemId, Fate)], events: &mut Vec<Event>) -> Result<(), Fault> {
+fn put_ends(ends: &[(ElemId, Fate)], events: &mut Vec<Event>) -> Result<(), Fault>
+    ensures told { OnOk result (events.new.items
+        ≡ events.old.items ++ map at_end (map (λ p. (p.0.0, p.1)) ends.now)) }
+    ensures refused { IfErr result (λ e. e ≡ Resources) }
+{
     for (element, fate) in ends {
         events.push(Event::To(element.0, Effect::Ended(*fate)))?;
     }
@@ -83,7 +92,7 @@ impl Followed {
     {
         Ok(Followed {
             alloc,
-            machine: Machine::of_state(alloc, state)?,
+            machine: Machine::of(alloc, state)?,
             events: Vec::new(alloc),
         })
     }
@@ -105,11 +114,14 @@ impl Followed {
     {
         self.events.clear();
         foretell(self.alloc, &self.machine, what, &mut self.events)?;
-        match self.machine.take(self.alloc, Version::Two, what)? {
-            Taken::Done(_) => {}
-            Taken::Unlawful(_) => self.events.clear(),
+        match self.machine.take(self.alloc, Version::Two, what) {
+            Ok(Taken::Done(_)) => Ok(()),
+            Ok(Taken::Unlawful(_)) => {
+                self.events.clear();
+                Ok(())
+            }
+            Err(fault) => Err(fault),
         }
-        Ok(())
     }
 
     /// Does the next record of the front, and answers it. Refused with `Resources` alone: it is then
