@@ -5,7 +5,9 @@ ghost use Rattle.rq_record.specs.declared.fault.Fault.TheVariants.{Resources};
 
 use crate::rows::Value::{Number, Word};
 use crate::rows::{PAYLOADS, Row, UNITS, put_greatest};
-use rq_found::{Effect, End, Event, Followed, Numbered, PlacedFrames, ShownLog, kind_of};
+use rq_found::{
+    Effect, End, Event, Followed, Numbered, PlacedFrames, ShownLog, kind_of, queues_of,
+};
 use rq_front::FRAME_LEN;
 use rq_queue::Fate;
 use rq_record::{Fault, KeptRecord, Name, QueueNo, UnitNo};
@@ -204,8 +206,8 @@ impl Measures {
 // How many free elements each queue has, by number.
 fn depths_of(alloc: Global, state: &Machine) -> Result<Vec<u64>, AllocError> {
     let mut depths = Vec::new(alloc);
-    for queue in 0..state.definitions().len() {
-        depths.push(state.depth(QueueNo(queue as u32)) as u64)?;
+    for queue in 0..queues_of(state.definitions()) {
+        depths.push(state.depth(QueueNo(queue)) as u64)?;
     }
     Ok(depths)
 }
