@@ -57,7 +57,7 @@ impl Machine {
         rq_state::parts_make_the_state();
         rq_state::any_order_makes_the_state();
         let queues = Queues::empty(alloc);
-        queues.units.count();
+        queues.units.numbers_rise();
         Machine { queues }
     }
 
@@ -69,7 +69,7 @@ impl Machine {
         rq_state::parts_make_the_state();
         rq_state::any_order_makes_the_state();
         let queues = Queues::of(alloc, state)?;
-        queues.units.count();
+        queues.units.numbers_rise();
         Ok(Machine { queues })
     }
 
@@ -103,6 +103,13 @@ impl Machine {
     {
         let units = self.queues.units.numbers(alloc)?;
         Ok(units)
+    }
+
+    /// How many units are open.
+    pub fn open_count(&self) -> usize
+        ensures { result ≡ length self.now.units }
+    {
+        self.queues.units.count()
     }
 
     /// The queues, by number.
@@ -225,7 +232,7 @@ impl Machine {
         }
         match self.queues.take(alloc, what) {
             Ok(element) => {
-                self.queues.units.count();
+                self.queues.units.numbers_rise();
                 Ok(Taken::Done(element))
             }
             Err(e) => {

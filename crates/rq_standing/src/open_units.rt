@@ -95,11 +95,17 @@ impl OpenUnits {
 
     /// How many they are.
     pub(crate) fn count(&self) -> usize
-        ensures count { (s : State) → IsWellFormed s → AreUnits self.now s
+        ensures { (s : State) → IsWellFormed s → AreUnits self.now s
             → result ≡ length s.units }
-        ensures ordered { IsOrdered nat_cmp self.now.named }
     {
         self.named.len()
+    }
+
+    /// Their numbers rise.
+    pub(crate) fn numbers_rise(&self)
+        ensures { IsOrdered nat_cmp self.now.named }
+    {
+        BTreeMap::len(&self.named);
     }
 
     /// How many they are and their numbers, rising, are to come next in the bytes.

@@ -242,6 +242,7 @@ fn has_numbers_of(alloc: Global, machine: &Machine, state: &State) -> Result<boo
         machine.next() == state.next()
             && machine.greatest() == state.greatest()
             && machine.definitions().len() == state.definition_count()
+            && machine.open_count() == units.len()
             && units.as_slice() == state.units(),
     )
 }

@@ -4,8 +4,8 @@ use Rattle.rq_standing.proofs.machine.Machine.empty.Goals as goal
 
 pub invariant_of-result : goal.invariant_of-result
 invariant_of-result c = are_one c.parts_make_the_state.ensures c.any_order_makes_the_state.ensures c.empty-queues.result
-    model.empty c.count.ensures.ordered c.empty-queues.ensures
+    model.empty c.numbers_rise.ensures c.empty-queues.ensures
 
 pub returns : goal.returns
 returns c = one_state c.parts_make_the_state.ensures c.any_order_makes_the_state.ensures c.empty-queues.result
-    model.empty c.count.ensures.ordered c.empty-queues.ensures
+    model.empty c.numbers_rise.ensures c.empty-queues.ensures

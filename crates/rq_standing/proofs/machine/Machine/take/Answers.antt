@@ -22,7 +22,7 @@ pub invariant_of-self : goal.invariant_of-self
 invariant_of-self c =
     let d = (goal.at.invariant_of-self c).In-Ok in
     are_one c.parts_make_the_state.ensures c.any_order_makes_the_state.ensures c.take.new.self
-    (step c.args.self.now (record_of c.args.what.now)) c.count.ensures.ordered (moved d)
+    (step c.args.self.now (record_of c.args.what.now)) c.numbers_rise.ensures (moved d)
 
 pub returns-in-Ok-clause-answer : goal.returns-in-Ok-clause-answer
 returns-in-Ok-clause-answer c =
@@ -33,4 +33,4 @@ pub returns-in-Ok-clause-state : goal.returns-in-Ok-clause-state
 returns-in-Ok-clause-state c =
     let d = (goal.at.returns-in-Ok-clause-state c).In-Ok in
     one_state c.parts_make_the_state.ensures c.any_order_makes_the_state.ensures c.take.new.self
-    (step c.args.self.now (record_of c.args.what.now)) c.count.ensures.ordered (moved d)
+    (step c.args.self.now (record_of c.args.what.now)) c.numbers_rise.ensures (moved d)

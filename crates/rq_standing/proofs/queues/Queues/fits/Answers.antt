@@ -22,7 +22,7 @@ returns-then-lists-len c = λ t holds.
       c.args.self.now.definitions.ok.0,
       ap (λ (ds : List Definition). length ds) holds.definitions,
     ) in
-    let units : c.count.result ≡ length t.units = c.count.ensures.count t holds.well holds.units in
+    let units : c.count.result ≡ length t.units = c.count.ensures t holds.well holds.units in
     let all : lists + members ≡ least_bytes t = omega (arith, of_parts, definitions, units) in
     c.parts_fit.ensures
     ∙ room_behind lists members c.args.len c.if-lists-len.true
