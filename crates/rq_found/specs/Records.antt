@@ -36,6 +36,7 @@ WalksOn old (Some placed) new = (36 + stated old.rest.now ≤ length old.rest.no
     × (placed.number ≡ old.number)
     × (new.number ≡ min (old.number + 1) 18446744073709551615)
     × (placed.offset ≡ old.offset)
+    × (new.offset ≡ min (old.offset + (36 + stated old.rest.now)) 18446744073709551615)
 
 -- the word for the kind of a record
 abbrev pub kind_word : Record → List ℕ

@@ -1,14 +1,22 @@
 //! A line for each record of a log, and for each right frame behind its front.
 
-ghost use Rattle.std.specs.Prelude.{◌≡◌, ◌<◌, ◌++◌, ℕ, List, Option, IfErr, OnOk, string_bytes};
+ghost use Rattle.std.specs.Prelude.{◌≡◌, ◌<◌, ◌++◌, ℕ, List, [], Option, Some, None, codes, false};
+ghost use Rattle.std.specs.Prelude.{IfErr, IfOk, OnOk, string_bytes};
+ghost use Rattle.rq_model.specs.Checkpoints.{IsCheckpointAt};
 ghost use Rattle.rq_model.specs.Fronts.{Restarted};
+ghost use Rattle.rq_model.specs.States.{empty};
+ghost use Rattle.rq_record.specs.Views.{version_of};
+ghost use Rattle.rq_record.specs.declared.fault.Fault.TheVariants.{Resources};
 ghost use Rattle.rq_judged.specs.FrontEnds.{IsEndOf};
 ghost use Rattle.rq_front.specs.Chains.{IsLog};
-ghost use Rattle.rq_record.specs.declared.fault.Fault.TheVariants.{Resources};
 ghost use Rattle.rq_found.specs.Ends.{IsRestartFrom, front_end_of};
+ghost use Rattle.rq_found.specs.Records.{SpelledIn};
 ghost use Rattle.rq_found.specs.Refusals.{CountsFaults, IsBroken, StaysUnshown};
+ghost use Rattle.rq_look.specs.Dumps.{AreFrontLines, IsFormless, IsFormlessIf, IsFrameLine, IsLineIf};
+ghost use Rattle.rq_look.specs.Dumps.{IsLineOf, PutsDump, origin};
+ghost use Rattle.rq_look.specs.Entries.{shown_entry, fits, fits_none};
 ghost use Rattle.rq_look.specs.Findings.{EndsWithin};
-ghost use Rattle.rq_look.specs.Looks.{AppendsSome, EndsDump, IsClosing};
+ghost use Rattle.rq_look.specs.Looks.{Gathers, GathersSome, IsClosing};
 
 use crate::behind_fronts::{put_behind, standing_behind};
 use crate::json::{put_behind_object, put_closing_object, put_object, put_unspelled};
@@ -18,18 +26,22 @@ use crate::shown_records::{ShownFrame, ShownRecord};
 use crate::wanted::Wanted;
 use rq_behind::Found;
 use rq_found::{
-    End, Output, PlacedFrames, Put, ShownLog, Trouble, end_of, first_state, form_reason,
-    front_frames, put_beginning, put_end, queues_behind, queues_of,
+    End, Output, Put, ShownLog, Trouble, end_of, first_state, form_reason, front_frames,
+    put_beginning, put_end, queues_behind, queues_of,
 };
 use rq_front::Span;
-use rq_record::{Fault, KeptRecord};
+use rq_record::Fault;
 use rq_state::State;
 use std::alloc::{AllocError, Global};
 use std::fmt::Write;
 use std::thread::Threads;
 
 // Puts a record in the form that is wanted.
-fn put_shown(alloc: Global, text: &mut String, it: &ShownRecord<'_>, wanted: &Wanted<'_>) -> Put {
+fn put_shown(alloc: Global, text: &mut String, it: &ShownRecord<'_>, wanted: &Wanted<'_>) -> Put
+    ensures { OnOk result ((line : List ℕ)
+        × IsLineOf wanted.now.json wanted.now.full (shown_entry it.now) line
+        × (string_bytes text.new ≡ string_bytes text.old ++ line)) }
+{
     if wanted.json {
         return put_object(alloc, text, it);
     }
@@ -37,8 +49,29 @@ fn put_shown(alloc: Global, text: &mut String, it: &ShownRecord<'_>, wanted: &Wa
     text.push_str("\n")
 }
 
+// Puts the line of a record, if it is all that is asked for. Answers whether it is.
+fn put_if_wanted(
+    alloc: Global,
+    text: &mut String,
+    it: &ShownRecord<'_>,
+    wanted: &Wanted<'_>,
+) -> Result<bool, AllocError>
+    ensures asked { IfOk result (λ is. is ≡ fits wanted.now (shown_entry it.now)) }
+    ensures line { IfOk result (λ is. (line : List ℕ) × IsLineIf is wanted.now (shown_entry it.now) line
+        × (string_bytes text.new ≡ string_bytes text.old ++ line)) }
+{
+    let is_wanted = wanted.wants(it);
+    if is_wanted {
+        put_shown(alloc, text, it, wanted)?;
+    }
+    Ok(is_wanted)
+}
+
 // Puts a frame whose body spells no record, and why, in the form that is wanted.
-fn put_formless(alloc: Global, text: &mut String, it: &ShownFrame<'_>, wanted: &Wanted<'_>) -> Put {
+fn put_formless(alloc: Global, text: &mut String, it: &ShownFrame<'_>, wanted: &Wanted<'_>) -> Put
+    ensures { OnOk result ((line : List ℕ) × IsFormless wanted.now.json it.now.offset line
+        × (string_bytes text.new ≡ string_bytes text.old ++ line)) }
+{
     let reason = form_reason(alloc, it.version, it.body)?;
     if wanted.json {
         return put_unspelled(alloc, text, it.offset, reason.as_str());
@@ -47,26 +80,20 @@ fn put_formless(alloc: Global, text: &mut String, it: &ShownFrame<'_>, wanted: &
     write!(text, "{offset} behind no record: {reason}\n")
 }
 
-// Puts the line of a frame's record, or of one that spells none, if it is wanted. Answers whether it
-// is.
-fn put_if_wanted(
+// Puts the line of such a frame, if it is wanted. Answers whether it is.
+fn put_formless_if_wanted(
     alloc: Global,
     text: &mut String,
     it: &ShownFrame<'_>,
-    record: &Option<KeptRecord>,
     wanted: &Wanted<'_>,
-) -> Result<bool, AllocError> {
-    let Some(record) = record else {
-        let is_wanted = wanted.wants_no_record();
-        if is_wanted {
-            put_formless(alloc, text, it, wanted)?;
-        }
-        return Ok(is_wanted);
-    };
-    let shown = it.shown(record);
-    let is_wanted = wanted.wants(&shown);
+) -> Result<bool, AllocError>
+    ensures asked { IfOk result (λ is. is ≡ fits_none wanted.now) }
+    ensures line { IfOk result (λ is. (line : List ℕ) × IsFormlessIf is wanted.now it.now.offset line
+        × (string_bytes text.new ≡ string_bytes text.old ++ line)) }
+{
+    let is_wanted = wanted.wants_no_record();
     if is_wanted {
-        put_shown(alloc, text, &shown, wanted)?;
+        put_formless(alloc, text, it, wanted)?;
     }
     Ok(is_wanted)
 }
@@ -78,13 +105,19 @@ fn put_frame(
     it: &ShownFrame<'_>,
     wanted: &Wanted<'_>,
 ) -> Result<bool, Fault>
-    ensures { IfErr result (λ e. e ≡ Resources) }
+    ensures line { IfOk result (λ is. (line : List ℕ) × IsFrameLine wanted.now
+        (version_of it.now.version) it.now.offset it.now.place it.now.body.now is line
+        × (string_bytes text.new ≡ string_bytes text.old ++ line)) }
+    ensures refused { IfErr result (λ e. e ≡ Resources) }
 {
     if it.offset < wanted.from {
         return Ok(false);
     }
     let record = it.record(alloc)?;
-    Ok(put_if_wanted(alloc, text, it, &record, wanted)?)
+    match &record {
+        Some(record) => Ok(put_if_wanted(alloc, text, &it.shown(record), wanted)?),
+        None => Ok(put_formless_if_wanted(alloc, text, it, wanted)?),
+    }
 }
 
 // Puts the line of a frame on its way to the output, if it is wanted. Answers whether it is.
@@ -96,7 +129,10 @@ fn put_entry<W: Output>(
     output: &mut W,
 ) -> Result<bool, Trouble>
     requires faults { W.faults output.old < 18446744073709551615 }
-    ensures only { OnOk result (AppendsSome (W.contents output.old) (W.contents output.new)) }
+    ensures line { IfOk result (λ is. (line : List ℕ) × IsFrameLine wanted.now
+        (version_of it.now.version) it.now.offset it.now.place it.now.body.now is line
+        × Gathers line (string_bytes text.old) (W.contents output.old)
+        (string_bytes text.new) (W.contents output.new)) }
     ensures refused { IfErr result IsBroken }
     ensures faults { CountsFaults (W.faults output.old) (W.faults output.new) result }
 {
@@ -118,29 +154,39 @@ pub(crate) fn put_closing(alloc: Global, text: &mut String, end: &End, wanted: &
     Ok(put_end(text, end)?)
 }
 
-// Puts those records of the front that are wanted. So many queues are defined before the first.
-// Answers how many more may be put.
+// Puts those records that are wanted of the front, of so many bytes, whose records begin behind this
+// state. Answers how many more may be put.
 fn put_records<W: Output>(
     alloc: Global,
-    frames: PlacedFrames<'_>,
-    before: u32,
+    log: &ShownLog<'_>,
+    first: &State,
+    used: u64,
     wanted: &Wanted<'_>,
     text: &mut String,
     output: &mut W,
 ) -> Result<u64, Trouble>
+    requires restart { (r : Restarted) × IsRestartFrom log.now.at log.now.bytes.now r
+        × (used ≡ r.used) }
+    requires start { log.now.at ≡ None → first.now ≡ empty }
+    requires there { (offset : ℕ) (kept : List ℕ) → log.now.at ≡ Some offset
+        → IsCheckpointAt log.now.bytes.now offset kept → SpelledIn log.now.bytes.now kept first.now }
     requires faults { W.faults output.old < 18446744073709551615 }
-    ensures only { OnOk result (AppendsSome (W.contents output.old) (W.contents output.new)) }
+    ensures lines { OnOk result ((lines : List ℕ)
+        × AreFrontLines log.now.at log.now.bytes.now wanted.now lines
+        × Gathers lines (string_bytes text.old) (W.contents output.old)
+        (string_bytes text.new) (W.contents output.new)) }
     ensures refused { IfErr result IsBroken }
     ensures faults { CountsFaults (W.faults output.old) (W.faults output.new) result }
 {
-    let mut queues = before;
+    let mut queues = queues_of(first.definitions());
     let mut left = wanted.limit;
-    for placed in frames {
+    for placed in front_frames(log.bytes, first, log.at, used) {
         if left == 0 {
             return Ok(0);
         }
         let frame = ShownFrame::of(placed, queues);
-        if put_entry(alloc, wanted, &frame, text, output)? {
+        let is_wanted = put_entry(alloc, wanted, &frame, text, output)?;
+        if is_wanted {
             left -= 1;
         }
         queues = queues_behind(queues, placed.body);
@@ -159,7 +205,8 @@ pub(crate) fn put_frames<W: Output>(
     output: &mut W,
 ) -> Result<(), Trouble>
     requires faults { W.faults output.old < 18446744073709551615 }
-    ensures only { OnOk result (AppendsSome (W.contents output.old) (W.contents output.new)) }
+    ensures only { OnOk result (GathersSome (string_bytes text.old) (W.contents output.old)
+        (string_bytes text.new) (W.contents output.new)) }
     ensures refused { IfErr result IsBroken }
     ensures faults { CountsFaults (W.faults output.old) (W.faults output.new) result }
 {
@@ -182,7 +229,10 @@ pub(crate) fn put_counted(
     found: &Found,
     total: u64,
     wanted: &Wanted<'_>,
-) -> Put {
+) -> Put
+    ensures { OnOk result ((line : List ℕ)
+        × (string_bytes text.new ≡ string_bytes text.old ++ line)) }
+{
     if wanted.json {
         return put_behind_object(alloc, text, found);
     }
@@ -202,7 +252,9 @@ fn put_wanted_behind<W: Output>(
 ) -> Result<(), Trouble>
     requires within { EndsWithin bytes.now end.now }
     requires faults { W.faults output.old < 18446744073709551615 }
-    ensures only { OnOk result (AppendsSome (W.contents output.old) (W.contents output.new)) }
+    ensures only { OnOk result ((lines : List ℕ) × (wanted.now.behind ≡ false → lines ≡ [])
+        × Gathers lines (string_bytes text.old) (W.contents output.old)
+        (string_bytes text.new) (W.contents output.new)) }
     ensures refused { IfErr result IsBroken }
     ensures faults { CountsFaults (W.faults output.old) (W.faults output.new) result }
 {
@@ -216,11 +268,14 @@ fn put_wanted_behind<W: Output>(
 }
 
 /// Puts, before the last line, with which checkpoint the log begins. In JSON the last line has it.
-pub(crate) fn put_origin(text: &mut String, end: &End, wanted: &Wanted<'_>) -> Put {
+pub(crate) fn put_origin(text: &mut String, at: Option<u64>, wanted: &Wanted<'_>) -> Put
+    ensures { OnOk result (string_bytes text.new
+        ≡ string_bytes text.old ++ origin wanted.now.json at) }
+{
     if wanted.json {
         return Ok(());
     }
-    put_beginning(text, end.at)
+    put_beginning(text, at)
 }
 
 // Writes the line of each record that is wanted, of the front, which begins behind this state, and of
@@ -231,24 +286,25 @@ fn put_lines<W: Output>(
     end: &End,
     first: &State,
     wanted: &Wanted<'_>,
-    text: &mut String,
     output: &mut W,
 ) -> Result<(), Trouble>
     requires end { (r : Restarted) × IsRestartFrom log.now.at log.now.bytes.now r
         × IsEndOf r (front_end_of end.now) }
+    requires start { log.now.at ≡ None → first.now ≡ empty }
+    requires there { (offset : ℕ) (kept : List ℕ) → log.now.at ≡ Some offset
+        → IsCheckpointAt log.now.bytes.now offset kept → SpelledIn log.now.bytes.now kept first.now }
     requires faults { W.faults output.old < 18446744073709551615 }
-    ensures last { OnOk result (EndsDump log.now.at log.now.bytes.now wanted.now.json
+    ensures told { OnOk result (PutsDump log.now.at log.now.bytes.now wanted.now
         (W.contents output.old) (W.contents output.new)) }
     ensures refused { IfErr result IsBroken }
     ensures faults { CountsFaults (W.faults output.old) (W.faults output.new) result }
 {
-    let frames = front_frames(log.bytes, first, log.at, end.used);
-    let queues = queues_of(first.definitions());
-    let left = put_records(alloc, frames, queues, wanted, text, output)?;
-    put_wanted_behind(alloc, log.bytes, end, wanted, left, text, output)?;
-    put_origin(text, end, wanted)?;
-    put_closing(alloc, text, end, wanted)?;
-    write_out(text, output)?;
+    let mut text = String::new(alloc);
+    let left = put_records(alloc, log, first, end.used, wanted, &mut text, output)?;
+    put_wanted_behind(alloc, log.bytes, end, wanted, left, &mut text, output)?;
+    put_origin(&mut text, log.at, wanted)?;
+    put_closing(alloc, &mut text, end, wanted)?;
+    write_out(&mut text, output)?;
     Ok(())
 }
 
@@ -271,7 +327,7 @@ pub fn dump<R: Threads + Sync, W: Output>(
 ) -> Result<(), Trouble>
     requires faults { W.faults output.old < 18446744073709551615 }
     ensures log { OnOk result (IsLog log.now.bytes.now) }
-    ensures last { OnOk result (EndsDump log.now.at log.now.bytes.now wanted.now.json
+    ensures told { OnOk result (PutsDump log.now.at log.now.bytes.now wanted.now
         (W.contents output.old) (W.contents output.new)) }
     ensures refused { IfErr result (StaysUnshown log.now.at log.now.bytes.now
         (W.contents output.old) (W.contents output.new)) }
@@ -279,6 +335,5 @@ pub fn dump<R: Threads + Sync, W: Output>(
 {
     let end = end_of(rt, alloc, log)?;
     let first = first_state(alloc, log.bytes, log.at)?;
-    let mut text = String::new(alloc);
-    put_lines(alloc, log, &end, &first, wanted, &mut text, output)
+    put_lines(alloc, log, &end, &first, wanted, output)
 }
