@@ -4,7 +4,7 @@ ghost use Rattle.std.specs.Prelude.{◌≤◌, length, take};
 ghost use Rattle.rq_model.specs.Frames.{AreBytes, IsBodyLength, log_limit};
 ghost use Rattle.rq_journal.specs.Checkpoints.{MakesCheckpoint, Marks, PutsFrame, SpellsBody};
 
-use rq_front::{FRAME_LEN, LOG_LIMIT, frame};
+use rq_front::Framer;
 use rq_record::{CheckBytes, Fault, LogBytes, Record, encode};
 use rq_restart::{Plan, redone_front};
 use rq_state::{State, spell};
@@ -55,12 +55,13 @@ fn framed(bytes: Vec<u8>, used: usize, last: &[u8; 32], body: &[u8]) -> Result<V
     requires body { IsBodyLength (length body.now) }
     ensures { PutsFrame (take used bytes.items) last.now body.now result }
 {
-    if FRAME_LEN + body.len() > LOG_LIMIT - used {
+    let mut framer = Framer::after(*last, used);
+    if !framer.has_room(body.len()) {
         return Err(Fault::TooLarge);
     }
     let mut bytes = bytes;
     bytes.truncate(used);
-    frame(last, body, &mut bytes)?;
+    framer.put(body, &mut bytes)?;
     Ok(bytes)
 }
 

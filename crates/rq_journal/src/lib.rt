@@ -17,7 +17,7 @@ pub use opened_logs::{
     NotWritten, Opened, frames_behind, open, open_carried, opened_behind, opened_redone,
 };
 pub use recoveries::{MadeWhole, NotRecovered, recovered, recovered_at};
-pub use rq_catalog::Rule;
 pub use rq_front::{CARRIED_AT, is_carried, read_as_log, write_as_carried};
+pub use rq_lawful::Rule;
 pub use rq_record::Fault;
 pub use rq_restart::{Ending, Plan, Why};

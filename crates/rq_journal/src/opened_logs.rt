@@ -9,7 +9,7 @@ ghost use Rattle.rq_journal.specs.Openings.{IsOpened, IsOpenedAt, Opens, OpensCa
 
 use crate::appender::{Appender, NotTaken};
 use rq_catalog::Judge;
-use rq_front::CARRIED_AT;
+use rq_front::{CARRIED_AT, Framer};
 use rq_judged::{JudgedFront, judged_front, judged_front_at};
 use rq_record::{Fault, Record};
 use rq_restart::{Plan, RedoneFront, Why};
@@ -46,8 +46,7 @@ pub fn opened_behind(front: JudgedFront) -> Opened
     } = front;
     let appender = Appender {
         judge,
-        last,
-        len: used,
+        framer: Framer::after(last, used),
     };
     Opened {
         appender,

@@ -14,3 +14,4 @@ pub mod Cases
 pub mod Known
 pub mod Building
 pub mod Gathered
+pub mod Listing

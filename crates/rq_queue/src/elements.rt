@@ -1,11 +1,13 @@
 //! The elements of a queue.
 
-ghost use Rattle.std.specs.Prelude.{◌≡◌, ◌≢◌, ◌+◌, ◌<◌, ◌&&◌, ◌^◌, ◌∷◌, ◌++◌, [], not, map, filter};
-ghost use Rattle.std.specs.Prelude.{◌*◌, ◌-◌, ◌≤◌, length, option_map, IfOk, IfErr, OnOk, SomeIff};
+ghost use Rattle.std.specs.Prelude.{◌≡◌, ◌≢◌, ℕ, ◌+◌, ◌<◌, ◌&&◌, ◌^◌, ◌∷◌, ◌++◌, [], not, map, filter};
+ghost use Rattle.std.specs.Prelude.{◌*◌, ◌-◌, ◌≤◌, length, option_copied, option_map, IfOk, IfErr, OnOk, SomeIff};
 ghost use Rattle.std.specs.List.{AllByRecursion};
 ghost use Rattle.std.specs.List.Sorted.{IsPermutation};
 ghost use Rattle.rq_model.specs.Machine as machine;
+ghost use Rattle.rq_model.specs.Queues as queues;
 ghost use Rattle.rq_model.specs.States as model;
+ghost use Rattle.rq_model.specs.Reports.{IsListing};
 ghost use Rattle.rq_model.specs.WellFormed.{Ordered};
 ghost use Rattle.rq_queue.specs.Kept.{sent_from};
 ghost use Rattle.rq_record.specs.declared.fault.Fault.TheVariants.{Resources};
@@ -16,7 +18,8 @@ use crate::moves::{KeptMove, send};
 use crate::priorities::{kept_with, learn, take_out};
 use crate::rooms::{room_after, room_after_marked};
 use crate::shelves::{
-    Rank, all_freed, all_returned, free_list, mapped, parted, shelve, stow, taken, with_marked,
+    Rank, all_freed, all_returned, free_lent, free_list, mapped, parted, shelve, stow, taken,
+    with_marked,
 };
 use rq_record::{ElemId, Fault, QueueNo, UnitNo};
 use rq_state::{Definition, Element, KeptElement, Mark, SHORTEST_ELEMENT, order, told_elements};
@@ -106,6 +109,47 @@ impl Elements {
         lend_values(lent, &self.free)?;
         lend_marked(lent, &self.marked)?;
         Ok(())
+    }
+
+    /// The best element, if one is free; lent.
+    pub(crate) fn first(&self) -> Option<&KeptElement>
+        ensures { (queue : ℕ) → AllByRecursion (λ (x : model.Element). x.home ≡ queue) self.now
+            → option_copied result ≡ machine.best queue self.now }
+    {
+        if self.free.len() == 0 {
+            return None;
+        }
+        let (_, e) = self.free.first_key_value()?;
+        Some(e)
+    }
+
+    /// The Free elements, in the order in which they would be taken; lent. All elements are in the
+    /// queue.
+    pub(crate) fn listing<'a>(
+        &'a self,
+        alloc: Global,
+        queue: QueueNo,
+    ) -> Result<Vec<&'a KeptElement>, Fault>
+        requires { AllByRecursion (λ (x : model.Element). x.home ≡ queue.0) self.now }
+        ensures listed { IfOk result
+            (λ v. IsListing queue.0 self.now (map (λ e. e.now) v.items)) }
+        ensures refused { IfErr result (λ e. e ≡ Resources) }
+    {
+        let free = free_lent(alloc, &self.free)?;
+        self.free.len();
+        Ok(free)
+    }
+
+    /// Those that the unit put in or took, in the order in which it did; lent.
+    pub(crate) fn marked_by(&self, unit: UnitNo) -> &[KeptElement]
+        ensures { IsPermutation result.now
+            (filter (λ (e : model.Element). queues.is_marked unit.0 e.mark) self.now) }
+    {
+        self.marked.len();
+        match self.marked.get(&unit.0) {
+            Some(list) => list,
+            None => &[],
+        }
     }
 
     /// Copies of all of them, in some order.

@@ -7,8 +7,8 @@ ghost use Rattle.rq_record.specs.declared.fault.Fault.TheVariants.{Resources};
 
 use crate::kept_note::KeptNote;
 use rq_record::Fault;
-use rq_state::{Compare, Compared, KeptElement, Ordinal};
-use std::alloc::Global;
+use rq_state::{Compare, Compared, KeptElement, Ordinal, Spell};
+use std::alloc::{AllocError, Global};
 use std::collections::BTreeMap;
 use std::marker::Model;
 
@@ -65,6 +65,18 @@ impl<'a, M: Ordinal + Compare> Compare for Lent<'a, M> {
 
     fn compare(&self, bytes: &mut Compared<'_>) {
         self.member.compare(bytes);
+    }
+}
+
+impl<'a, M: Ordinal + Spell> Spell for Lent<'a, M> {
+    ghost spelling = { M.spelling };
+
+    fn put(&self, out: &mut Vec<u8>) -> Result<(), AllocError> {
+        self.member.put(out)
+    }
+
+    fn size(&self) -> u32 {
+        self.member.size()
     }
 }
 

@@ -8,6 +8,7 @@ mod kept_last;
 mod kept_note;
 mod keys;
 mod lent;
+mod lent_registrant;
 mod lists;
 mod moves;
 mod notes;
@@ -24,6 +25,7 @@ mod whose;
 
 pub use elements::Elements;
 pub use lent::{Lent, LentElement, LentNote};
+pub use lent_registrant::LentRegistrant;
 pub use moves::{KeptMove, Move, MoveOf};
 pub use notes::Notes;
 pub use operations::{AnyRecord, KeptOp, KeptOps, Op, OpOf};

@@ -1,14 +1,15 @@
 //! What belongs to one queue.
 
 ghost use Rattle.std.specs.Prelude.{◌≡◌, ◌≢◌, ◌+◌, ◌<◌, ◌^◌, ◌++◌, ◌∷◌, [], length, IfOk, IfErr};
-ghost use Rattle.std.specs.Prelude.{◌-◌, ◌≤◌, OnOk, SomeIff, option_map};
-ghost use Rattle.std.specs.List.{AllByRecursion, flat_map};
+ghost use Rattle.std.specs.Prelude.{ℕ, ◌-◌, ◌≤◌, OnOk, SomeIff, option_copied, option_map, map, filter};
+ghost use Rattle.std.specs.List.{AllByRecursion, flat_map, list_any, find};
 ghost use Rattle.std.specs.List.Sorted.{IsPermutation};
 ghost use Rattle.rq_model.specs.Machine as machine;
 ghost use Rattle.rq_model.specs.Queues as queues;
 ghost use Rattle.rq_model.specs.Redo.{IsReady};
 ghost use Rattle.rq_model.specs.Records as records;
 ghost use Rattle.rq_model.specs.Redo as redo_words;
+ghost use Rattle.rq_model.specs.Reports.{IsListing};
 ghost use Rattle.rq_model.specs.StateSpelling.{registrant_bytes};
 ghost use Rattle.rq_model.specs.States as states;
 ghost use Rattle.rq_record.specs.declared.fault.Fault.TheVariants.{Resources};
@@ -19,13 +20,14 @@ ghost use Rattle.rq_queue.specs.Rooms.{member_bytes};
 
 use crate::elements::Elements;
 use crate::lent::{LentElement, LentNote};
+use crate::lent_registrant::LentRegistrant;
 use crate::moves::KeptMove;
 use crate::notes::Notes;
 use crate::operations::KeptOp;
 use crate::poured_members::add_members;
 use crate::registrants::Registrants;
-use rq_record::{ElemId, Fault, KeptBy, KeptPayload, KeptRecord, Name, QueueNo, UnitNo};
-use rq_state::{Compared, Definition, Fields, KeptElement, KeptFields, OpKind, State};
+use rq_record::{ElemId, Fault, KeptBy, KeptName, KeptPayload, KeptRecord, Name, QueueNo, UnitNo};
+use rq_state::{Compared, Definition, Fields, KeptElement, KeptFields, Last, OpKind, State};
 use std::alloc::Global;
 use std::marker::Model;
 
@@ -102,6 +104,50 @@ impl Part {
         self.queue
     }
 
+    /// Whether the name is registered with the queue.
+    pub fn has_registered(&self, name: &KeptName) -> bool
+        ensures { result
+            ≡ list_any (states.is_registrant self.now.queue name.now) self.now.registrants }
+    {
+        self.registrants.has_registered(name)
+    }
+
+    /// The last operation of who is registered by the name, lent; none if nobody is.
+    pub fn last(&self, name: &KeptName) -> Option<Option<&Last>>
+        ensures { option_map (λ l. option_map (λ x. x.now) l) result
+            ≡ option_map (λ r. r.last)
+            (find (states.is_registrant self.now.queue name.now) self.now.registrants) }
+    {
+        self.registrants.last(name)
+    }
+
+    /// Its best element, if one is free; lent.
+    pub fn first(&self) -> Option<&KeptElement>
+        ensures { (queue : ℕ) → AllByRecursion (λ (e : states.Element). e.home ≡ queue) self.now.elements
+            → option_copied result ≡ machine.best queue self.now.elements }
+    {
+        self.elements.first()
+    }
+
+    /// The Free elements, in the order in which they would be taken; lent. Refused with Resources.
+    pub fn listing<'a>(&'a self, alloc: Global) -> Result<Vec<&'a KeptElement>, Fault>
+        requires { AllByRecursion
+            (λ (x : states.Element). x.home ≡ self.now.queue) self.now.elements }
+        ensures listed { IfOk result (λ v.
+            IsListing self.now.queue self.now.elements (map (λ e. e.now) v.items)) }
+        ensures refused { IfErr result (λ e. e ≡ Resources) }
+    {
+        self.elements.listing(alloc, self.queue)
+    }
+
+    /// The elements that the unit put in or took, in the order in which it did; lent.
+    pub fn marked_by(&self, unit: UnitNo) -> &[KeptElement]
+        ensures { IsPermutation result.now
+            (filter (λ (e : states.Element). queues.is_marked unit.0 e.mark) self.now.elements) }
+    {
+        self.elements.marked_by(unit)
+    }
+
     /// Adds its elements, registrants and notes to the lists. Refused with Resources: the fields
     /// are then as before.
     pub fn pour(self, fields: &mut Fields) -> Result<(), Fault>
@@ -138,6 +184,14 @@ impl Part {
         let registrants = self.registrants.copies(alloc, self.queue)?;
         let notes = self.notes.copies(alloc)?;
         add_members(fields, elements, registrants, notes)
+    }
+
+    /// Lends its registrants: adds them to the list, by name. Refused with Resources.
+    pub fn lend_registrants<'a>(&'a self, lent: &mut Vec<LentRegistrant<'a>>) -> Result<(), Fault>
+        ensures lent { OnOk result (lent.new.items ≡ lent.old.items ++ self.now.registrants) }
+        ensures refused { IfErr result (λ e. e ≡ Resources) }
+    {
+        self.registrants.lend(self.queue, lent)
     }
 
     /// Lends its elements: adds them to the list, in some order. Refused with Resources.

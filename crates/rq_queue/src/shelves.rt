@@ -1,7 +1,7 @@
 //! Where the elements of a queue are: Free ones under their keys, the others with their units.
 
 ghost use Rattle.std.specs.Prelude.{◌≡◌, ◌≢◌, ◌+◌, ◌<◌, ◌^◌, ◌∷◌, ◌++◌, [], true, List, filter};
-ghost use Rattle.std.specs.Prelude.{None, IfOk, IfErr, OnOk, OnErr};
+ghost use Rattle.std.specs.Prelude.{None, IfOk, IfErr, OnOk, OnErr, map};
 ghost use Rattle.std.specs.BTreeMap.{is_at};
 ghost use Rattle.std.specs.List.{AllByRecursion};
 ghost use Rattle.std.specs.List.Sorted.{IsPermutation};
@@ -250,6 +250,21 @@ pub(crate) fn all_returned(
         give_back(free, &mut leaving, e, unit, home)?;
     }
     Ok(leaving)
+}
+
+/// The Free elements, best first; lent.
+pub(crate) fn free_lent<'a>(
+    alloc: Global,
+    free: &'a BTreeMap<Rank, KeptElement>,
+) -> Result<Vec<&'a KeptElement>, Fault>
+    ensures lent { IfOk result (λ v. map (λ e. e.now) v.items ≡ values_of free.now.entries) }
+    ensures refused { IfErr result (λ e. e ≡ Resources) }
+{
+    let mut lent = Vec::with_capacity(alloc, free.len())?;
+    for e in free.values() {
+        lent.push(e)?;
+    }
+    Ok(lent)
 }
 
 /// The Free elements, best first.

@@ -1,8 +1,8 @@
 -- Records taken up to the first that is not lawful, and a keeper that stands behind all that it took.
 use Rattle.std.proofs.Common.{◌≡◌, ◌+◌, ◌<◌, ◌≤◌, ℕ, Bool, true, false, List, ◌∷◌, [], ◌++◌, length, map, take, drop}
-use Rattle.std.proofs.Common.{refl, sym, ap, subst, ◌∙◌, append_assoc, arith, Option}
+use Rattle.std.proofs.Common.{refl, sym, ap, subst, ◌∙◌, append_assoc, arith}
 use Rattle.std.specs.Prelude.{if◌then◌else◌, slice_index_or, Result, Ok, Err, IfOk, IfSome}
-use Rattle.std.proofs.lemmas.List.{length-append, length-map, length-take, take-append-drop, take_all, map-append}
+use Rattle.std.proofs.lemmas.List.{length-append, length-map, length-take, take-append-drop, take_all}
 use Rattle.std.proofs.lemmas.List.{take-map}
 use Rattle.rq_model.specs.Records.{Record, Version}
 use Rattle.rq_model.specs.States.{State}
@@ -10,9 +10,7 @@ use Rattle.rq_model.specs.Machine.{is_lawful, step, run, all_lawful, lawful_fron
 use Rattle.rq_record.specs.Views.{Record as Own, record_of}
 use Rattle.rq_catalog.proofs.Fronts.{kept_is, parted, IsParted}
 use Rattle.rq_catalog.proofs.Runs.{front_stops, front_whole, lawful_push}
-use Rattle.rq_standing.specs.Stands.{Stands}
-use Rattle.rq_standing.specs.declared.standing.Standing.{Standing}
-use Rattle.rq_restart.specs.Keepers.{TakesOne, WentOn, KeptState, StandsFurther}
+use Rattle.rq_restart.specs.Keepers.{TakesOne, KeptState, StandsFurther}
 use Rattle.rq_restart.proofs.Walks.{one_more, run_further}
 use Rattle.std.specs.Result.{result_ok}
 use Rattle.rq_model.proofs.Restarts.{lawful_join, next_run, run_join}
@@ -45,24 +43,29 @@ pub first_lawful : (version : Version) (s : State) (all : List Own) (n : ℕ) �
 first_lawful version s all n count =
     ap (all_lawful version s) (first_are version s all n count) ∙ (parted version s (map record_of all)).lawful
 
--- y stands i records behind x, and these are lawful
-abbrev pub HasTaken : Standing → List Own → ℕ → Standing → Type 0
-HasTaken x all i y = (version : Version) (s : State) → Stands version x s
-    → (all_lawful version s (take i (map record_of all)) ≡ true)
-    × Stands version y (run s (take i (map record_of all)))
+-- t is the state i records behind s, and these are lawful
+abbrev pub HasTaken : Version → State → List Own → ℕ → State → Type 0
+HasTaken version s all i t = (all_lawful version s (take i (map record_of all)) ≡ true)
+    × (t ≡ run s (take i (map record_of all)))
 
-pub one_further : (x y z : Standing) (all : List Own) (i : ℕ) (r : Own) (lawful : Bool) → i < length all
-    → r ≡ slice_index_or all i r → HasTaken x all i y → TakesOne y (record_of r) z lawful → lawful ≡ true
-    → HasTaken x all (i + 1) z
-one_further x y z all i r lawful lt is had one taken = λ version s stands.
+-- the state after a record, whether or not it is lawful
+after : (version : Version) (s t u : State) (r : Record) (lawful : Bool) → t ≡ s → TakesOne version t r u lawful
+    → (lawful ≡ is_lawful version s r) × (u ≡ (if lawful then step s r else s))
+after version s t u r lawful is one = (
+  one.judged ∙ ap (λ (x : State). is_lawful version x r) is,
+  one.state ∙ ap (λ (x : State). if lawful then step x r else x) is,
+)
+
+pub one_further : (version : Version) (s t u : State) (all : List Own) (i : ℕ) (r : Own) (lawful : Bool)
+    → i < length all → r ≡ slice_index_or all i r → HasTaken version s all i t
+    → TakesOne version t (record_of r) u lawful → lawful ≡ true → HasTaken version s all (i + 1) u
+one_further version s t u all i r lawful lt is had one taken =
     let rs = map record_of all in
-    let t = run s (take i rs) in
-    let before = had version s stands in
-    let may : is_lawful version t (record_of r) ≡ true = sym (one.judged version t before.1) ∙ taken in (
-      ap (all_lawful version s) (one_more all i r lt is) ∙ lawful_push version s (take i rs) (record_of r) before.0 may,
-      subst (Stands version z) (run_further s all i r lt is)
-          (subst (λ (b : Bool). Stands version z (if b then step t (record_of r) else t)) taken
-          (one.stood version t before.1)),
+    let then = run s (take i rs) in
+    let next = after version then t u (record_of r) lawful had.1 one in (
+      ap (all_lawful version s) (one_more all i r lt is)
+          ∙ lawful_push version s (take i rs) (record_of r) had.0 (sym next.0 ∙ taken),
+      next.1 ∙ ap (λ (b : Bool). if b then step then (record_of r) else then) taken ∙ run_further s all i r lt is,
     )
 
 -- the records up to one that is not lawful
@@ -76,50 +79,29 @@ ends_before version s all i r lt is so broken =
     ∙ ap (lawful_front version s) (sym (append_assoc (take i rs) (record_of r ∷ []) (drop (i + 1) rs))
     ∙ ap (λ (xs : List Record). xs ++ drop (i + 1) rs) (sym (one_more all i r lt is)) ∙ take-append-drop (i + 1) rs)
 
-pub ends_there : (x y z : Standing) (all : List Own) (i : ℕ) (r : Own) (lawful : Bool) → i < length all
-    → r ≡ slice_index_or all i r → HasTaken x all i y → TakesOne y (record_of r) z lawful → lawful ≡ false
-    → WentOn x (map record_of all) z i
-ends_there x y z all i r lawful lt is had one broken = record {
-  count = λ version s stands. omega (
-    arith,
-    lt,
-    length-map all record_of,
-    length-take i rs,
-    ap length (front version s stands),
-  );
-  stands = λ version s stands.
-      let t = run s (take i rs) in
-      subst (λ (xs : List Record). Stands version z (run s xs)) (front version s stands)
-      (subst (λ (b : Bool). Stands version z (if b then step t (record_of r) else t)) broken
-      (one.stood version t (had version s stands).1));
-}
-  where
-    rs : List Record
-    rs = map record_of all
+pub ends_there : (version : Version) (s t u : State) (all : List Own) (i : ℕ) (r : Own) (lawful : Bool)
+    → i < length all → r ≡ slice_index_or all i r → HasTaken version s all i t
+    → TakesOne version t (record_of r) u lawful → lawful ≡ false → ComesTo version s (map record_of all) u i
+ends_there version s t u all i r lawful lt is had one broken =
+    let rs = map record_of all in
+    let then = run s (take i rs) in
+    let next = after version then t u (record_of r) lawful had.1 one in
+    let front = ends_before version s all i r lt is had.0 (sym next.0 ∙ broken) in
+    record {
+      count = omega (arith, lt, length-map all record_of, length-take i rs, ap length front);
+      state = next.1 ∙ ap (λ (b : Bool). if b then step then (record_of r) else then) broken ∙ ap (run s) front;
+    }
 
-    front : (version : Version) (s : State) → Stands version x s → take i rs ≡ lawful_front version s rs
-    front version s stands =
-        let before = had version s stands in
-        ends_before version s all i r lt is before.0
-        (sym (one.judged version (run s (take i rs)) before.1) ∙ broken)
-
-pub all_taken : (x y : Standing) (all : List Own) (i : ℕ) → length all ≤ i → HasTaken x all i y
-    → WentOn x (map record_of all) y (length all)
-all_taken x y all i end had = record {
-  count = λ version s stands. sym (ap length (front version s stands) ∙ length-map all record_of);
-  stands = λ version s stands. subst (λ (xs : List Record). Stands version y (run s xs))
-      (whole ∙ sym (front version s stands)) (had version s stands).1;
-}
-  where
-    rs : List Record
-    rs = map record_of all
-
-    whole : take i rs ≡ rs
-    whole = take_all i rs (omega (arith, end, length-map all record_of))
-
-    front : (version : Version) (s : State) → Stands version x s → lawful_front version s rs ≡ rs
-    front version s stands = front_whole version s rs
-        (sym (ap (all_lawful version s) whole) ∙ (had version s stands).0)
+pub all_taken : (version : Version) (s t : State) (all : List Own) (i : ℕ) → length all ≤ i
+    → HasTaken version s all i t → ComesTo version s (map record_of all) t (length all)
+all_taken version s t all i end had =
+    let rs = map record_of all in
+    let whole : take i rs ≡ rs = take_all i rs (omega (arith, end, length-map all record_of)) in
+    let front = front_whole version s rs (sym (ap (all_lawful version s) whole) ∙ had.0) in
+    record {
+      count = sym (ap length front ∙ length-map all record_of);
+      state = had.1 ∙ ap (run s) (whole ∙ sym front);
+    }
 
 pub further : (k v : KeptState) (all : List Own) (n : ℕ) → v.version ≡ k.version
     → ComesTo k.version k.state (map record_of all) v.state n → k.state.next + length (map record_of all) ≤ 4294967295
@@ -158,18 +140,14 @@ further k v all n rules to few = record {
     lawful : all_lawful k.version k.state (take n rs) ≡ true
     lawful = ap (all_lawful k.version k.state) first ∙ p.lawful
 
--- what is noted is what was done
-pub run_noted : (base : State) (old new piece : List Own) → new ≡ old ++ piece
-    → run base (map record_of new) ≡ run (run base (map record_of old)) (map record_of piece)
-run_noted base old new piece is = ap (λ (rs : List Own). run base (map record_of rs)) is
-    ∙ ap (run base) (map-append record_of old piece) ∙ run_join base (map record_of old) (map record_of piece)
-
--- what is taken out stands where it stood
-pub is_second : (version : Version) (s : State) (second out : Option Standing) → out ≡ second
-    → IfSome second (λ x. Stands version x s) → IfSome out (λ x. Stands version x s)
-is_second version s second out is = subst (λ (o : Option Standing). IfSome o (λ x. Stands version x s)) (sym is)
+-- those that were taken are the lawful ones of themselves
+pub taken_again : (version : Version) (s : State) (all : List Own) (n : ℕ) → IsCount version s all n
+    → lawful_front version s (map record_of (take n all)) ≡ lawful_front version s (map record_of all)
+taken_again version s all n count =
+    front_whole version s (map record_of (take n all)) (first_lawful version s all n count)
+    ∙ first_are version s all n count
 
 -- of what follows nothing is kept if it is refused
-pub if_followed : (r : Result Standing Fault) (P : Standing → Type 0) → IfOk r P → IfSome (result_ok r) P
+pub if_followed : (r : Result State Fault) (P : State → Type 0) → IfOk r P → IfSome (result_ok r) P
 if_followed (Ok x) P h = h
 if_followed (Err e) P h = tt

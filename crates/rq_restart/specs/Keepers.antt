@@ -4,34 +4,20 @@ use Rattle.std.specs.Prelude.{take, Result, Ok, Err}
 use Rattle.rq_model.specs.Records.{Record, Version}
 use Rattle.rq_model.specs.States.{State}
 use Rattle.rq_model.specs.Machine.{is_lawful, lawful_front, run, step, all_lawful}
-use Rattle.rq_standing.specs.Stands.{Stands}
-use Rattle.rq_standing.specs.declared.standing.Standing.{Standing}
 use Rattle.rq_restart.specs.declared.keeper.Position.{Position}
 use Rattle.rq_restart.specs.declared.keeper.Position.TheVariants.{Told, Queues}
 use Rattle.rq_record.specs.declared.fault.Fault.{Fault}
 use Rattle.rq_record.specs.declared.fault.Fault.TheVariants.{Resources, TooLong}
 
--- x stands in some state, by the rules of some version
-abbrev pub IsStanding : Standing → Type 0
-IsStanding x = (version : Version) × (s : State) × Stands version x s
+-- t is what s comes to by one record, and this says whether it is lawful
+pub record TakesOne (version : Version) (s : State) (r : Record) (t : State) (lawful : Bool) : Type 0 where
+  pub judged : lawful ≡ is_lawful version s r
+  pub state : t ≡ (if lawful then step s r else s)
 
--- y is where x comes to by one record, and this says whether it is lawful
-pub record TakesOne (x : Standing) (r : Record) (y : Standing) (lawful : Bool) : Type 0 where
-  pub judged : (version : Version) (s : State) → Stands version x s → lawful ≡ is_lawful version s r
-  pub stood : (version : Version) (s : State) → Stands version x s
-      → Stands version y (if lawful then step s r else s)
-
--- n of the records are lawful where x stands, up to the first that is not, and y stands after them
-pub record WentOn (x : Standing) (more : List Record) (y : Standing) (n : ℕ) : Type 0 where
-  pub count : (version : Version) (s : State) → Stands version x s
-      → n ≡ length (lawful_front version s more)
-  pub stands : (version : Version) (s : State) → Stands version x s
-      → Stands version y (run s (lawful_front version s more))
-
--- in this state, from which records go on by the rules of the version
-abbrev pub IsPosition : Version → Position → State → Type 0
-IsPosition version (Told t) s = t ≡ s
-IsPosition version (Queues x) s = Stands version x s
+-- the state there
+abbrev pub state_at : Position → State
+state_at (Told s) = s
+state_at (Queues s) = s
 
 -- a keeper, as clauses see it: the rules of its log, and the state behind all that it took
 pub record KeptState : Type 0 where

@@ -1,97 +1,82 @@
 //! A state that goes along with a log, for a warm standby, and where it is: in a state that is told,
-//! or where queues stand.
+//! or in a machine.
 
-ghost use Rattle.std.specs.Prelude.{◌≡◌, ◌<◌, ◌^◌, ◌+◌, true, length, map, IfSome, IfOk, IfErr};
-ghost use Rattle.std.specs.Prelude.{◌≤◌, ◌++◌, []};
-ghost use Rattle.rq_model.specs.Machine.{all_lawful, run};
-ghost use Rattle.rq_model.specs.Records as model;
-ghost use Rattle.rq_model.specs.States as states;
+ghost use Rattle.std.specs.Prelude.{◌≡◌, ◌<◌, ◌^◌, ◌+◌, length, map, IfSome, IfOk, IfErr};
+ghost use Rattle.std.specs.Prelude.{◌≤◌, []};
+ghost use Rattle.rq_model.specs.Machine.{lawful_front, run};
 ghost use Rattle.rq_record.specs.Views.{record_of, version_of};
 ghost use Rattle.rq_record.specs.declared.fault.Fault.TheVariants.{Resources};
-ghost use Rattle.rq_standing.specs.Stands.{Stands};
 ghost use Rattle.rq_exchange.specs.Gathering.{ComesTo};
-ghost use Rattle.rq_restart.specs.Keepers.{IsPosition, StandsBehind, TakesMore};
+ghost use Rattle.rq_restart.specs.Keepers.{StandsBehind, TakesMore, state_at};
 
 use crate::pieces::{room_beside, take_each};
-use diary::{Diary, Noting};
 use rq_exchange::front_redone;
 use rq_plan::Plan;
 use rq_record::{Fault, KeptRecord, Version};
-use rq_standing::Standing;
+use rq_standing::Machine;
 use rq_state::{State, spelled_len};
 use std::alloc::Global;
 use std::marker::{Model, Sync};
 use std::mem;
-use std::snapshot::Snapshot;
 use std::thread::Threads;
 
-/// Where a keeper is: in a state that a replay told, or where queues stand, which take one record
-/// after the other.
+/// Where a keeper is: in a state that a replay told, or in a machine, which takes one record after
+/// the other.
 #[derive(Drop)]
 pub(crate) enum Position {
     Told(State),
-    Queues(Standing),
+    Queues(Machine),
 }
 
 impl Position {
     /// The number that the next record gets.
     pub(crate) fn next(&self) -> u64
-        ensures { (version : model.Version) (s : states.State) → IsPosition version self.now s
-            → result ≡ s.next }
+        ensures { result ≡ (state_at self.now).next }
     {
         match self {
             Position::Told(state) => state.next(),
-            Position::Queues(standing) => standing.next(),
+            Position::Queues(machine) => machine.next(),
         }
     }
 
-    /// Whether its state is spelled in so many bytes; if queues stand, whether it would be if each
+    /// Whether its state is spelled in so many bytes; of a machine, whether it would be if each
     /// member took its shortest form.
     pub(crate) fn is_within(&self, room: usize) -> bool {
         match self {
             Position::Told(state) => spelled_len(state) <= room as u128,
-            Position::Queues(standing) => standing.fits(room),
+            Position::Queues(machine) => machine.fits(room),
         }
     }
 
     /// The state there. Refused with `Resources` alone.
-    pub(crate) fn state(&self, alloc: Global, version: Version) -> Result<State, Fault>
-        requires { (s : states.State) × IsPosition (version_of version) self.now s }
-        ensures state { IfOk result (λ t. (s : states.State) → IsPosition (version_of version) self.now s
-            → t ≡ s) }
+    pub(crate) fn state(&self, alloc: Global) -> Result<State, Fault>
+        ensures state { IfOk result (λ s. s ≡ state_at self.now) }
         ensures refused { IfErr result (λ e. e ≡ Resources) }
     {
         match self {
             Position::Told(state) => {
-                let standing = Standing::of(alloc, version, state)?;
-                standing.state(alloc)
+                let machine = Machine::of(alloc, state)?;
+                machine.state(alloc)
             }
-            Position::Queues(standing) => standing.state(alloc),
+            Position::Queues(machine) => machine.state(alloc),
         }
     }
 
-    /// Queues that stand there too: these, if they do; else they are made anew. Refused with
+    /// A machine that is there too: this one, if it is; else it is made anew. Refused with
     /// `Resources` alone.
-    pub(crate) fn second(
-        &self,
-        alloc: Global,
-        version: Version,
-        second: Option<Standing>,
-    ) -> Result<Standing, Fault>
-        requires { (s : states.State) × IsPosition (version_of version) self.now s }
-        ensures stands { IfOk result (λ x. (s : states.State) →
-            IsPosition (version_of version) self.now s
-            → IfSome second (λ y. Stands (version_of version) y s) → Stands (version_of version) x s) }
+    pub(crate) fn second(&self, alloc: Global, second: Option<Machine>) -> Result<Machine, Fault>
+        requires { IfSome second (λ m. m ≡ state_at self.now) }
+        ensures state { IfOk result (λ m. m ≡ state_at self.now) }
         ensures refused { IfErr result (λ e. e ≡ Resources) }
     {
-        if let Some(standing) = second {
-            return Ok(standing);
+        if let Some(machine) = second {
+            return Ok(machine);
         }
         match self {
-            Position::Told(state) => Standing::of(alloc, version, state),
-            Position::Queues(standing) => {
-                let state = standing.state(alloc)?;
-                Standing::of(alloc, version, &state)
+            Position::Told(state) => Machine::of(alloc, state),
+            Position::Queues(machine) => {
+                let state = machine.state(alloc)?;
+                Machine::of(alloc, &state)
             }
         }
     }
@@ -105,51 +90,46 @@ impl Position {
         records: &[KeptRecord],
         plan: &Plan,
     ) -> Result<(State, usize), Fault>
-        requires { (s : states.State) × IsPosition (version_of version) self.now s
-            × (s.next + length records.now < 2 ^ 64) }
-        ensures redone { IfOk result (λ r. (s : states.State) →
-            IsPosition (version_of version) self.now s
-            → ComesTo (version_of version) s (map record_of records.now) r.0 r.1) }
+        requires { (state_at self.now).next + length records.now < 2 ^ 64 }
+        ensures redone { IfOk result (λ r. ComesTo (version_of version) (state_at self.now)
+            (map record_of records.now) r.0 r.1) }
         ensures refused { IfErr result (λ e. e ≡ Resources) }
     {
         match self {
             Position::Told(state) => front_redone(rt, alloc, version, state, records, plan),
-            Position::Queues(standing) => {
-                let state = standing.state(alloc)?;
+            Position::Queues(machine) => {
+                let state = machine.state(alloc)?;
                 front_redone(rt, alloc, version, &state, records, plan)
             }
         }
     }
 
-    // Queues that stand there: its own, if it has them. Refused with `Resources` alone.
-    fn into_standing(self, alloc: Global, version: Version) -> Result<Standing, Fault>
-        ensures stands { IfOk result (λ x. (s : states.State) → IsPosition (version_of version) self s
-            → Stands (version_of version) x s) }
+    // A machine that is there: its own, if it has one. Refused with `Resources` alone.
+    fn into_machine(self, alloc: Global) -> Result<Machine, Fault>
+        ensures state { IfOk result (λ m. m ≡ state_at self) }
         ensures refused { IfErr result (λ e. e ≡ Resources) }
     {
         match self {
-            Position::Told(state) => Standing::of(alloc, version, &state),
-            Position::Queues(standing) => Ok(standing),
+            Position::Told(state) => Machine::of(alloc, &state),
+            Position::Queues(machine) => Ok(machine),
         }
     }
 
-    /// Queues that stand there, and go on by these records, all of which are lawful. Refused with
-    /// `Resources` alone.
+    /// A machine that is there, and goes on by those of these records that are lawful, up to the
+    /// first that is not. Refused with `Resources` alone.
     pub(crate) fn followed(
         self,
         alloc: Global,
         version: Version,
         records: &[KeptRecord],
-    ) -> Result<Standing, Fault>
-        requires { (s : states.State) × IsPosition (version_of version) self s }
-        ensures stands { IfOk result (λ x. (s : states.State) → IsPosition (version_of version) self s
-            → all_lawful (version_of version) s (map record_of records.now) ≡ true
-            → Stands (version_of version) x (run s (map record_of records.now))) }
+    ) -> Result<Machine, Fault>
+        ensures state { IfOk result (λ m. m ≡ run (state_at self)
+            (lawful_front (version_of version) (state_at self) (map record_of records.now))) }
         ensures refused { IfErr result (λ e. e ≡ Resources) }
     {
-        let mut standing = self.into_standing(alloc, version)?;
-        take_each(alloc, &mut standing, records)?;
-        Ok(standing)
+        let mut machine = self.into_machine(alloc)?;
+        take_each(alloc, version, &mut machine, records)?;
+        Ok(machine)
     }
 }
 
@@ -166,49 +146,24 @@ const RECORDS: u64 = 4_294_967_295;
 pub struct Keeper {
     version: Version,
     position: Position,
-    // Queues that stand there too. They go ahead: if memory is refused in the midst of a record,
-    // nothing is known of them, and the first position has taken none.
-    second: Option<Standing>,
-    // Only for clauses: a state, and what was taken since.
-    base: Snapshot<State>,
-    taken: Diary<KeptRecord>,
+    // A machine that is there too. It goes ahead: if memory is refused in the midst of a record, its
+    // state is lost, and the first position has taken none.
+    second: Option<Machine>,
 }
 
 impl Model for Keeper {
-    ghost use Rattle.std.specs.Prelude.{map, IfSome};
-    ghost use Rattle.rq_restart.specs.Keepers.{IsPosition, KeptState};
+    ghost use Rattle.std.specs.Prelude.{◌≡◌, IfSome};
+    ghost use Rattle.rq_record.specs.Views.{version_of};
+    ghost use Rattle.rq_restart.specs.Keepers.{KeptState, state_at};
 
     ghost Value = { KeptState };
 
-    ghost use Rattle.rq_model.specs.Machine.{run};
-    ghost use Rattle.rq_record.specs.Views.{record_of, version_of};
-    ghost use Rattle.rq_standing.specs.Stands.{Stands};
-
     ghost view = { λ k. record {
       version = version_of k.version;
-      state = run k.base.value (map record_of k.taken);
+      state = state_at k.position;
     } };
 
-    ghost invariant = { λ k. IsPosition (version_of k.version) k.position
-        (run k.base.value (map record_of k.taken))
-        × IfSome k.second
-        (λ x. Stands (version_of k.version) x (run k.base.value (map record_of k.taken))) };
-}
-
-// In a diary a record stands for itself.
-struct Itself;
-
-impl Noting<KeptRecord, KeptRecord> for Itself {
-    ghost entry = { λ r. r };
-}
-
-// Notes that these were taken.
-fn note_all(taken: &mut Diary<KeptRecord>, records: &[KeptRecord])
-    ensures { taken.new ≡ taken.old ++ records.now }
-{
-    for rec in records {
-        taken.enter::<KeptRecord, Itself>(rec);
-    }
+    ghost invariant = { λ k. IfSome k.second (λ m. m ≡ state_at k.position) };
 }
 
 impl Keeper {
@@ -217,13 +172,11 @@ impl Keeper {
     pub fn new(version: Version, state: State) -> Keeper
         ensures { StandsBehind (version_of version) state [] result }
     {
-        let base = Snapshot::of(&state);
+        let position = Position::Told(state);
         Keeper {
             version,
-            position: Position::Told(state),
+            position,
             second: None,
-            base,
-            taken: Diary::blank(),
         }
     }
 
@@ -233,7 +186,7 @@ impl Keeper {
         ensures state { IfOk result (λ s. s ≡ self.now.state) }
         ensures refused { IfErr result (λ e. e ≡ Resources) }
     {
-        self.position.state(alloc, self.version)
+        self.position.state(alloc)
     }
 
     /// Takes the records that are lawful behind those that were taken, up to the first that is not,
@@ -272,12 +225,11 @@ impl Keeper {
         ensures { TakesMore self.old (map record_of records.now) self.new result }
     {
         let second = self.second.take();
-        let mut ahead = self.position.second(alloc, self.version, second)?;
-        let lawful = take_each(alloc, &mut ahead, records)?;
+        let mut ahead = self.position.second(alloc, second)?;
+        let lawful = take_each(alloc, self.version, &mut ahead, records)?;
         let taken = &records[..lawful];
         let behind = mem::replace(&mut self.position, Position::Queues(ahead));
         self.second = behind.followed(alloc, self.version, taken).ok();
-        note_all(&mut self.taken, taken);
         Ok(lawful)
     }
 }

@@ -10,8 +10,8 @@ ghost use Rattle.rq_restart.specs.RedoneFronts.{IsFoundFrom};
 ghost use Rattle.rq_restart.specs.Tails.{Closes, EndsLog, EndsLogAt, IsCrowded, IsEndingOf, Tails};
 
 use crate::restarts::{FoundFront, front_from, whole_front};
-use rq_front::LOG_LIMIT;
-use rq_judged::{Why, append_frame, before};
+use rq_front::{LOG_LIMIT, append_frame};
+use rq_judged::{Why, before};
 use rq_plan::Plan;
 use rq_record::{Fault, LogBytes, Record, UnitNo, Version, encode};
 use std::alloc::Global;

@@ -3,3 +3,5 @@ mod Acting
 mod Together
 mod UnitEnds
 mod Spellings
+mod OneState
+mod Looks

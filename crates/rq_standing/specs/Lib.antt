@@ -2,3 +2,4 @@ pub mod Parts
 pub mod Units
 pub mod Stands
 pub mod Spelled
+pub mod Machines

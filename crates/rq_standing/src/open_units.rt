@@ -76,12 +76,26 @@ impl OpenUnits {
         }
     }
 
+    /// Whether the unit is one of them.
+    pub(crate) fn has_begun(&self, unit: UnitNo) -> bool
+        ensures { result ≡ has_open self.now unit.0 }
+    {
+        self.named.contains_key(&unit.0)
+    }
+
     /// How many they are.
     pub(crate) fn count(&self) -> usize
         ensures { (s : State) → IsWellFormed s → AreUnits self.now s
             → result ≡ length s.units }
     {
         self.named.len()
+    }
+
+    /// Their numbers rise.
+    pub(crate) fn numbers_rise(&self)
+        ensures { IsOrdered nat_cmp self.now.named }
+    {
+        self.named.len();
     }
 
     /// How many they are and their numbers, rising, are to come next in the bytes.

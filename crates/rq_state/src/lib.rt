@@ -11,6 +11,7 @@ mod heard;
 mod kept_element;
 mod kept_registrant;
 mod laws;
+mod lent_state;
 mod looks;
 mod marks;
 mod members;
@@ -29,6 +30,7 @@ pub use kept_element::{
 };
 pub use kept_registrant::{KeptRegistrant, told_registrants};
 pub use laws::{any_order_makes_the_state, parts_make_the_state};
+pub use lent_state::LentState;
 pub use members::{Definition, Last, Mark, Note, OpKind, Registrant};
 pub use orders::{Ordinal, order};
 pub use readers::{read, read_in};
@@ -36,5 +38,5 @@ pub use state::State;
 pub use tables::empty_lists;
 pub use writers::{
     SHORTEST_DEFINITION, SHORTEST_ELEMENT, SHORTEST_NOTE, SHORTEST_REGISTRANT, SHORTEST_STATE,
-    SHORTEST_UNIT, spell, spelled_len,
+    SHORTEST_UNIT, Spell, put_registrant, registrant_size, spell, spell_lent, spelled_len,
 };

@@ -6,6 +6,7 @@ mod bytes;
 mod chains;
 pub(crate) mod countdowns;
 pub(crate) mod courses;
+mod framers;
+mod machine;
 mod plain;
 pub(crate) mod rooms;
-mod standing;

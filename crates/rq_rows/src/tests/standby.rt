@@ -1,13 +1,9 @@
 //! A keeper that goes along with a log, piece by piece.
 
-ghost use Rattle.rq_model.specs.Records as model;
-ghost use Rattle.rq_model.specs.States as states;
-ghost use Rattle.rq_standing.specs.Stands.{Stands};
-
 use super::{CHECKPOINT, ONE_ELEMENT, RETURN_AND_ARRIVAL, log_in, log_of, records_of, spelled};
 use rq_record::{ElemId, KeptRecord, QueueNo, UnitNo, Version, kept_records};
 use rq_restart::{Fault, Keeper, Plan, front_state, go_on};
-use rq_standing::Standing;
+use rq_standing::Machine;
 use rq_state::{State, read_in};
 use std::alloc::Global;
 use std::test::Fail;
@@ -266,20 +262,6 @@ fn spelled_in_pieces<R: Threads + Sync + AllocGlobal>(
     Ok(kept_spelling(rt.alloc(), &keeper)?)
 }
 
-// How many of the records the machine takes, and what the state spells that it comes to by them.
-fn spelled_by_machine<R: Threads + Sync + AllocGlobal>(
-    rt: &R,
-    standing: &mut Standing,
-    records: &[KeptRecord],
-    plan: &Plan,
-) -> Result<(usize, Vec<u8>), Fault>
-    requires { (version : model.Version) × (s : states.State) × Stands version standing.old s }
-{
-    let count = go_on(rt, rt.alloc(), standing, records, plan)?;
-    let state = standing.state(rt.alloc())?;
-    Ok((count, spelled(rt.alloc(), &state)?))
-}
-
 // Whether a new machine takes 128 of the records, and its state spells this then.
 fn goes_on<R: Threads + Sync + AllocGlobal>(
     rt: &R,
@@ -289,9 +271,10 @@ fn goes_on<R: Threads + Sync + AllocGlobal>(
     want: &[u8],
 ) -> Result<bool, Fail> {
     let plan = Plan::new(workers, grain).ok_or("plan")?;
-    let mut standing = Standing::new(rt.alloc(), Version::One);
-    let (count, told) = spelled_by_machine(rt, &mut standing, records, &plan)?;
-    Ok(count == 128 && told.as_slice() == want)
+    let mut machine = Machine::empty(rt.alloc());
+    let count = go_on(rt, rt.alloc(), Version::One, &mut machine, records, &plan)?;
+    let state = machine.state(rt.alloc())?;
+    Ok(count == 128 && spelled(rt.alloc(), &state)?.as_slice() == want)
 }
 
 // On the workers, one record after the other, and by turns. A grain of 200 is more than all records;

@@ -1,17 +1,17 @@
 //! How long a spelling is, known before its first byte is written.
 
-ghost use Rattle.std.specs.Prelude.{◌≡◌, ◌≤◌, ◌*◌, length, map, option_map};
+ghost use Rattle.std.specs.Prelude.{◌≡◌, ◌≤◌, ◌*◌, ℕ, length, map, option_map};
 ghost use Rattle.std.specs.List.{flat_map};
 ghost use Rattle.std.specs.Int.{w64, to_be_bytes};
-ghost use Rattle.rq_model.specs.StateSpelling.{last_bytes, mark_bytes, state_bytes};
-ghost use Rattle.rq_state.specs.Inside.{state_of};
+ghost use Rattle.rq_model.specs.StateSpelling.{last_bytes, mark_bytes, registrant_bytes, state_bytes};
 ghost use Rattle.rq_state.specs.Views.{mark_of, unit_of};
+ghost use Rattle.rq_state.specs.Writing.{text_of};
 
-use crate::fields::KeptFields;
+use crate::lent_state::LentState;
 use crate::members::{Last, Mark};
 use crate::state::State;
 use crate::writers::members::Spell;
-use rq_record::UnitNo;
+use rq_record::{KeptName, UnitNo};
 
 /// The bytes of a definition without a name, the fewest that one takes.
 pub const SHORTEST_DEFINITION: u32 = 7;
@@ -26,8 +26,8 @@ pub const SHORTEST_NOTE: u32 = 38;
 /// The bytes of a state without members: four numbers of 8 bytes and five counts of 4.
 pub const SHORTEST_STATE: u32 = 52;
 
-/// How many bytes spell what a registrant did last.
-pub(crate) fn last_size(last: Option<&Last>) -> u32
+// How many bytes spell what a registrant did last.
+fn last_size(last: Option<&Last>) -> u32
     ensures size { result ≡ length (last_bytes (option_map (λ l. l.now) last.entry)) }
     ensures small { result ≤ 25 }
 {
@@ -35,6 +35,18 @@ pub(crate) fn last_size(last: Option<&Last>) -> u32
         None => 1,
         Some(_) => 25,
     }
+}
+
+/// How many bytes spell a registrant of a name of so many bytes, with the last operation, if there
+/// is one.
+pub fn registrant_size(name: &KeptName, last: Option<&Last>) -> u32
+    ensures { (queue : ℕ) → result ≡ length (registrant_bytes (record {
+      queue = queue;
+      name = name.now;
+      last = option_map (λ l. l.now) last.entry;
+    })) }
+{
+    SHORTEST_REGISTRANT - 1 + name.bytes().len() as u32 + last_size(last)
 }
 
 /// How many bytes spell a mark.
@@ -71,17 +83,17 @@ fn units_size(members: &[UnitNo]) -> u128
 pub fn spelled_len(state: &State) -> u128
     ensures { result ≡ length (state_bytes state.now) }
 {
-    fields_len(state.fields())
+    lent_len(&state.fields().lent())
 }
 
-/// The same for fields whose lists are in order.
-pub(crate) fn fields_len(fields: &KeptFields) -> u128
-    ensures { result ≡ length (state_bytes (state_of fields.now)) }
+/// The same of a state whose lists are lent.
+pub(crate) fn lent_len<R: Spell, E: Spell, N: Spell>(state: &LentState<'_, R, E, N>) -> u128
+    ensures { result ≡ length (text_of R.spelling E.spelling N.spelling state.now) }
 {
     SHORTEST_STATE as u128
-        + size_of_all(&fields.definitions)
-        + units_size(&fields.units)
-        + size_of_all(&fields.registrants)
-        + size_of_all(&fields.elements)
-        + size_of_all(&fields.notes)
+        + size_of_all(state.definitions)
+        + units_size(state.units)
+        + size_of_all(state.registrants)
+        + size_of_all(state.elements)
+        + size_of_all(state.notes)
 }

@@ -1,87 +1,68 @@
 use Rattle.std.proofs.Common.{◌≡◌, ◌∙◌, Option, map, take, refl, sym, ap, subst, arith}
-use Rattle.std.specs.Prelude.{IfSome, true}
+use Rattle.std.specs.Prelude.{IfSome}
 use Rattle.std.proofs.lemmas.List.{length-map, length-take}
 use Rattle.std.proofs.lemmas.Result.{IfOk-weaker}
 use Rattle.rq_model.specs.States.{State}
-use Rattle.rq_model.specs.Machine.{all_lawful, run}
+use Rattle.rq_model.specs.Machine.{lawful_front, run}
 use Rattle.rq_record.specs.Views.{record_of, version_of}
-use Rattle.rq_standing.specs.Stands.{Stands}
-use Rattle.rq_standing.specs.declared.standing.Standing.{Standing}
+use Rattle.rq_exchange.specs.Gathering.{ComesTo}
 use Rattle.rq_restart.specs.declared.keeper.Position.{Position}
-use Rattle.rq_restart.specs.Keepers.{KeptState, StandsFurther, IsPosition}
-use Rattle.rq_restart.proofs.Keepers.{further, if_followed, is_second, run_noted, first_are, first_lawful, within}
+use Rattle.rq_restart.specs.Keepers.{KeptState, StandsFurther, state_at}
+use Rattle.rq_restart.proofs.Keepers.{further, if_followed, taken_again, within}
 use Rattle.rq_restart.proofs.keeper.Keeper.go_along.Goals as goal
+use Rattle.rq_restart.proofs.keeper.Keeper.go_along.Goals.{In_ok-lawful}
 
-pub take_each-requires : goal.take_each-requires
-take_each-requires c =
-    let v = version_of c.self.inside.version in
-    let t = run c.self.inside.base.value (map record_of c.self.inside.taken) in (
-      v,
-      t,
-      c.in_ok-ahead.ensures.stands t c.self.invariant.0 (is_second v t c.self.inside.second c.take-second.result
-          c.take-second.ensures.value c.self.invariant.1),
-    )
+comes : (c : In_ok-lawful) → ComesTo (version_of c.self.inside.version) (state_at c.self.inside.position)
+    (map record_of c.args.records.now) c.take_each.new.machine c.in_ok-lawful.lawful
+comes c = subst (λ (s : State). ComesTo (version_of c.self.inside.version) s (map record_of c.args.records.now)
+    c.take_each.new.machine c.in_ok-lawful.lawful) c.in_ok-ahead.ensures.state c.in_ok-lawful.ensures.went_on
+
+pub second-requires : goal.second-requires
+second-requires c = subst (λ (o : Option State). IfSome o (λ m. m ≡ state_at c.self.inside.position))
+    (sym c.take-second.ensures.value) c.self.invariant
 
 pub slice_bounds-taken-end : goal.slice_bounds-taken-end
 slice_bounds-taken-end c =
-    let v = version_of c.self.inside.version in
-    let t = run c.self.inside.base.value (map record_of c.self.inside.taken) in
+    let d = (goal.at.slice_bounds-taken-end c).In_ok-lawful in
     let all = c.args.records.now in
-    let stood = c.in_ok-ahead.ensures.stands t c.self.invariant.0 (is_second v t c.self.inside.second
-    c.take-second.result c.take-second.ensures.value c.self.invariant.1) in
+    let n = c.in_ok-lawful.lawful in
     omega (
       arith,
-      length-take c.in_ok-lawful.lawful all,
-      within v t all c.in_ok-lawful.lawful (c.in_ok-lawful.ensures.went_on.count v t stood),
+      length-take n all,
+      within (version_of c.self.inside.version) (state_at c.self.inside.position) all n (comes d).count,
     )
 
 pub invariant_of-self-2 : goal.invariant_of-self-2
 invariant_of-self-2 c =
+    let d = (goal.at.invariant_of-self-2 c).In_ok-lawful in
     let v = version_of c.self.inside.version in
-    let base = c.self.inside.base.value in
-    let t = run base (map record_of c.self.inside.taken) in
-    let then = run base (map record_of c.note_all.new.taken) in
+    let s = state_at c.self.inside.position in
     let all = c.args.records.now in
     let n = c.in_ok-lawful.lawful in
-    let stood = c.in_ok-ahead.ensures.stands t c.self.invariant.0 (is_second v t c.self.inside.second
-    c.take-second.result c.take-second.ensures.value c.self.invariant.1) in
-    let count = c.in_ok-lawful.ensures.went_on.count v t stood in
-    let noted : then ≡ run t (map record_of (take n all)) =
-    run_noted base c.self.inside.taken c.note_all.new.taken (take n all) c.note_all.ensures in
-    let there = noted ∙ ap (run t) (first_are v t all n count) in (
-      subst (λ (p : Position). IsPosition v p then) (sym c.replace-behind.ensures.after)
-          (subst (Stands v c.take_each.new.standing) (sym there)
-          (c.in_ok-lawful.ensures.went_on.stands v t stood)),
-      subst (λ (o : Option Standing). IfSome o (λ x. Stands v x then)) (sym c.ok.ensures.value)
-          (if_followed c.followed.result (λ x. Stands v x then)
-          (IfOk-weaker c.followed.result
-          (λ (x : Standing). (s : State) → IsPosition v c.replace-behind.result s
-          → all_lawful v s (map record_of (take n all)) ≡ true → Stands v x (run s (map record_of (take n all))))
-          (λ (x : Standing). Stands v x then)
-          (λ x follows. subst (Stands v x) (sym noted)
-          (follows t (subst (λ (p : Position). IsPosition v p t) (sym c.replace-behind.ensures.value) c.self.invariant.0)
-          (first_lawful v t all n count)))
-          c.followed.ensures.stands)),
-    )
+    let then = c.take_each.new.machine in
+    let rs = map record_of (take n all) in
+    subst (λ (p : Position). IfSome c.ok.result (λ m. m ≡ state_at p)) (sym c.replace-behind.ensures.after)
+    (subst (λ (o : Option State). IfSome o (λ m. m ≡ then)) (sym c.ok.ensures.value)
+    (if_followed c.followed.result (λ m. m ≡ then)
+    (IfOk-weaker c.followed.result
+    (λ m. m ≡ run (state_at c.replace-behind.result) (lawful_front v (state_at c.replace-behind.result) rs))
+    (λ m. m ≡ then)
+    (λ m is. is ∙ ap (λ (p : Position). run (state_at p) (lawful_front v (state_at p) rs)) c.replace-behind.ensures.value
+    ∙ ap (run s) (taken_again v s all n (comes d).count) ∙ sym (comes d).state)
+    c.followed.ensures.state)))
 
 pub returns : goal.returns
 returns c =
+    let d = (goal.at.returns c).In_ok-lawful in
     let v = version_of c.self.inside.version in
-    let base = c.self.inside.base.value in
-    let t = run base (map record_of c.self.inside.taken) in
-    let then = run base (map record_of c.note_all.new.taken) in
     let all = c.args.records.now in
     let n = c.in_ok-lawful.lawful in
-    let before : KeptState = record { version = v; state = t } in
-    let after : KeptState = record { version = v; state = then } in
-    let stood = c.in_ok-ahead.ensures.stands t c.self.invariant.0 (is_second v t c.self.inside.second
-    c.take-second.result c.take-second.ensures.value c.self.invariant.1) in
-    let count = c.in_ok-lawful.ensures.went_on.count v t stood in
-    subst (λ (k : KeptState). StandsFurther k (map record_of all) after n) c.self.view_is
-    (further before after all n refl
-    (record {
-      count = count;
-      state = run_noted base c.self.inside.taken c.note_all.new.taken (take n all) c.note_all.ensures
-          ∙ ap (run t) (first_are v t all n count);
-    })
-    (omega (arith, c.requires, ap (λ (k : KeptState). k.state.next) c.self.view_is, length-map all record_of)))
+    let before : KeptState = record { version = v; state = state_at c.self.inside.position } in
+    let after : KeptState = record { version = v; state = c.take_each.new.machine } in
+    subst (λ (p : Position). StandsFurther c.args.self.now (map record_of all) (record {
+      version = v;
+      state = state_at p;
+    }) n) (sym c.replace-behind.ensures.after)
+    (subst (λ (k : KeptState). StandsFurther k (map record_of all) after n) c.self.view_is
+    (further before after all n refl (comes d)
+    (omega (arith, c.requires, ap (λ (k : KeptState). k.state.next) c.self.view_is, length-map all record_of))))

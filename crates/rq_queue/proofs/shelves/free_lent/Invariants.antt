@@ -1,0 +1,6 @@
+use Rattle.std.proofs.Common.{◌≡◌, ◌++◌, map}
+use Rattle.std.specs.Map.{values_of}
+use Rattle.rq_queue.proofs.shelves.free_lent.Given as goal
+
+abbrev pub invariant-loop-e : goal.invariant-loop-e
+invariant-loop-e l = map (λ e. e.now) l.lent.items ++ l.e-iterator ≡ values_of l.free.entries
