@@ -160,7 +160,7 @@ class Machine:
 
     def end(self, unit: int, commits: bool) -> list[tuple[int | None, str]]:
         events = []
-        for element, fresh in self.open.pop(unit):
+        for element, fresh in sorted(self.open.pop(unit)):
             if fresh and commits:
                 self.release(element)
                 events.append((element, f"element {element} is free in queue {self.elements[element][0]}"))

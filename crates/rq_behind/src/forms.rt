@@ -7,12 +7,7 @@ ghost use Rattle.rq_record.specs.Views.{version_of};
 ghost use Rattle.rq_behind.specs.Runs.{SpellsSome};
 
 use rq_bytes::Cursor;
-use rq_record::{Name, Version};
-
-// The most bytes of a payload, and of a checkpoint.
-const PAYLOAD: usize = 65_535;
-
-const CHECKPOINT: usize = 268_435_455;
+use rq_record::{CheckBytes, Name, Payload, Version};
 
 #[tactic(auto, unfolding(rq_model::specs::Reading::name_left))]
 fn name(bytes: Cursor<'_>) -> Option<()>
@@ -73,7 +68,7 @@ fn fields(version: Version, kind: u8, mut bytes: Cursor<'_>) -> Option<()>
             bytes.u32()?;
             bytes.u8()?;
             who(&mut bytes)?;
-            at_most(PAYLOAD, bytes)
+            at_most(Payload::LIMIT, bytes)
         }
         6 => {
             bytes.u64()?;
@@ -81,7 +76,7 @@ fn fields(version: Version, kind: u8, mut bytes: Cursor<'_>) -> Option<()>
             who(&mut bytes)?;
             bytes.end()
         }
-        9 => at_most(CHECKPOINT, bytes),
+        9 => at_most(CheckBytes::LIMIT, bytes),
         10 => {
             if version == Version::One {
                 return None;

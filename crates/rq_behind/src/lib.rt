@@ -19,7 +19,6 @@ mod witness;
 
 pub use changes::Change;
 pub use efforts::Untried;
-pub use mended_files::mend;
 pub use mended_logs::Mended;
-pub use scan::{SCANNED_LEN, Scan, first_record};
-pub use search::{Found, behind};
+pub use scan::Scan;
+pub use search::Found;

@@ -32,30 +32,32 @@ fn mend_carried<R: Threads + Sync>(
     Ok(mended)
 }
 
-/// Puts back what stood in a log or in a carried file where it was changed, as far as a digest proves
-/// it. The header of a log is put back if the first frame is right after one. Then place after place
-/// where a frame is not right is tried: its digest, if the next frame is right after another; its
-/// length; a byte of its body, if that is not too long. It ends where nothing fits.
-///
-/// Each byte that was put back is told, with the frame whose digest proves it: that digest stands as it
-/// stood in the file. No byte of the right frames that the file begins with is changed, and of a
-/// carried file none before its first frame.
-///
-/// `TooLong` is returned for more than 4,294,967,295 bytes; `NoCheckpoint` if a carried file ends
-/// before its first frame; `NotALog` if the bytes begin with no header and no first frame proves one;
-/// `Resources` if memory runs out.
-pub fn mend<R: Threads + Sync>(
-    rt: &R,
-    alloc: Global,
-    mut bytes: Vec<u8>,
-    grain: u32,
-) -> Result<Mended, Fault>
-    requires grain { 1 ≤ grain }
-    ensures { Mends bytes.items result }
-{
-    carried_headers();
-    match read_as_log(&mut bytes) {
-        Some(_) => mend_carried(rt, alloc, bytes, grain),
-        None => mend_log(rt, alloc, bytes, HEADER_LEN, grain),
+impl Mended {
+    /// Puts back what stood in a log or in a carried file where it was changed, as far as a digest proves
+    /// it. The header of a log is put back if the first frame is right after one. Then place after place
+    /// where a frame is not right is tried: its digest, if the next frame is right after another; its
+    /// length; a byte of its body, if that is not too long. It ends where nothing fits.
+    ///
+    /// Each byte that was put back is told, with the frame whose digest proves it: that digest stands as it
+    /// stood in the file. No byte of the right frames that the file begins with is changed, and of a
+    /// carried file none before its first frame.
+    ///
+    /// `TooLong` is returned for more than 4,294,967,295 bytes; `NoCheckpoint` if a carried file ends
+    /// before its first frame; `NotALog` if the bytes begin with no header and no first frame proves one;
+    /// `Resources` if memory runs out.
+    pub fn of<R: Threads + Sync>(
+        rt: &R,
+        alloc: Global,
+        mut bytes: Vec<u8>,
+        grain: u32,
+    ) -> Result<Mended, Fault>
+        requires grain { 1 ≤ grain }
+        ensures { Mends bytes.items result }
+    {
+        carried_headers();
+        match read_as_log(&mut bytes) {
+            Some(_) => mend_carried(rt, alloc, bytes, grain),
+            None => mend_log(rt, alloc, bytes, HEADER_LEN, grain),
+        }
     }
 }

@@ -9,11 +9,11 @@ ghost use Rattle.rq_behind.specs.Runs.{EndsOr, IsRightAt, LooksLikeRun, LooksRig
 use crate::forms::spells_some;
 use byteorder::{BigEndian, ByteOrder};
 use rq_front::FRAME_LEN;
-use rq_record::Version;
+use rq_record::{CheckBytes, Version};
 use sha2::{Digest, Sha256};
 
-// The most bytes of a body.
-const BODY_LIMIT: usize = 268_435_456;
+// The most bytes of a body: its kind, and what a checkpoint has.
+const BODY_LIMIT: usize = CheckBytes::LIMIT + 1;
 
 /// The length of the body of the frame at an offset, whatever its digest; none if no frame stands
 /// there.

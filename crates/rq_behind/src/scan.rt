@@ -8,8 +8,8 @@ use crate::places::spend;
 use crate::runs::{judge, likely_end};
 use rq_record::Version;
 
-/// The most bytes of a frame that is looked for at each place. Only that of a checkpoint has more.
-pub const SCANNED_LEN: usize = 1_048_576;
+// The most bytes of a frame that is looked for at each place. Only that of a checkpoint has more.
+const SCANNED_LEN: usize = 1_048_576;
 
 // How many times the bytes may be looked at in vain, and how many bytes more, which counts where few
 // stand there.
@@ -50,24 +50,26 @@ pub(crate) fn seen_at(version: Version, bytes: &[u8], at: usize, budget: &mut us
     None
 }
 
-/// The first right record from an offset on: a frame that is right in itself, of at most 1,048,576
-/// bytes, whose body spells a record. Each place is looked at, whatever stands before it.
-///
-/// Digests that are made in vain are paid from a budget of sixteen times the bytes, and 64 MiB more.
-/// If that is spent, the answer says where.
-pub fn first_record(version: Version, bytes: &[u8], from: usize) -> Scan
-    requires after { 32 ≤ from }
-    requires within { from ≤ length bytes.now }
-    ensures { Scans (version_of version) bytes.now from result }
-{
-    let mut budget = (bytes.len() - from)
-        .saturating_mul(TIMES)
-        .saturating_add(MORE);
-    for at in from..bytes.len() {
-        match seen_at(version, bytes, at, &mut budget) {
-            Some(seen) => return seen,
-            None => {}
+impl Scan {
+    /// The first right record from an offset on: a frame that is right in itself, of at most 1,048,576
+    /// bytes, whose body spells a record. Each place is looked at, whatever stands before it.
+    ///
+    /// Digests that are made in vain are paid from a budget of sixteen times the bytes, and 64 MiB more.
+    /// If that is spent, the answer says where.
+    pub fn of(version: Version, bytes: &[u8], from: usize) -> Scan
+        requires after { 32 ≤ from }
+        requires within { from ≤ length bytes.now }
+        ensures { Scans (version_of version) bytes.now from result }
+    {
+        let mut budget = (bytes.len() - from)
+            .saturating_mul(TIMES)
+            .saturating_add(MORE);
+        for at in from..bytes.len() {
+            match seen_at(version, bytes, at, &mut budget) {
+                Some(seen) => return seen,
+                None => {}
+            }
         }
+        Scan::Clear
     }
-    Scan::Clear
 }

@@ -44,49 +44,51 @@ fn span_at(bytes: &[u8], at: usize) -> Span
     }
 }
 
-/// The frames behind an offset that are right in themselves. The next one is that which begins where
-/// the one before it ends. If none does, it is the one to which the length of a wrong frame leads,
-/// over at most one wrong frame more; else the first from which three right frames of records stand
-/// in a row, or fewer up to the end of the bytes.
-///
-/// Digests that are made in vain are paid from a budget of twice the bytes behind the offset. If
-/// that is spent, the search gives up, and says where. `AllocError` is returned if memory runs out.
-pub fn behind(
-    alloc: Global,
-    version: Version,
-    bytes: &[u8],
-    from: usize,
-) -> Result<Found, AllocError>
-    requires after { 32 ≤ from }
-    requires within { from ≤ length bytes.now }
-    ensures found { IfOk result
-        (λ f. AreRightFrames (version_of version) bytes.now from f.spans.items f.gave_up) }
-    ensures right { IfOk result (λ f. All (IsRight bytes.now) f.spans.items) }
-    ensures apart { IfOk result (λ f. StandApart from (length bytes.now) f.spans.items) }
-    ensures rest { IfOk result (λ f. from + (f.unfit + frame_bytes f.spans.items)
-        ≡ looked_to bytes.now f.gave_up) }
-{
-    let mut budget = (bytes.len() - from)
-        .saturating_mul(TIMES)
-        .saturating_add(MORE);
-    let mut spans = Vec::new(alloc);
-    let mut at = from;
-    let mut unfit = 0;
-    'frames: loop {
-        match next_place(version, bytes, at, &mut budget) {
-            SearchEnd::At(place) => {
-                let span = span_at(bytes, place);
-                unfit += place - at;
-                at = span.start + span.len + 32;
-                spans.push(span)?;
-            }
-            SearchEnd::Nowhere(gave_up) => {
-                unfit += gave_up.unwrap_or(bytes.len()) - at;
-                return Ok(Found {
-                    spans,
-                    unfit,
-                    gave_up,
-                });
+impl Found {
+    /// The frames behind an offset that are right in themselves. The next one is that which begins where
+    /// the one before it ends. If none does, it is the one to which the length of a wrong frame leads,
+    /// over at most one wrong frame more; else the first from which three right frames of records stand
+    /// in a row, or fewer up to the end of the bytes.
+    ///
+    /// Digests that are made in vain are paid from a budget of twice the bytes behind the offset. If
+    /// that is spent, the search gives up, and says where. `AllocError` is returned if memory runs out.
+    pub fn of(
+        alloc: Global,
+        version: Version,
+        bytes: &[u8],
+        from: usize,
+    ) -> Result<Found, AllocError>
+        requires after { 32 ≤ from }
+        requires within { from ≤ length bytes.now }
+        ensures found { IfOk result
+            (λ f. AreRightFrames (version_of version) bytes.now from f.spans.items f.gave_up) }
+        ensures right { IfOk result (λ f. All (IsRight bytes.now) f.spans.items) }
+        ensures apart { IfOk result (λ f. StandApart from (length bytes.now) f.spans.items) }
+        ensures rest { IfOk result (λ f. from + (f.unfit + frame_bytes f.spans.items)
+            ≡ looked_to bytes.now f.gave_up) }
+    {
+        let mut budget = (bytes.len() - from)
+            .saturating_mul(TIMES)
+            .saturating_add(MORE);
+        let mut spans = Vec::new(alloc);
+        let mut at = from;
+        let mut unfit = 0;
+        'frames: loop {
+            match next_place(version, bytes, at, &mut budget) {
+                SearchEnd::At(place) => {
+                    let span = span_at(bytes, place);
+                    unfit += place - at;
+                    at = span.start + span.len + 32;
+                    spans.push(span)?;
+                }
+                SearchEnd::Nowhere(gave_up) => {
+                    unfit += gave_up.unwrap_or(bytes.len()) - at;
+                    return Ok(Found {
+                        spans,
+                        unfit,
+                        gave_up,
+                    });
+                }
             }
         }
     }

@@ -17,7 +17,8 @@ ghost use Rattle.rq_catalog.specs.Lists.{ends_at};
 
 use crate::grounds::Grounds;
 use crate::units::{Outcome, Units};
-use rq_record::{Fault, KeptRecord, UnitNo, Version};
+use rq_lawful::{Knows, broken};
+use rq_record::{Fault, KeptName, KeptRecord, Name, QueueNo, UnitNo, Version};
 use std::alloc::Global;
 
 /// What lawfulness depends on, and what is noted on the way: what became of each unit, the queues
@@ -31,6 +32,35 @@ pub(crate) struct Catalogue {
     pub(crate) touching: Vec<Vec<(u64, usize)>>,
 }
 
+impl Knows for Catalogue {
+    ghost knows = { λ c s. AreGroundsOf c.grounds s
+        × ((u : ℕ) → is_open_in (outcome_at c.units u) ≡ machine.is_open s u) };
+
+    fn defined(&self) -> usize {
+        self.grounds.definitions.len()
+    }
+
+    fn error_of(&self, queue: QueueNo) -> QueueNo {
+        self.grounds.error_queue_of(queue)
+    }
+
+    fn is_taken(&self, name: &Name) -> bool {
+        self.grounds.has_name(name)
+    }
+
+    fn is_registered(&self, queue: QueueNo, name: &KeptName) -> bool {
+        self.grounds.knows_registrant(queue, name)
+    }
+
+    fn is_open(&self, unit: UnitNo) -> bool {
+        matches!(self.units.outcome(unit.0), Some(Outcome::Open))
+    }
+
+    fn greatest(&self) -> u64 {
+        self.grounds.greatest
+    }
+}
+
 impl Catalogue {
     /// Whether the record is lawful here, by the rules of the version.
     pub(crate) fn may_take(&self, version: Version, next: &KeptRecord) -> bool
@@ -38,7 +68,7 @@ impl Catalogue {
             → ((u : ℕ) → is_open_in (outcome_at self.now.units u) ≡ machine.is_open s u)
             → result ≡ machine.is_lawful (version_of version) s (record_of next.now) }
     {
-        self.grounds.broken(version, &self.units, next).is_none()
+        broken(version, self, next).is_none()
     }
 
     /// Takes a record that is lawful here, of this place and index.

@@ -15,47 +15,12 @@ ghost use Rattle.rq_record.specs.Views.{record_of, version_of};
 ghost use Rattle.rq_record.specs.declared.fault.Fault.TheVariants.{Resources};
 ghost use Rattle.rq_catalog.specs.Grounds.{AreGroundsOf, KeepsKnowing, is_registered_in};
 ghost use Rattle.rq_catalog.specs.Grounds.{has_key, has_name};
-ghost use Rattle.rq_catalog.specs.Units.{is_open_in, outcome_at};
 
 use crate::registrants::RegisteredNames;
-use crate::rules::Rule;
-use crate::units::{Outcome, Units};
 use indexmap::IndexSet;
-use rq_record::{Fault, KeptBy, KeptName, KeptRecord, Name, QueueNo, UnitNo, Version};
+use rq_record::{Fault, KeptName, KeptRecord, Name, QueueNo};
 use rq_state::{Definition, KeptRegistrant, State, copied_definitions};
 use std::alloc::Global;
-use std::collections::BTreeSet;
-
-// The greatest number of queues.
-const QUEUES: usize = 4096;
-
-// The greatest limit of a queue.
-const LIMIT: u16 = 1000;
-
-/// What knows which units are open.
-pub(crate) trait KnowsOpenUnits {
-    ghost opens: { Self → ℕ → Bool };
-
-    /// Whether the unit is open.
-    fn is_open(&self, unit: u64) -> bool
-        ensures { result ≡ opens self.now unit };
-}
-
-impl KnowsOpenUnits for BTreeSet<u64> {
-    ghost opens = { λ units u. ordered.contains nat_cmp units u };
-
-    fn is_open(&self, unit: u64) -> bool {
-        self.contains(&unit)
-    }
-}
-
-impl KnowsOpenUnits for Units {
-    ghost opens = { λ units u. is_open_in (outcome_at units u) };
-
-    fn is_open(&self, unit: u64) -> bool {
-        matches!(self.outcome(unit), Some(Outcome::Open))
-    }
-}
 
 /// What lawfulness looks at, but for the open units: queues, registrants and the greatest unit.
 #[derive(Drop)]
@@ -146,181 +111,28 @@ impl Grounds {
         })
     }
 
-    // Whether the queue exists.
-    fn is_defined(&self, queue: QueueNo) -> bool
-        ensures here { result ≡ nat_lt queue.0 (length self.now.definitions.items) }
-        ensures state { (s : model.State) → AreGroundsOf self.now s
-            → result ≡ machine.is_defined s queue.0 }
-    {
-        (queue.0 as usize) < self.definitions.len()
-    }
-
-    fn queue_rule(&self, queue: QueueNo) -> Option<Rule>
+    pub(crate) fn error_queue_of(&self, queue: QueueNo) -> QueueNo
         ensures { (s : model.State) → AreGroundsOf self.now s
-            → is_some result ≡ not (machine.is_defined s queue.0) }
+            → result.0 ≡ (model.definition_at s.definitions queue.0).error }
     {
-        (!self.is_defined(queue)).then_some(Rule::NotDefined(queue))
+        match self.definitions.get(queue.0 as usize) {
+            Some(definition) => definition.error,
+            None => QueueNo::NONE,
+        }
     }
 
-    // In version 1 an error queue has no error queue itself.
-    fn nesting_rule(&self, version: Version, error: QueueNo) -> Option<Rule>
-        requires { error.0 < length self.now.definitions.items }
+    pub(crate) fn has_name(&self, name: &Name) -> bool
         ensures { (s : model.State) → AreGroundsOf self.now s
-            → is_some result ≡ not (machine.may_be_error (version_of version) s error.0) }
+            → result ≡ list_any (λ d. bytes_eq d.name name.now) s.definitions }
     {
-        match version {
-            Version::One if self.definitions[error.0 as usize].error.0 != QueueNo::NONE.0 => {
-                Some(Rule::Nested(error))
-            }
-            _ => None,
-        }
+        self.names.contains(name)
     }
 
-    // The rule that a limit above 0 and its error queue break.
-    fn error_rule(&self, version: Version, limit: u16, error: QueueNo) -> Option<Rule>
+    pub(crate) fn knows_registrant(&self, queue: QueueNo, name: &KeptName) -> bool
         ensures { (s : model.State) → AreGroundsOf self.now s
-            → is_some result ≡ not (nat_le limit 1000 && (machine.is_defined s error.0
-            && machine.may_be_error (version_of version) s error.0)) }
+            → result ≡ machine.is_registered s queue.0 name.now }
     {
-        if limit > LIMIT {
-            return Some(Rule::Above(limit));
-        }
-        if self.is_defined(error) {
-            return self.nesting_rule(version, error);
-        }
-        if error.0 == QueueNo::NONE.0 {
-            Some(Rule::NoErrorQueue(limit))
-        } else {
-            Some(Rule::NotDefined(error))
-        }
-    }
-
-    // The rule that the limit and the error queue of a definition break.
-    fn limit_rule(&self, version: Version, limit: u16, error: QueueNo) -> Option<Rule>
-        ensures { (s : model.State) → AreGroundsOf self.now s
-            → is_some result ≡ not (machine.is_limit (version_of version) s limit error.0) }
-    {
-        if limit != 0 {
-            return self.error_rule(version, limit, error);
-        }
-        (error.0 != QueueNo::NONE.0).then_some(Rule::NoLimit(error))
-    }
-
-    fn name_rule(&self, name: Name) -> Option<Rule>
-        ensures { (s : model.State) → AreGroundsOf self.now s
-            → is_some result ≡ not (nat_lt (length s.definitions) 4096
-            && not (list_any (λ d. bytes_eq d.name name) s.definitions)) }
-    {
-        if self.definitions.len() >= QUEUES {
-            return Some(Rule::Full);
-        }
-        if self.names.contains(&name) {
-            Some(Rule::Taken(name))
-        } else {
-            None
-        }
-    }
-
-    fn registrant_rule(&self, queue: QueueNo, name: &KeptName) -> Option<Rule>
-        ensures { (s : model.State) → AreGroundsOf self.now s
-            → is_some result ≡ not (machine.is_registered s queue.0 name.now) }
-    {
-        if self.registrants.has(queue.0, name) {
-            None
-        } else {
-            Some(Rule::NotRegistered(queue, name.name()))
-        }
-    }
-
-    // Whoever an operation is by is registered with its queue.
-    fn by_rule(&self, queue: QueueNo, by: &KeptBy) -> Option<Rule>
-        ensures { (s : model.State) → AreGroundsOf self.now s
-            → is_some result ≡ not (machine.is_known s queue.0 by.now) }
-    {
-        match by.name() {
-            Some(name) => self.registrant_rule(queue, name),
-            None => None,
-        }
-    }
-
-    fn operation_rule<U: KnowsOpenUnits>(
-        &self,
-        units: &U,
-        unit: UnitNo,
-        queue: QueueNo,
-        by: &KeptBy,
-    ) -> Option<Rule>
-        ensures { (s : model.State) → AreGroundsOf self.now s
-            → is_some result ≡ not (machine.is_defined s queue.0
-            && (U.opens units.now unit.0 && machine.is_known s queue.0 by.now)) }
-    {
-        if !self.is_defined(queue) {
-            return Some(Rule::NotDefined(queue));
-        }
-        if !units.is_open(unit.0) {
-            return Some(Rule::NotOpen(unit));
-        }
-        self.by_rule(queue, by)
-    }
-
-    fn kill_rule(&self, version: Version, queue: QueueNo) -> Option<Rule>
-        ensures { (s : model.State) (element : ℕ) → AreGroundsOf self.now s → is_some result
-            ≡ not (machine.is_lawful (version_of version) s (records.Kill queue.0 element)) }
-    {
-        match version {
-            Version::One => Some(Rule::NoKill),
-            Version::Two => self.queue_rule(queue),
-        }
-    }
-
-    fn unit_number_rule(&self, unit: UnitNo) -> Option<Rule>
-        ensures { (s : model.State) → AreGroundsOf self.now s
-            → is_some result ≡ not (nat_lt s.greatest unit.0) }
-    {
-        if self.greatest < unit.0 {
-            None
-        } else {
-            Some(Rule::NotAbove(unit, self.greatest))
-        }
-    }
-
-    /// A rule of the version that the record breaks here, with these units; none exactly if it is
-    /// lawful. This is the one place that says what is lawful.
-    pub(crate) fn broken<U: KnowsOpenUnits>(
-        &self,
-        version: Version,
-        units: &U,
-        next: &KeptRecord,
-    ) -> Option<Rule>
-        ensures { (s : model.State) → AreGroundsOf self.now s
-            → ((u : ℕ) → U.opens units.now u ≡ machine.is_open s u) → is_some result
-            ≡ not (machine.is_lawful (version_of version) s (record_of next.now)) }
-    {
-        match next {
-            KeptRecord::Define { limit, error, name } => {
-                match self.limit_rule(version, *limit, *error) {
-                    Some(rule) => Some(rule),
-                    None => self.name_rule(name.name()),
-                }
-            }
-            KeptRecord::Register { queue, .. } => self.queue_rule(*queue),
-            KeptRecord::Deregister { queue, name } => self.registrant_rule(*queue, name),
-            KeptRecord::Begin { unit } => self.unit_number_rule(*unit),
-            KeptRecord::Enqueue {
-                unit,
-                queue,
-                by,
-                ..
-            } => self.operation_rule(units, *unit, *queue, by),
-            KeptRecord::Dequeue { unit, queue, by } => {
-                self.operation_rule(units, *unit, *queue, by)
-            }
-            KeptRecord::Commit { unit } | KeptRecord::Abort { unit } => {
-                (!units.is_open(unit.0)).then_some(Rule::NotOpen(*unit))
-            }
-            KeptRecord::Checkpoint { .. } => None,
-            KeptRecord::Kill { queue, .. } => self.kill_rule(version, *queue),
-        }
+        self.registrants.has(queue.0, name)
     }
 
     fn define(&mut self, limit: u16, error: QueueNo, name: Name) -> Result<(), Fault>

@@ -7,12 +7,13 @@ ghost use Rattle.rq_model.specs.Machine as machine;
 ghost use Rattle.rq_model.specs.States.{State, empty};
 ghost use Rattle.rq_record.specs.Views.{record_of, version_of};
 ghost use Rattle.rq_record.specs.declared.fault.Fault.TheVariants.{Resources};
+ghost use Rattle.rq_lawful.specs.Breaks.{Breaks};
 ghost use Rattle.rq_catalog.specs.Judges.{StandsIn, KeepsStanding};
 
 use crate::grounds::Grounds;
-use crate::rules::Rule;
 use crate::start::open_units_of;
-use rq_record::{Fault, KeptRecord, Version};
+use rq_lawful::{Knows, Rule, broken};
+use rq_record::{Fault, KeptName, KeptRecord, Name, QueueNo, UnitNo, Version};
 use rq_state::State;
 use std::alloc::Global;
 use std::collections::BTreeSet;
@@ -25,6 +26,34 @@ pub struct Judge {
     version: Version,
     grounds: Grounds,
     units: BTreeSet<u64>,
+}
+
+impl Knows for Judge {
+    ghost knows = { λ j s. StandsIn (version_of j.version) j s };
+
+    fn defined(&self) -> usize {
+        self.grounds.definitions.len()
+    }
+
+    fn error_of(&self, queue: QueueNo) -> QueueNo {
+        self.grounds.error_queue_of(queue)
+    }
+
+    fn is_taken(&self, name: &Name) -> bool {
+        self.grounds.has_name(name)
+    }
+
+    fn is_registered(&self, queue: QueueNo, name: &KeptName) -> bool {
+        self.grounds.knows_registrant(queue, name)
+    }
+
+    fn is_open(&self, unit: UnitNo) -> bool {
+        self.units.contains(&unit.0)
+    }
+
+    fn greatest(&self) -> u64 {
+        self.grounds.greatest
+    }
 }
 
 impl Judge {
@@ -62,14 +91,16 @@ impl Judge {
     }
 
     /// A rule that the record breaks after those that were taken; none exactly if it is lawful
-    /// there. Tests check which rule it is.
+    /// there.
     pub fn broken(&self, next: &KeptRecord) -> Option<Rule>
+        ensures which { (version : records.Version) (s : State) → StandsIn version self.now s
+            → IfSome result (Breaks version s (record_of next.now)) }
         ensures unlawful { IfSome result (λ _. (version : records.Version) (s : State) →
             StandsIn version self.now s → machine.is_lawful version s (record_of next.now) ≡ false) }
         ensures exact { (version : records.Version) (s : State) → StandsIn version self.now s
             → is_some result ≡ not (machine.is_lawful version s (record_of next.now)) }
     {
-        self.grounds.broken(self.version, &self.units, next)
+        broken(self.version, self, next)
     }
 
     /// Whether the record is lawful after those that were taken. If it is, it is taken. Refused
@@ -87,13 +118,14 @@ impl Judge {
     {
         let is_lawful = self.broken(next).is_none();
         if is_lawful {
-            self.note(next)?;
+            self.advance(next)?;
         }
         Ok(is_lawful)
     }
 
-    // Takes a record that is lawful.
-    fn note(&mut self, next: &KeptRecord) -> Result<(), Fault>
+    /// Takes a record that is lawful after those that were taken: `broken` answers none. Refused only
+    /// with `Resources`, and then nothing is taken.
+    pub fn advance(&mut self, next: &KeptRecord) -> Result<(), Fault>
         ensures stands { OnOk result ((version : records.Version) (s : State) →
             StandsIn version self.old s
             → StandsIn version self.new (machine.step s (record_of next.now))) }

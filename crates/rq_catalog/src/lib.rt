@@ -6,12 +6,10 @@ mod catalogue;
 mod grounds;
 mod judge;
 mod registrants;
-mod rules;
 mod start;
 mod units;
 
 pub use analysis::{Analysis, analyse, analyse_in, analyse_kept, indices};
 pub use judge::Judge;
-pub use rules::Rule;
 pub use start::{Engaging, engage_by_marks, engage_by_notes};
 pub use units::Outcome;

@@ -19,5 +19,4 @@ mod thread_work;
 
 pub use agenda::Agenda;
 pub use course::Course;
-pub use gathered::AllRedone;
 pub use replays::{front_redone, redo_agenda, redo_analysed, replay, replay_analysed};

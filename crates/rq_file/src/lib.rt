@@ -13,10 +13,10 @@ mod whole_files;
 
 pub use late::{Late, in_place};
 pub use named::NamedFile;
-pub use names::{Names, expect_under, name_one_file};
+pub use names::Names;
 pub use paths::folder_within;
 pub use patient::Patient;
-pub use predecessors::{Replaces, expect_replaceable};
+pub use predecessors::Replaces;
 pub use standard::hold_standard;
 pub use version::VERSION;
 pub use whole_files::{LIMIT, put_file, put_over, read_limited};

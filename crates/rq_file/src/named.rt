@@ -1,9 +1,33 @@
 //! A file that is used where it stands.
 
-use crate::names::{expect_under, is_under};
 use crate::paths::followed;
-use std::fs::{self, Files, OpenOptions};
+use std::fs::{self, Files, Metadata, OpenFile, OpenOptions};
 use std::io::{self, ErrorKind};
+use std::os::unix::fs::MetadataExt;
+
+/// Whether these are of one file.
+pub(crate) fn is_same(one: &Metadata, other: &Metadata) -> bool {
+    (one.dev(), one.ino()) == (other.dev(), other.ino())
+}
+
+/// Whether the open file stands under the name, and not something else that was put there.
+pub(crate) fn is_under<R: Files>(rt: &R, file: &R::File, name: &str) -> bool {
+    match (OpenFile::metadata(file), fs::symlink_metadata(rt, name)) {
+        (Ok(file), Ok(named)) => is_same(&file, &named),
+        _ => false,
+    }
+}
+
+/// Refuses with `NotFound` a name under which something else stands than the open file.
+pub(crate) fn expect_under<R: Files>(rt: &R, file: &R::File, name: &str) -> io::Result<()> {
+    if is_under(rt, file, name) {
+        return Ok(());
+    }
+    Err(io::Error::new(
+        ErrorKind::NotFound,
+        "somebody else put another file in its place",
+    ))
+}
 
 /// An open file, and its name behind all symbolic links.
 #[derive(Drop)]

@@ -5,6 +5,7 @@ ghost use Rattle.std.specs.Fs.{asks_create_new, asks_write};
 ghost use Rattle.rq_file.specs.Beside.{IsBeside};
 ghost use Rattle.rq_file.specs.Targets.{new_of, old_of};
 
+use crate::named::{expect_under, is_same, is_under};
 use crate::paths::{folder_within, followed, free_name, is_of_process};
 use crate::predecessors::{Replaces, is_free};
 use std::fs::{File, Files, Metadata, OpenFile, OpenOptions, Permissions};
@@ -43,34 +44,13 @@ fn give_to<F: OpenFile + AsFd>(file: &F, old: &Metadata) -> io::Result<()> {
     OpenFile::set_permissions(file, Permissions::from_mode(old.mode() & PERMISSIONS))
 }
 
-fn is_same(one: &Metadata, other: &Metadata) -> bool {
-    (one.dev(), one.ino()) == (other.dev(), other.ino())
-}
-
-/// Whether the open file stands under the name, and not something else that was put there.
-pub(crate) fn is_under<R: Files>(rt: &R, file: &R::File, name: &str) -> bool {
-    match (OpenFile::metadata(file), fs::symlink_metadata(rt, name)) {
-        (Ok(file), Ok(named)) => is_same(&file, &named),
-        _ => false,
-    }
-}
-
-/// Refuses with `NotFound` a name under which something else stands than the open file.
-pub fn expect_under<R: Files>(rt: &R, file: &R::File, name: &str) -> io::Result<()> {
-    if is_under(rt, file, name) {
-        return Ok(());
-    }
-    Err(io::Error::new(
-        ErrorKind::NotFound,
-        "somebody else put another file in its place",
-    ))
-}
-
-/// Whether two paths name one file, also by links. No pipe or device is one.
-pub fn name_one_file<R: Files>(rt: &R, one: &str, other: &str) -> bool {
-    match (fs::metadata(rt, one), fs::metadata(rt, other)) {
-        (Ok(one), Ok(other)) => one.is_file() && is_same(&one, &other),
-        _ => false,
+impl Names {
+    /// Whether two paths name one file, also by links. No pipe or device is one.
+    pub fn name_one_file<R: Files>(rt: &R, one: &str, other: &str) -> bool {
+        match (fs::metadata(rt, one), fs::metadata(rt, other)) {
+            (Ok(one), Ok(other)) => one.is_file() && is_same(&one, &other),
+            _ => false,
+        }
     }
 }
 

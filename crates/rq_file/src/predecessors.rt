@@ -113,15 +113,17 @@ where
     Ok(false)
 }
 
-/// Refuses with `AlreadyExists` what the path names if a file that is made may not take its place; what
-/// is no file is written as it is. Refuses also what `Names::of` refuses, and with the system's error
-/// what cannot be read.
-pub fn expect_replaceable<R>(rt: &R, path: &str, rule: &Replaces<'_>) -> io::Result<()>
-where
-    R: Files + AllocGlobal,
-{
-    if let Some(names) = Names::of(rt, path)? {
-        is_free(rt, names.old_name(), rule)?;
+impl Replaces<'_> {
+    /// Refuses with `AlreadyExists` what the path names if a file that is made may not take its place;
+    /// what is no file is written as it is. Refuses also what `Names::of` refuses, and with the system's
+    /// error what cannot be read.
+    pub fn expect_replaceable<R>(&self, rt: &R, path: &str) -> io::Result<()>
+    where
+        R: Files + AllocGlobal,
+    {
+        if let Some(names) = Names::of(rt, path)? {
+            is_free(rt, names.old_name(), self)?;
+        }
+        Ok(())
     }
-    Ok(())
 }

@@ -9,9 +9,6 @@ use crate::pieces::Put;
 use rq_restart::Why;
 use std::fmt::Write;
 
-// A crash leaves no more bytes behind a front.
-const TORN_LIMIT: u64 = 1_048_576;
-
 /// What a log is, by its front and by what stands behind that.
 #[derive(Clone, Copy, Debug, PartialEq, Eq)]
 pub enum Diagnosis {
@@ -34,46 +31,48 @@ fn may_be_torn(why: Why) -> bool
     }
 }
 
-/// The verdict on a log, of which is known where its front ends, whether a frame behind that may be
-/// right in itself, and whether each of its checkpoints is true.
-pub fn diagnosis_of(end: &End, has_right: bool, is_sound: bool) -> Diagnosis
-    ensures { result ≡ spec.diagnosis_of (why_of end.now.why) (end.now.total - end.now.used) has_right
-        is_sound }
-{
-    if is_whole(end.why) && is_sound {
-        return Diagnosis::Whole;
+impl Diagnosis {
+    /// The verdict on a log, of which is known where its front ends, whether a frame behind that may be
+    /// right in itself, and whether each of its checkpoints is true.
+    pub fn of(end: &End, has_right: bool, is_sound: bool) -> Diagnosis
+        ensures { result ≡ spec.diagnosis_of (why_of end.now.why) (end.now.total - end.now.used) has_right
+            is_sound }
+    {
+        if is_whole(end.why) && is_sound {
+            return Diagnosis::Whole;
+        }
+        if is_whole(end.why) {
+            return Diagnosis::Untrue;
+        }
+        let rest = end.total.saturating_sub(end.used);
+        if may_be_torn(end.why) && !has_right && rest <= Why::TORN_LEN as u64 {
+            return Diagnosis::Torn;
+        }
+        Diagnosis::Damaged
     }
-    if is_whole(end.why) {
-        return Diagnosis::Untrue;
-    }
-    let rest = end.total.saturating_sub(end.used);
-    if may_be_torn(end.why) && !has_right && rest <= TORN_LIMIT {
-        return Diagnosis::Torn;
-    }
-    Diagnosis::Damaged
-}
 
-/// Puts the verdict on the log of this name, and what to do next.
-pub fn put_diagnosis(text: &mut String, diagnosis: Diagnosis, name: &str) -> Put
-    ensures { OnOk result
-        (string_bytes text.new ≡ string_bytes text.old ++ spec.diagnosis_text diagnosis name.now) }
-{
-    match diagnosis {
-        Diagnosis::Whole => write!(
-            text,
-            "verdict: whole, each checkpoint is true. Next: rqlog append {name}"
-        ),
-        Diagnosis::Untrue => write!(
-            text,
-            "verdict: whole, but not each checkpoint is true. Next: rqlog restart {name}"
-        ),
-        Diagnosis::Torn => write!(
-            text,
-            "verdict: a torn end, as a crash leaves it. Next: rqlog recover {name}"
-        ),
-        Diagnosis::Damaged => write!(
-            text,
-            "verdict: damaged. Next: rqlook mend {name} NEW, or rqlook salvage {name} SCRIPT"
-        ),
+    /// Puts this verdict on the log of a name, and what to do next.
+    pub fn put_verdict(self, text: &mut String, name: &str) -> Put
+        ensures { OnOk result
+            (string_bytes text.new ≡ string_bytes text.old ++ spec.diagnosis_text self name.now) }
+    {
+        match self {
+            Diagnosis::Whole => write!(
+                text,
+                "verdict: whole, each checkpoint is true. Next: rqlog append {name}"
+            ),
+            Diagnosis::Untrue => write!(
+                text,
+                "verdict: whole, but not each checkpoint is true. Next: rqlog restart {name}"
+            ),
+            Diagnosis::Torn => write!(
+                text,
+                "verdict: a torn end, as a crash leaves it. Next: rqlog recover {name}"
+            ),
+            Diagnosis::Damaged => write!(
+                text,
+                "verdict: damaged. Next: rqlook mend {name} NEW, or rqlook salvage {name} SCRIPT"
+            ),
+        }
     }
 }

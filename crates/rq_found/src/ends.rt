@@ -13,12 +13,12 @@ ghost use Rattle.rq_found.specs.Refusals.{RefusedFrom};
 
 use crate::frames::{first_frame, stated_length};
 use crate::misfits::misfit_of;
-use crate::pieces::{Put, put_text_pieces};
+use crate::pieces::{Put, TextPiece};
 use crate::shown_log::ShownLog;
-use rq_catalog::Rule;
 use rq_front::{CARRIED_AT, FRAME_LEN, version};
-use rq_judged::{FrontEnd, front_end, front_end_at};
-use rq_record::{Fault, Version};
+use rq_judged::FrontEnd;
+use rq_lawful::Rule;
+use rq_record::{CheckBytes, Fault, Version};
 use rq_report::why_word;
 use rq_restart::{Restarted, Why};
 use sha2::{Digest, Sha256};
@@ -26,8 +26,8 @@ use std::alloc::{AllocError, Global};
 use std::fmt::Write;
 use std::thread::Threads;
 
-// The most bytes of a body.
-const BODY_LIMIT: usize = 268_435_456;
+// The most bytes of a body: its kind, and what a checkpoint has.
+const BODY_LIMIT: usize = CheckBytes::LIMIT + 1;
 
 /// Where the front of a log ends, and why, in a sentence; and where the checkpoint stands that the
 /// log begins with, if it was carried on.
@@ -97,7 +97,7 @@ pub fn form_reason(alloc: Global, version: Version, body: &[u8]) -> Result<Strin
         Some(misfit) => {
             let at = misfit.0;
             let mut text = format!(in alloc; "byte {at} of the body: ")?;
-            put_text_pieces(&mut text, &misfit.1)?;
+            TextPiece::put_all(&mut text, &misfit.1)?;
             Ok(text)
         }
         None => String::from_str(alloc, "no record has the body"),
@@ -169,56 +169,79 @@ fn ruled_end<R: Threads + Sync>(
 {
     match log.at {
         None => {
-            let found = front_end(rt, alloc, log.bytes, log.plan)?;
+            let found = FrontEnd::of(rt, alloc, log.bytes, log.plan)?;
             Ok(found)
         }
         Some(at) => {
-            let found = front_end_at(rt, alloc, log.bytes, at, log.plan)?;
+            let found = FrontEnd::ended_at(rt, alloc, log.bytes, at, log.plan)?;
             Ok(found)
         }
     }
 }
 
-/// Where the front ends of which the restart is known. Refuses with `Resources` where memory is
-/// refused.
-pub fn end_after<R: Threads + Sync>(
-    rt: &R,
-    alloc: Global,
-    log: &ShownLog<'_>,
-    r: &Restarted,
-) -> Result<End, Fault>
-    ensures end { IfOk result (λ end. IsEndOf r.now (front_end_of end)) }
-    ensures refused { IfErr result (λ e. e ≡ Resources) }
-{
-    let end = FrontEnd {
-        records: r.records(),
-        used: r.used(),
-        total: r.total(),
-        why: r.why(),
-    };
-    // A restart keeps no rule: so of a log that ends by one this reads the front once more. There is a
-    // restart of it, so memory alone is refused.
-    let rule = match end.why {
-        Why::Law => match ruled_end(rt, alloc, log) {
-            Ok((_, rule)) => rule,
-            Err(_) => return Err(Fault::Resources),
-        },
-        Why::Whole | Why::Cut | Why::Length | Why::Chain | Why::Form => None,
-    };
-    let told = told(alloc, log, &end, rule)?;
-    Ok(told)
-}
+impl End {
+    /// Where the front ends of which the restart is known. Refuses with `Resources` where memory is
+    /// refused.
+    pub fn after_restart<R: Threads + Sync>(
+        rt: &R,
+        alloc: Global,
+        log: &ShownLog<'_>,
+        r: &Restarted,
+    ) -> Result<End, Fault>
+        ensures end { IfOk result (λ end. IsEndOf r.now (front_end_of end)) }
+        ensures refused { IfErr result (λ e. e ≡ Resources) }
+    {
+        let end = FrontEnd {
+            records: r.records(),
+            used: r.used(),
+            total: r.total(),
+            why: r.why(),
+        };
+        // A restart keeps no rule: so of a log that ends by one this reads the front once more. There is a
+        // restart of it, so memory alone is refused.
+        let rule = match end.why {
+            Why::Law => match ruled_end(rt, alloc, log) {
+                Ok((_, rule)) => rule,
+                Err(_) => return Err(Fault::Resources),
+            },
+            Why::Whole | Why::Cut | Why::Length | Why::Chain | Why::Form => None,
+        };
+        let told = told(alloc, log, &end, rule)?;
+        Ok(told)
+    }
 
-/// Where the front of a log ends, from the checkpoint on that it begins with, if there is one.
-pub fn end_of<R: Threads + Sync>(rt: &R, alloc: Global, log: &ShownLog<'_>) -> Result<End, Fault>
-    ensures log { OnOk result (IsLog log.now.bytes.now) }
-    ensures end { IfOk result (λ end. (r : fronts.Restarted)
-        × IsRestartFrom log.now.at log.now.bytes.now r × IsEndOf r (front_end_of end)) }
-    ensures refused { IfErr result (RefusedFrom log.now.at log.now.bytes.now) }
-{
-    let (end, rule) = ruled_end(rt, alloc, log)?;
-    let told = told(alloc, log, &end, rule)?;
-    Ok(told)
+    /// Where the front of a log ends, from the checkpoint on that it begins with, if there is one.
+    pub fn of<R: Threads + Sync>(rt: &R, alloc: Global, log: &ShownLog<'_>) -> Result<End, Fault>
+        ensures log { OnOk result (IsLog log.now.bytes.now) }
+        ensures end { IfOk result (λ end. (r : fronts.Restarted)
+            × IsRestartFrom log.now.at log.now.bytes.now r × IsEndOf r (front_end_of end)) }
+        ensures refused { IfErr result (RefusedFrom log.now.at log.now.bytes.now) }
+    {
+        let (end, rule) = ruled_end(rt, alloc, log)?;
+        let told = told(alloc, log, &end, rule)?;
+        Ok(told)
+    }
+
+    /// Where the front of a carried log ends, as it is read, which a restart refuses for its first
+    /// checkpoint: where that would begin, behind no record.
+    pub fn without_front(alloc: Global, log: &ShownLog<'_>) -> Result<End, AllocError>
+        ensures beginning { IfOk result (λ end. end.at ≡ log.now.at) }
+        ensures none { IfOk result (λ end. end.records ≡ 0) }
+        ensures used { IfOk result (λ end. end.used ≡ min carried_at (length log.now.bytes.now)) }
+        ensures total { IfOk result (λ end. end.total ≡ length log.now.bytes.now) }
+    {
+        let used = CARRIED_AT.min(log.bytes.len());
+        let (before, rest) = log.bytes.split_at(used);
+        let (why, reason) = missing_checkpoint(alloc, before, rest)?;
+        Ok(End {
+            at: log.at,
+            records: 0,
+            used: used as u64,
+            total: log.bytes.len() as u64,
+            why,
+            reason,
+        })
+    }
 }
 
 // Why no checkpoint that is right and spells a state stands between these bytes and the rest.
@@ -242,48 +265,29 @@ fn missing_checkpoint(
     Ok((Why::Chain, chain_reason(alloc, before, rest)?))
 }
 
-/// Where the front of a carried log ends, as it is read, which a restart refuses for its first
-/// checkpoint: where that would begin, behind no record.
-pub fn end_without_front(alloc: Global, log: &ShownLog<'_>) -> Result<End, AllocError>
-    ensures beginning { IfOk result (λ end. end.at ≡ log.now.at) }
-    ensures none { IfOk result (λ end. end.records ≡ 0) }
-    ensures used { IfOk result (λ end. end.used ≡ min carried_at (length log.now.bytes.now)) }
-    ensures total { IfOk result (λ end. end.total ≡ length log.now.bytes.now) }
-{
-    let used = CARRIED_AT.min(log.bytes.len());
-    let (before, rest) = log.bytes.split_at(used);
-    let (why, reason) = missing_checkpoint(alloc, before, rest)?;
-    Ok(End {
-        at: log.at,
-        records: 0,
-        used: used as u64,
-        total: log.bytes.len() as u64,
-        why,
-        reason,
-    })
-}
-
-/// Puts with which checkpoint a log begins that was carried on; of another, nothing.
-pub fn put_beginning(text: &mut String, at: Option<u64>) -> Put
-    ensures { OnOk result (string_bytes text.new ≡ string_bytes text.old ++ beginning_text at) }
-{
-    match at {
-        None => Ok(()),
-        Some(at) => write!(text, "carried: begins with the checkpoint at {at}\n"),
+impl End {
+    /// Puts where the front ends, as a line.
+    pub fn put_end(text: &mut String, end: &End) -> Put
+        ensures { OnOk result (string_bytes text.new ≡ string_bytes text.old
+            ++ end_text end.now.records end.now.used end.now.total (why_of end.now.why)
+            (string_bytes end.now.reason)) }
+    {
+        let (records, used, total) = (end.records, end.used, end.total);
+        let (why, reason) = (why_word(end.why), end.reason.as_str());
+        write!(
+            text,
+            "front ends behind {records} records, at {used} of {total} bytes, {why}: {reason}\n"
+        )?;
+        Ok(())
     }
-}
 
-/// Puts where the front ends, as a line.
-pub fn put_end(text: &mut String, end: &End) -> Put
-    ensures { OnOk result (string_bytes text.new ≡ string_bytes text.old
-        ++ end_text end.now.records end.now.used end.now.total (why_of end.now.why)
-        (string_bytes end.now.reason)) }
-{
-    let (records, used, total) = (end.records, end.used, end.total);
-    let (why, reason) = (why_word(end.why), end.reason.as_str());
-    write!(
-        text,
-        "front ends behind {records} records, at {used} of {total} bytes, {why}: {reason}\n"
-    )?;
-    Ok(())
+    /// Puts with which checkpoint a log begins that was carried on; of another, nothing.
+    pub fn put_beginning(text: &mut String, at: Option<u64>) -> Put
+        ensures { OnOk result (string_bytes text.new ≡ string_bytes text.old ++ beginning_text at) }
+    {
+        match at {
+            None => Ok(()),
+            Some(at) => write!(text, "carried: begins with the checkpoint at {at}\n"),
+        }
+    }
 }

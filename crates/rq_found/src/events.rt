@@ -1,5 +1,6 @@
 //! What happens to elements.
 
+use rq_queue::Fate;
 use std::fmt;
 
 /// What happens to an element.
@@ -9,16 +10,8 @@ pub enum Effect {
     Put,
     /// A unit takes it.
     Taken,
-    /// It is free in a queue, for the unit that put it in has committed.
-    Free(u32),
-    /// It is gone, for the unit that took it has committed, or for it was killed.
-    Gone,
-    /// It was not put in after all.
-    Undone,
-    /// It is back in its queue, after so many attempts.
-    Back(u32, u64),
-    /// It moves to an error queue.
-    Moved(u32),
+    /// This becomes of it, as its unit ends or as it is killed.
+    Ended(Fate),
 }
 
 /// What happens to which element.
@@ -30,6 +23,21 @@ pub enum Event {
     To(u64, Effect),
 }
 
+// Writes what becomes of an element.
+fn write_fate<W: fmt::Write>(f: &mut fmt::Formatter<W>, element: u64, fate: Fate) -> fmt::Result {
+    match fate {
+        Fate::Freed(queue) => write!(f, "element {element} is free in queue {}", queue.0),
+        Fate::Gone => write!(f, "element {element} is gone"),
+        Fate::Undone => write!(f, "element {element} was not put in"),
+        Fate::Back(queue, attempts) => write!(
+            f,
+            "element {element} is back in queue {}, attempts {attempts}",
+            queue.0
+        ),
+        Fate::Moved(queue) => write!(f, "element {element} moves to queue {}", queue.0),
+    }
+}
+
 impl fmt::Display for Event {
     fn fmt<W: fmt::Write>(&self, f: &mut fmt::Formatter<W>) -> fmt::Result {
         let Event::To(element, effect) = *self else {
@@ -38,14 +46,7 @@ impl fmt::Display for Event {
         match effect {
             Effect::Put => write!(f, "puts in element {element}"),
             Effect::Taken => write!(f, "takes element {element}"),
-            Effect::Free(queue) => write!(f, "element {element} is free in queue {queue}"),
-            Effect::Gone => write!(f, "element {element} is gone"),
-            Effect::Undone => write!(f, "element {element} was not put in"),
-            Effect::Back(queue, attempts) => write!(
-                f,
-                "element {element} is back in queue {queue}, attempts {attempts}"
-            ),
-            Effect::Moved(queue) => write!(f, "element {element} moves to queue {queue}"),
+            Effect::Ended(fate) => write_fate(f, element, fate),
         }
     }
 }

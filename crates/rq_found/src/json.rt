@@ -29,21 +29,23 @@ impl FrontShown<'_> {
     }
 }
 
-/// Where the front ends.
-pub fn front_shown(end: &End) -> FrontShown<'_>
-    ensures beginning { result.carried_at ≡ end.now.at }
-    ensures records { result.records ≡ end.now.records }
-    ensures used { result.used ≡ end.now.used }
-    ensures total { result.total ≡ end.now.total }
-    ensures why { result.why.now ≡ why_text (why_of end.now.why) }
-    ensures reason { result.reason.now ≡ string_bytes end.now.reason }
-{
-    FrontShown {
-        carried_at: end.at,
-        records: end.records,
-        used: end.used,
-        total: end.total,
-        why: why_word(end.why),
-        reason: end.reason.as_str(),
+impl FrontShown<'_> {
+    /// Where the front ends.
+    pub fn of(end: &End) -> FrontShown<'_>
+        ensures beginning { result.carried_at ≡ end.now.at }
+        ensures records { result.records ≡ end.now.records }
+        ensures used { result.used ≡ end.now.used }
+        ensures total { result.total ≡ end.now.total }
+        ensures why { result.why.now ≡ why_text (why_of end.now.why) }
+        ensures reason { result.reason.now ≡ string_bytes end.now.reason }
+    {
+        FrontShown {
+            carried_at: end.at,
+            records: end.records,
+            used: end.used,
+            total: end.total,
+            why: why_word(end.why),
+            reason: end.reason.as_str(),
+        }
     }
 }

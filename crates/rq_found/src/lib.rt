@@ -1,12 +1,12 @@
 //! What is found in a log, to be shown: where its front begins and ends, and why; its frames and
-//! records, the queues as who reads them follows them, and what each record does. `rq_look`, `rq_stats`
+//! records, the state that goes along with them, and what each record does. `rq_look`, `rq_stats`
 //! and `rq_page` show it.
 #![tactic(auto)]
 
 mod diagnoses;
 mod ends;
 mod events;
-mod followed_queues;
+mod followed;
 mod frames;
 mod hidden;
 mod json;
@@ -18,20 +18,18 @@ mod registrants;
 mod shown_log;
 mod trouble;
 
-pub use diagnoses::{Diagnosis, diagnosis_of, put_diagnosis};
-pub use ends::{
-    End, end_after, end_of, end_without_front, form_reason, is_whole, put_beginning, put_end,
-};
+pub use diagnoses::Diagnosis;
+pub use ends::{End, form_reason, is_whole};
 pub use events::{Effect, Event};
-pub use followed_queues::FollowedQueues;
+pub use followed::Followed;
 pub use frames::{Placed, PlacedFrames};
 pub use hidden::{Seen, is_hidden};
-pub use json::{FrontShown, front_shown};
+pub use json::FrontShown;
 pub use numbered::{Numbered, kind_of, queue_named, queues_behind, queues_of, unit_of};
 pub use outputs::write_bytes;
-pub use pieces::{Put, TextPiece, put_digits, put_text_pieces};
-pub use registrants::{LastShown, RegistrantShown, registrants_shown};
+pub use pieces::{Put, TextPiece, put_digits};
+pub use registrants::RegistrantShown;
 pub use rq_report::{Output, OverWrite};
 pub use rq_restart::{Fault, Plan};
-pub use shown_log::{ShownLog, begins_at, first_state, front_frames, restarted_from};
+pub use shown_log::ShownLog;
 pub use trouble::{Subject, Trouble};

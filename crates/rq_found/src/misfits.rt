@@ -1,13 +1,7 @@
 //! Where a body is none that a record has.
 
 use crate::pieces::TextPiece::{self, Number, Word};
-use rq_record::Version;
-
-// The most bytes of a name.
-const NAME: usize = 64;
-
-// The most bytes of a payload.
-const PAYLOAD: usize = 65_535;
+use rq_record::{Name, Payload, Version};
 
 /// At which byte a body shows that it spells no record, and why, in words.
 pub(crate) type Misfit = (usize, [TextPiece<'static>; 3]);
@@ -36,7 +30,7 @@ fn fits_name(name: &[u8], mut at: usize) -> Result<(), Misfit> {
     if name.is_empty() {
         return Err((at, [Word("the name has no bytes"), Word(""), Word("")]));
     }
-    if name.len() > NAME {
+    if name.len() > Name::LIMIT {
         return Err((at, [Word("the name has "), count, Word(" bytes")]));
     }
     for byte in name {
@@ -97,7 +91,7 @@ impl<'a> BodyRest<'a> {
     fn payload(&mut self) -> Result<(), Misfit> {
         let (at, count) = (self.at, self.bytes.len());
         self.field(count, "payload")?;
-        if count > PAYLOAD {
+        if count > Payload::LIMIT {
             let number = Number(count as u64);
             return Err((at, [Word("the payload has "), number, Word(" bytes")]));
         }

@@ -31,15 +31,17 @@ fn put_piece(text: &mut String, piece: &TextPiece<'_>) -> Put
     }
 }
 
-/// Puts the pieces, in order.
-pub fn put_text_pieces(text: &mut String, pieces: &[TextPiece<'_>]) -> Put
-    ensures { OnOk result (string_bytes text.new
-        ≡ string_bytes text.old ++ flat_map piece_text pieces.now) }
-{
-    for piece in pieces {
-        put_piece(text, piece)?;
+impl TextPiece<'_> {
+    /// Puts the pieces, in order.
+    pub fn put_all(text: &mut String, pieces: &[TextPiece<'_>]) -> Put
+        ensures { OnOk result (string_bytes text.new
+            ≡ string_bytes text.old ++ flat_map piece_text pieces.now) }
+    {
+        for piece in pieces {
+            put_piece(text, piece)?;
+        }
+        Ok(())
     }
-    Ok(())
 }
 
 /// Puts the first bytes, `most` at most, as digits, two each, and answers how many bytes these are.

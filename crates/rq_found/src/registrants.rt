@@ -55,18 +55,20 @@ fn registrant_shown(r: &KeptRegistrant) -> RegistrantShown<'_>
     }
 }
 
-/// The queue's registrants, by name.
-pub fn registrants_shown(
-    alloc: Global,
-    state: &State,
-    queue: QueueNo,
-) -> Result<Vec<RegistrantShown<'_>>, AllocError>
-    ensures { IfOk result (λ v. map registrant_told v.items
-        ≡ map registrant_entry (registrants_at queue.0 state.now.registrants)) }
-{
-    let mut found = Vec::new(alloc);
-    for r in state.registrants_of(queue) {
-        found.push(registrant_shown(r))?;
+impl RegistrantShown<'_> {
+    /// The queue's registrants, by name.
+    pub fn all_of(
+        alloc: Global,
+        state: &State,
+        queue: QueueNo,
+    ) -> Result<Vec<RegistrantShown<'_>>, AllocError>
+        ensures { IfOk result (λ v. map registrant_told v.items
+            ≡ map registrant_entry (registrants_at queue.0 state.now.registrants)) }
+    {
+        let mut found = Vec::new(alloc);
+        for r in state.registrants_of(queue) {
+            found.push(registrant_shown(r))?;
+        }
+        Ok(found)
     }
-    Ok(found)
 }

@@ -31,16 +31,18 @@ pub struct ShownLog<'a> {
     pub plan: &'a Plan,
 }
 
-/// Makes of a carried file the log as which it is read, and answers where the checkpoint stands with
-/// which it begins. Of any other bytes there is none, and they stay as they are.
-pub fn begins_at(bytes: &mut [u8]) -> Option<u64>
-    ensures some { IfSome result (λ at. (at ≡ carried_at) × ((version : Version)
-        × HasCarriedHeader version bytes.old × (bytes.new ≡ as_log version bytes.old))) }
-    ensures none { IfNone result ((IsCarried bytes.old → ⊥) × (bytes.new ≡ bytes.old)) }
-{
-    match read_as_log(bytes) {
-        Some(_) => Some(CARRIED_AT as u64),
-        None => None,
+impl ShownLog<'_> {
+    /// Makes of a carried file the log as which it is read, and answers where the checkpoint stands with
+    /// which it begins. Of any other bytes there is none, and they stay as they are.
+    pub fn begins_at(bytes: &mut [u8]) -> Option<u64>
+        ensures some { IfSome result (λ at. (at ≡ carried_at) × ((version : Version)
+            × HasCarriedHeader version bytes.old × (bytes.new ≡ as_log version bytes.old))) }
+        ensures none { IfNone result ((IsCarried bytes.old → ⊥) × (bytes.new ≡ bytes.old)) }
+    {
+        match read_as_log(bytes) {
+            Some(_) => Some(CARRIED_AT as u64),
+            None => None,
+        }
     }
 }
 
@@ -58,21 +60,23 @@ fn state_at(alloc: Global, bytes: &[u8], at: u64) -> Option<State>
     }
 }
 
-/// The state behind which the records of a front begin: that of the checkpoint at the offset, if
-/// there is one, which a restart has found there.
-pub fn first_state(alloc: Global, bytes: &[u8], at: Option<u64>) -> Result<State, Fault>
-    ensures beginning { at ≡ None → IfOk result (λ s. s ≡ empty) }
-    ensures there { (offset : ℕ) (kept : List ℕ) → at ≡ Some offset
-        → IsCheckpointAt bytes.now offset kept → IfOk result (SpelledIn bytes.now kept) }
-    ensures refused { IfErr result (λ e. e ≡ Resources) }
-{
-    let Some(at) = at else {
-        return Ok(State::empty(alloc));
-    };
-    // The restart read the same state, so memory alone is refused.
-    match state_at(alloc, bytes, at) {
-        Some(state) => Ok(state),
-        None => Err(Fault::Resources),
+impl ShownLog<'_> {
+    /// The state behind which the records of a front begin: that of the checkpoint at the offset, if
+    /// there is one, which a restart has found there.
+    pub fn first_state(alloc: Global, bytes: &[u8], at: Option<u64>) -> Result<State, Fault>
+        ensures beginning { at ≡ None → IfOk result (λ s. s ≡ empty) }
+        ensures there { (offset : ℕ) (kept : List ℕ) → at ≡ Some offset
+            → IsCheckpointAt bytes.now offset kept → IfOk result (SpelledIn bytes.now kept) }
+        ensures refused { IfErr result (λ e. e ≡ Resources) }
+    {
+        let Some(at) = at else {
+            return Ok(State::empty(alloc));
+        };
+        // The restart read the same state, so memory alone is refused.
+        match state_at(alloc, bytes, at) {
+            Some(state) => Ok(state),
+            None => Err(Fault::Resources),
+        }
     }
 }
 
@@ -86,31 +90,31 @@ fn offset_of(at: Option<u64>) -> u64
     }
 }
 
-/// The frames of a front that begins behind a state, in the first `used` bytes: from the checkpoint
-/// at the offset on, if there is one, else from the header on.
-pub fn front_frames<'a>(
-    bytes: &'a [u8],
-    first: &State,
-    at: Option<u64>,
-    used: u64,
-) -> PlacedFrames<'a>
-    ensures { StandFrom bytes.now (front_at at) first.now.next used result }
-{
-    PlacedFrames::beginning_at(bytes, offset_of(at), first.next(), used)
+impl PlacedFrames<'_> {
+    /// The frames of a front that begins behind a state, in the first `used` bytes: from the checkpoint
+    /// at the offset on, if there is one, else from the header on.
+    pub fn front_frames<'a>(
+        bytes: &'a [u8],
+        first: &State,
+        at: Option<u64>,
+        used: u64,
+    ) -> PlacedFrames<'a>
+        ensures { StandFrom bytes.now (front_at at) first.now.next used result }
+    {
+        PlacedFrames::beginning_at(bytes, offset_of(at), first.next(), used)
+    }
 }
 
-/// The restart of a log, from the checkpoint on that it begins with, if there is one.
-pub fn restarted_from<R: Threads + Sync>(
-    rt: &R,
-    alloc: Global,
-    log: &ShownLog<'_>,
-) -> Result<Restarted, Fault>
-    ensures log { OnOk result (IsLog log.now.bytes.now) }
-    ensures restart { IfOk result (λ r. IsRestartFrom log.now.at log.now.bytes.now r) }
-    ensures refused { IfErr result (RefusedFrom log.now.at log.now.bytes.now) }
-{
-    match log.at {
-        None => restart(rt, alloc, log.bytes, log.plan, &Open),
-        Some(at) => restart_at(rt, alloc, log.bytes, at, log.plan, &Open),
+impl ShownLog<'_> {
+    /// The restart of the log, from the checkpoint on that it begins with, if there is one.
+    pub fn restarted<R: Threads + Sync>(&self, rt: &R, alloc: Global) -> Result<Restarted, Fault>
+        ensures log { OnOk result (IsLog self.now.bytes.now) }
+        ensures restart { IfOk result (λ r. IsRestartFrom self.now.at self.now.bytes.now r) }
+        ensures refused { IfErr result (RefusedFrom self.now.at self.now.bytes.now) }
+    {
+        match self.at {
+            None => restart(rt, alloc, self.bytes, self.plan, &Open),
+            Some(at) => restart_at(rt, alloc, self.bytes, at, self.plan, &Open),
+        }
     }
 }

@@ -5,6 +5,7 @@
 mod carried_headers;
 mod chains;
 mod digests;
+mod framer;
 mod headers;
 mod lengths;
 mod spans;
@@ -14,9 +15,10 @@ pub use carried_headers::{
     CARRIED_AT, carried_header_of, is_carried, read_as_log, write_as_carried,
 };
 pub use chains::{chain, log_version, walk};
+pub use framer::Framer;
 pub use headers::version;
 pub use spans::{Chain, Rest, Span, Walk};
-pub use writers::{frame, header, header_of};
+pub use writers::{append_frame, frame, header, header_of};
 
 /// The bytes of a header: 8 for the name and the version, and 32 for their digest. The first frame
 /// of a log begins after them.

@@ -1,6 +1,6 @@
 //! The bytes of a log.
 
-ghost use Rattle.std.specs.Prelude.{◌++◌, length};
+ghost use Rattle.std.specs.Prelude.{◌≡◌, ◌++◌, ◌+◌, ◌≤◌, length, IfOk, IsOk, vec_len, vec_capacity};
 ghost use Rattle.sha2.specs.Sha256.{sha256};
 ghost use Rattle.rq_model.specs.Records.{One};
 ghost use Rattle.rq_model.specs.Frames.{IsBodyLength};
@@ -45,12 +45,17 @@ pub fn header(out: &mut Vec<u8>) -> Result<(), Fault>
 }
 
 /// Appends the frame of a body after the 32 bytes `prev`: the length of the body in 4 bytes, the
-/// body, and the SHA-256 of `prev`, the length and the body.
+/// body, and the SHA-256 of `prev`, the length and the body. Answers the last 32 bytes of the frame,
+/// after which the next one is appended.
 ///
-/// `Resources` is returned if memory runs out; `out` is then as before.
-pub fn frame(prev: &[u8; 32], body: &[u8], out: &mut Vec<u8>) -> Result<(), Fault>
+/// `Resources` is returned if memory runs out; `out` is then as before. Where `out` has room for the
+/// frame, 36 bytes more than the body has, none is needed.
+pub fn append_frame(prev: &[u8; 32], body: &[u8], out: &mut Vec<u8>) -> Result<[u8; 32], Fault>
     requires { IsBodyLength (length body.now) }
-    ensures { Appends out.old.items out.new.items (frames.frame prev.now body.now) result }
+    ensures bytes { Appends out.old.items out.new.items (frames.frame prev.now body.now) result }
+    ensures last { IfOk result (λ last. last ≡ frames.digest prev.now body.now) }
+    ensures reserved { vec_len out.old + (36 + length body.now) ≤ vec_capacity out.old
+        → IsOk result }
 {
     out.reserve(FRAME_LEN + body.len())?;
     let mut length = [0u8; 4];
@@ -63,5 +68,16 @@ pub fn frame(prev: &[u8; 32], body: &[u8], out: &mut Vec<u8>) -> Result<(), Faul
     out.extend_from_slice(&length).unwrap();
     out.extend_from_slice(body).unwrap();
     out.extend_from_slice(&digest).unwrap();
+    Ok(digest)
+}
+
+/// Appends the frame of a body after the 32 bytes `prev`, as `append_frame` does.
+///
+/// `Resources` is returned if memory runs out; `out` is then as before.
+pub fn frame(prev: &[u8; 32], body: &[u8], out: &mut Vec<u8>) -> Result<(), Fault>
+    requires { IsBodyLength (length body.now) }
+    ensures { Appends out.old.items out.new.items (frames.frame prev.now body.now) result }
+{
+    append_frame(prev, body, out)?;
     Ok(())
 }

@@ -18,7 +18,9 @@ use Rattle.rq_restart.specs.declared.redone.RedoneFront.{RedoneFront}
 use Rattle.rq_restart.specs.RedoneFronts.{IsRedoneAt, IsRedoneFront}
 use Rattle.rq_judged.specs.declared.judged.JudgedFront.{JudgedFront}
 use Rattle.rq_judged.specs.JudgedFronts.{IsJudged, IsJudgedAt}
-use Rattle.rq_journal.specs.Appenders.{length_with, behind_header, AppendsEach, AppendsUpTo}
+use Rattle.rq_front.specs.declared.framer.Framer.{Framer}
+use Rattle.rq_front.specs.Framers.{length_with, behind_header}
+use Rattle.rq_journal.specs.Appenders.{AppendsEach, AppendsUpTo}
 use Rattle.rq_journal.specs.Openings.{IsOpened, IsOpenedAt, AreWrittenBehind, IsHeldBack}
 use Rattle.rq_journal.specs.declared.appender.Appender.{Appender}
 use Rattle.rq_journal.specs.declared.appender.NotTaken.{NotTaken}
@@ -68,14 +70,14 @@ pub log_short : (b : List ℕ) (version : Version) (rs : List Record) (rest : Li
 log_short b version rs rest front =
     omega (arith, front.short, ap length (front_whole b version rs rest front), length-append (log_of version rs) rest)
 
-pub opened : (b : List ℕ) (f : JudgedFront) → IsJudged b f
-    → IsOpened b (record {
-      appender = record { judge = f.judge; last = f.last; len = f.used };
+pub opened : (b : List ℕ) (f : JudgedFront) (framer : Framer) → framer.last ≡ f.last → framer.len ≡ f.used
+    → IsJudged b f → IsOpened b (record {
+      appender = record { judge = f.judge; framer = framer };
       used = f.used;
       records = f.records;
       why = f.why;
     })
-opened b f h =
+opened b f framer last len h =
     let long = log_long h.version h.records in
     record {
       version = h.version;
@@ -88,19 +90,18 @@ opened b f h =
         may = record { records = h.front.longest.begins.records; lawful = h.front.longest.begins.lawful };
         short = omega (arith, long, log_short b h.version h.records (drop f.used b) h.front);
         judge = h.judge;
-        last = h.last;
-        len = omega (arith, h.used, long);
+        framer = record { last = last ∙ h.last; len = omega (arith, len, h.used, long) };
       };
     }
 
-pub opened_at : (b : List ℕ) (offset : ℕ) (f : JudgedFront) → IsJudgedAt b offset f
-    → IsOpenedAt b offset (record {
-      appender = record { judge = f.judge; last = f.last; len = f.used };
+pub opened_at : (b : List ℕ) (offset : ℕ) (f : JudgedFront) (framer : Framer) → framer.last ≡ f.last
+    → framer.len ≡ f.used → IsJudgedAt b offset f → IsOpenedAt b offset (record {
+      appender = record { judge = f.judge; framer = framer };
       used = f.used;
       records = f.records;
       why = f.why;
     })
-opened_at b offset f h =
+opened_at b offset f framer last len h =
     let xs : List Record = Checkpoint h.kept ∷ h.after in
     let begins = h.front.front.begins in
     let within : f.used ≤ length b =
@@ -125,8 +126,7 @@ opened_at b offset f h =
         may = record { records = begins.records; lawful = begins.lawful };
         short = omega (arith, within, h.front.short, h.used);
         judge = h.judge;
-        last = h.last;
-        len = h.used;
+        framer = record { last = last ∙ h.last; len = len ∙ h.used };
       };
     }
 

@@ -1,7 +1,7 @@
 -- A record that is taken, and one that is not.
-use Rattle.std.proofs.Common.{◌≡◌, ℕ, ◌+◌, ◌≤◌, Bool, true, false, List, [], ◌∷◌, ◌++◌, length, refl, sym, ap, subst}
+use Rattle.std.proofs.Common.{◌≡◌, ℕ, ◌+◌, ◌≤◌, true, List, [], ◌∷◌, ◌++◌, length, refl, sym, ap, subst}
 use Rattle.std.proofs.Common.{◌∙◌, append_assoc, arith}
-use Rattle.std.specs.Prelude.{if◌then◌else◌, Some}
+use Rattle.std.specs.Prelude.{Some}
 use Rattle.std.proofs.lemmas.Bool.{and_from}
 use Rattle.std.proofs.lemmas.List.{append-nil, length-append}
 use Rattle.rq_model.specs.Records.{Record, Define, Register, Deregister, Begin, Enqueue, Dequeue, Commit, Abort}
@@ -18,10 +18,11 @@ use Rattle.rq_model.proofs.Longest.{frames_of_join, last_of_join}
 use Rattle.rq_model.proofs.Restarts.{run_join, lawful_join, lawful_cut, each_cut}
 use Rattle.rq_record.specs.Writing.{HasKind}
 use Rattle.rq_catalog.specs.declared.judge.Judge.{Judge}
-use Rattle.rq_catalog.specs.Judges.{StandsIn}
+use Rattle.rq_front.specs.Framers.{Place, Frames, length_with}
+use Rattle.rq_catalog.specs.Judges.{StandsIn, KeepsStanding}
 use Rattle.rq_journal.specs.declared.appender.Appender.{Appender}
 use Rattle.rq_journal.specs.declared.appender.NotTaken.{NotTaken}
-use Rattle.rq_journal.specs.Appenders.{Place, IsAppenderAt, length_with}
+use Rattle.rq_journal.specs.Appenders.{IsAppenderAt}
 use Rattle.rq_journal.specs.Appenders.{AppendsOne, AppendsEach, KeepsPlace, Refuses, AppendsUpTo}
 
 -- a body fits into a frame
@@ -57,45 +58,44 @@ one_longer at rs r =
       frame_long (last_of at.link rs) (body_of r),
     )
 
--- a record that was not taken leaves the appender where it stood
-pub stands_still : (at : Place) (rs : List Record) (r : Record) (a : Appender) (j : Judge) (taken : Bool)
-    → IsAppenderAt at rs a → taken ≡ false
-    → StandsIn at.version j (if taken then step (run at.state rs) r else run at.state rs)
-    → (b : Appender) → b.judge ≡ j → b.last ≡ a.last → b.len ≡ a.len → IsAppenderAt at rs b
-stands_still at rs r a j taken h none judge b bj bl bn = record {
+-- a judge that still stands where it stood
+pub stands_still : (at : Place) (rs : List Record) (a : Appender) (j : Judge) → KeepsStanding a.judge j
+    → IsAppenderAt at rs a → IsAppenderAt at rs (record { judge = j; framer = a.framer })
+stands_still at rs a j kept h = record {
   may = h.may;
   short = h.short;
-  judge = subst (λ (k : Judge). StandsIn at.version k (run at.state rs)) (sym bj)
-      (subst (λ (t : Bool). StandsIn at.version j (if t then step (run at.state rs) r else run at.state rs)) none
-      judge);
-  last = bl ∙ h.last;
-  len = bn ∙ h.len;
+  judge = kept at.version (run at.state rs) h.judge;
+  framer = h.framer;
 }
 
--- and one that was taken moves it on
-pub moves_on : (at : Place) (rs : List Record) (r : Record) (a : Appender) (j : Judge) (last : List ℕ) (len : ℕ)
-    (taken : Bool) → IsAppenderAt at rs a → ((version : Version) → HasKind version r → Spells version r (body_of r))
-    → taken ≡ true → taken ≡ is_lawful at.version (run at.state rs) r
-    → StandsIn at.version j (if taken then step (run at.state rs) r else run at.state rs)
-    → last ≡ digest a.last (body_of r) → len ≡ a.len + (36 + length (body_of r)) → len ≤ log_limit
-    → (b : Appender) → b.judge ≡ j → b.last ≡ last → b.len ≡ len → IsAppenderAt at (rs ++ r ∷ []) b
-moves_on at rs r a j last len taken h spelled all lawful judge last_is len_is short b bj bl bn =
+-- a record that is judged and framed moves it on
+pub moves_on : (a b : Appender) (r : Record) (old new : List ℕ)
+    → ((version : Version) → HasKind version r → Spells version r (body_of r))
+    → ((version : Version) (s : State) → StandsIn version a.judge s → is_lawful version s r ≡ true)
+    → ((version : Version) (s : State) → StandsIn version a.judge s → StandsIn version b.judge (step s r))
+    → Frames a.framer b.framer (body_of r) old new → a.framer.len + (36 + length (body_of r)) ≤ log_limit
+    → AppendsOne a b r old new
+moves_on a b r old new spelled lawful stands framed room at rs h =
     let here = run at.state rs in
-    let allowed = sym lawful ∙ all in
-    let longer = one_longer at rs r in
-    let behind = subst (λ (t : Bool). StandsIn at.version j (if t then step here r else here)) all judge in
-    record {
-      may = record {
-        records = each_append (IsRecord at.version) rs (r ∷ []) h.may.records
-            ((spelled at.version (has_kind at.version here r allowed)).0, tt);
-        lawful = lawful_join at.version at.state rs (r ∷ []) h.may.lawful (and_from _ _ allowed refl);
-      };
-      short = omega (arith, short, len_is, h.len, longer);
-      judge = subst (λ (k : Judge). StandsIn at.version k (run at.state (rs ++ r ∷ []))) (sym bj)
-          (subst (StandsIn at.version j) (sym (run_join at.state rs (r ∷ []))) behind);
-      last = bl ∙ last_is ∙ ap (λ (q : List ℕ). digest q (body_of r)) h.last ∙ sym (last_of_join at.link rs (r ∷ []));
-      len = omega (arith, bn, len_is, h.len, longer);
-    }
+    let allowed = lawful at.version here h.judge in
+    let longer = one_longer at rs r in (
+      record {
+        may = record {
+          records = each_append (IsRecord at.version) rs (r ∷ []) h.may.records
+              ((spelled at.version (has_kind at.version here r allowed)).0, tt);
+          lawful = lawful_join at.version at.state rs (r ∷ []) h.may.lawful (and_from _ _ allowed refl);
+        };
+        short = omega (arith, room, h.framer.len, longer);
+        judge = subst (StandsIn at.version b.judge) (sym (run_join at.state rs (r ∷ [])))
+            (stands at.version here h.judge);
+        framer = record {
+          last = framed.last ∙ ap (λ (q : List ℕ). digest q (body_of r)) h.framer.last
+              ∙ sym (last_of_join at.link rs (r ∷ []));
+          len = omega (arith, framed.len, h.framer.len, longer);
+        };
+      },
+      framed.bytes ∙ ap (λ (q : List ℕ). old ++ frame q (body_of r)) h.framer.last,
+    )
 
 -- one more
 pub takes_one_more : (a b c : Appender) (xs ys : List Record) (r : Record) (old new newer : List ℕ)

@@ -10,9 +10,10 @@ use Rattle.rq_model.specs.Carrying.{IsFrontAt, carried_at}
 use Rattle.rq_model.specs.Appending.{MayFollow, IsLeftOf}
 use Rattle.rq_record.specs.declared.fault.Fault.{Fault}
 use Rattle.rq_front.specs.Chains.{Refused}
+use Rattle.rq_front.specs.Framers.{behind_header, at_checkpoint}
 use Rattle.rq_judged.specs.Refusals.{RefusedAt}
 use Rattle.rq_judged.specs.Views.{why_of}
-use Rattle.rq_journal.specs.Appenders.{IsAppenderAt, IsRefused, behind_header, at_checkpoint}
+use Rattle.rq_journal.specs.Appenders.{IsAppenderAt, IsRefused}
 use Rattle.rq_journal.specs.declared.appender.NotTaken.{NotTaken}
 use Rattle.rq_journal.specs.declared.opened_logs.Opened.{Opened}
 use Rattle.rq_journal.specs.declared.opened_logs.NotWritten.{NotWritten}

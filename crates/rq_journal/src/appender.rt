@@ -1,25 +1,26 @@
 //! What takes records behind the front of a log, and gives their frames.
 
-ghost use Rattle.std.specs.Prelude.{◌≡◌, ◌≤◌, List, [], OnOk, IfErr, is_some, not};
+ghost use Rattle.std.specs.Prelude.{◌≡◌, ◌≤◌, List, [], OnOk, IfOk, IfErr};
 ghost use Rattle.std.specs.Prelude.{length, map, take, drop};
 ghost use Rattle.rq_model.specs.Records as model;
-ghost use Rattle.rq_model.specs.Machine.{is_lawful, run};
-ghost use Rattle.rq_model.specs.Frames.{start};
 ghost use Rattle.rq_record.specs.Views.{record_of, version_of};
-ghost use Rattle.rq_journal.specs.Appenders.{Place, IsAppenderAt, behind_header};
+ghost use Rattle.rq_front.specs.Framers.{Place, behind_header};
+ghost use Rattle.rq_journal.specs.Appenders.{IsAppenderAt, IsSpelled, IsJudgedAs};
 ghost use Rattle.rq_journal.specs.Appenders.{Refuses, KeepsPlace, AppendsUpTo, AppendsOne, AppendsEach};
 
-use rq_catalog::{Judge, Rule};
-use rq_front::{FRAME_LEN, HEADER_LEN, LOG_LIMIT};
-use rq_judged::append_frame;
-use rq_record::{KeptRecord, Record, Version, encode};
+use rq_catalog::Judge;
+use rq_front::{FRAME_LEN, Framer};
+use rq_lawful::Rule;
+use rq_record::{
+    CheckBytes, Fault, KeptBy, KeptPayload, KeptRecord, Payload, Record, Version, encode,
+};
 use std::alloc::Global;
 
 /// Why a record is not taken.
 #[derive(Clone, Copy, PartialEq, Eq, Debug)]
 pub enum NotTaken {
-    /// It is not lawful behind the records before it.
-    Unlawful,
+    /// It is not lawful behind the records before it: it breaks this rule.
+    Unlawful(Rule),
     /// With it the log would have more than 4,294,967,295 bytes. This is told first, of a record
     /// that is unlawful as well.
     Full,
@@ -33,21 +34,45 @@ pub enum NotTaken {
 #[derive(Drop)]
 pub struct Appender {
     pub(crate) judge: Judge,
-    pub(crate) last: [u8; 32],
-    pub(crate) len: usize,
+    pub(crate) framer: Framer,
+}
+
+// The record as a judge looks at it: its payload, or the bytes of a checkpoint, are not copied.
+fn judged(alloc: Global, r: &Record) -> Result<KeptRecord, Fault>
+    ensures { IfOk result (λ k. IsJudgedAs (record_of k) (record_of r.now)) }
+{
+    match r {
+        Record::Enqueue {
+            unit,
+            queue,
+            by,
+            priority,
+            ..
+        } => {
+            let nothing = Payload::new(Vec::new(alloc)).unwrap();
+            Ok(KeptRecord::Enqueue {
+                unit: *unit,
+                queue: *queue,
+                by: KeptBy::of(alloc, by)?,
+                priority: *priority,
+                payload: KeptPayload::of(alloc, &nothing)?,
+            })
+        }
+        Record::Checkpoint { .. } => Ok(KeptRecord::Checkpoint {
+            bytes: CheckBytes::new(Vec::new(alloc)).unwrap(),
+        }),
+        _ => KeptRecord::of(alloc, r),
+    }
 }
 
 impl Appender {
-    /// Stands behind the header of a log without records, whose last 32 bytes are `last`.
-    pub fn new(alloc: Global, version: Version, last: [u8; 32]) -> Appender
-        requires { last ≡ start (version_of version) }
+    /// Stands behind the header of a log without records.
+    pub fn new(alloc: Global, version: Version) -> Appender
         ensures { IsAppenderAt (behind_header (version_of version)) [] result }
     {
-        rq_model::frames_join();
         Appender {
             judge: Judge::new(alloc, version),
-            last,
-            len: HEADER_LEN,
+            framer: Framer::new(version),
         }
     }
 
@@ -57,14 +82,6 @@ impl Appender {
             → version_of result ≡ at.version }
     {
         self.judge.version()
-    }
-
-    /// A rule that the record breaks there; none exactly if it is lawful. Tests check which rule it is.
-    pub fn broken(&self, next: &KeptRecord) -> Option<Rule>
-        ensures { (at : Place) (rs : List model.Record) → IsAppenderAt at rs self.now
-            → is_some result ≡ not (is_lawful at.version (run at.state rs) (record_of next.now)) }
-    {
-        self.judge.broken(next)
     }
 
     /// Takes the next record, and appends its frame to `out`.
@@ -83,36 +100,46 @@ impl Appender {
         ensures nothing { IfErr result (λ why. out.new.items ≡ out.old.items) }
     {
         rq_model::one_spelling();
-        let before = out.len();
         let mut body = Vec::new(alloc);
         let Ok(()) = encode(next, &mut body) else {
             return Err(NotTaken::Resources);
         };
-        let Ok(kept) = KeptRecord::of(alloc, next) else {
-            return Err(NotTaken::Resources);
-        };
-        let size = FRAME_LEN + body.len();
-        if size > LOG_LIMIT.saturating_sub(self.len) {
+        self.append_spelled(alloc, next, &body, out)
+    }
+
+    // The same for a record whose body this is. It is judged first; what may be refused memory comes
+    // next, and its frame last.
+    fn append_spelled(
+        &mut self,
+        alloc: Global,
+        next: &Record,
+        body: &[u8],
+        out: &mut Vec<u8>,
+    ) -> Result<(), NotTaken>
+        requires { IsSpelled (record_of next.now) body.now }
+        ensures taken { OnOk result
+            (AppendsOne self.old self.new (record_of next.now) out.old.items out.new.items) }
+        ensures refused { IfErr result (Refuses self.old (record_of next.now)) }
+        ensures stays { IfErr result (λ why. KeepsPlace self.old self.new) }
+        ensures nothing { IfErr result (λ why. out.new.items ≡ out.old.items) }
+    {
+        if !self.framer.has_room(body.len()) {
             return Err(NotTaken::Full);
         }
-        let Ok(last) = append_frame(&self.last, &body, out) else {
+        let Ok(next) = judged(alloc, next) else {
             return Err(NotTaken::Resources);
         };
-        match self.judge.take(&kept) {
-            Ok(true) => {
-                self.last = last;
-                self.len += size;
-                Ok(())
-            }
-            Ok(false) => {
-                out.truncate(before);
-                Err(NotTaken::Unlawful)
-            }
-            Err(_) => {
-                out.truncate(before);
-                Err(NotTaken::Resources)
-            }
+        if let Some(rule) = self.judge.broken(&next) {
+            return Err(NotTaken::Unlawful(rule));
         }
+        let Ok(()) = out.reserve(FRAME_LEN + body.len()) else {
+            return Err(NotTaken::Resources);
+        };
+        let Ok(()) = self.judge.advance(&next) else {
+            return Err(NotTaken::Resources);
+        };
+        self.framer.put(body, out).unwrap();
+        Ok(())
     }
 
     /// Takes the records one by one, up to the first that is not taken, and appends their frames.

@@ -4,16 +4,13 @@ ghost use Rattle.std.specs.Prelude.{◌≤◌, length, take};
 ghost use Rattle.rq_model.specs.Frames.{AreBytes, IsBodyLength, log_limit};
 ghost use Rattle.rq_journal.specs.Checkpoints.{MakesCheckpoint, Marks, PutsFrame, SpellsBody};
 
-use rq_front::{FRAME_LEN, LOG_LIMIT, frame};
+use rq_front::Framer;
 use rq_record::{CheckBytes, Fault, LogBytes, Record, encode};
-use rq_restart::{Plan, redone_front};
+use rq_restart::{Plan, RedoneFront};
 use rq_state::{State, spell};
 use std::alloc::Global;
 use std::marker::Sync;
 use std::thread::Threads;
-
-// A state that is spelled numbers at most so many records.
-const NUMBERS: u64 = 4_294_967_295;
 
 /// A checkpoint of a state. `TooLong` if it numbers more than 4,294,967,295 records, `TooLarge` if
 /// its spelling has more than 268,435,455 bytes, and `Resources` if memory is refused.
@@ -21,7 +18,7 @@ const NUMBERS: u64 = 4_294_967_295;
 pub fn checkpoint_of(alloc: Global, state: &State) -> Result<Record, Fault>
     ensures { MakesCheckpoint state.now result }
 {
-    if state.next() > NUMBERS {
+    if state.next() > State::RECORDS {
         return Err(Fault::TooLong);
     }
     match CheckBytes::new(spell(alloc, state)?) {
@@ -55,12 +52,13 @@ fn framed(bytes: Vec<u8>, used: usize, last: &[u8; 32], body: &[u8]) -> Result<V
     requires body { IsBodyLength (length body.now) }
     ensures { PutsFrame (take used bytes.items) last.now body.now result }
 {
-    if FRAME_LEN + body.len() > LOG_LIMIT - used {
+    let mut framer = Framer::after(*last, used);
+    if !framer.has_room(body.len()) {
         return Err(Fault::TooLarge);
     }
     let mut bytes = bytes;
     bytes.truncate(used);
-    frame(last, body, &mut bytes)?;
+    framer.put(body, &mut bytes)?;
     Ok(bytes)
 }
 
@@ -82,7 +80,7 @@ pub fn marked<R: Threads + Sync>(
     rq_model::appended_checkpoints();
     rq_model::fronts_are_spelt();
     rq_model::true_checkpoints_report_the_same();
-    let front = redone_front(rt, alloc, &LogBytes::borrowed(&bytes), plan)?;
+    let front = RedoneFront::of(rt, alloc, &LogBytes::borrowed(&bytes), plan)?;
     let body = checkpoint_body(alloc, &front.state)?;
     framed(bytes, front.used, &front.last, &body)
 }

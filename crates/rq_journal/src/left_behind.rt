@@ -7,13 +7,10 @@ ghost use Rattle.rq_judged.specs.Views.{why_of};
 ghost use Rattle.rq_journal.specs.LeftBehind.{HasNoRightFrame, IsDamage, IsExcess, IsLeftByCrash};
 ghost use Rattle.rq_journal.specs.LeftBehind.{IsSeenBehind, MayBeLeft};
 
-use rq_behind::{Scan, behind, first_record};
+use rq_behind::{Found, Scan};
 use rq_record::{Fault, Version};
 use rq_restart::Why;
 use std::alloc::Global;
-
-/// The most bytes that a crash leaves behind a front if they are no beginning of a frame.
-pub const TORN_LEN: usize = 1_048_576;
 
 /// Why what stands behind a front is not what a crash can leave there.
 #[derive(Clone, Copy, PartialEq, Eq, Debug)]
@@ -43,7 +40,7 @@ fn led_to(
         (HasNoRightFrame (version_of version) bytes.now used) (IsSeenBehind bytes.now used)) }
     ensures refused { IfErr result (λ e. e ≡ Resources) }
 {
-    let found = behind(alloc, version, bytes, used)?;
+    let found = Found::of(alloc, version, bytes, used)?;
     if let Some(first) = found.spans.first() {
         return Ok(Some(Damage::Right(first.offset())));
     }
@@ -60,7 +57,7 @@ fn excess(why: Why, left: usize) -> Option<Damage>
     match why {
         Why::Whole | Why::Cut => None,
         Why::Length | Why::Chain => {
-            if left > TORN_LEN {
+            if left > Why::TORN_LEN {
                 Some(Damage::Long)
             } else {
                 None
@@ -70,35 +67,37 @@ fn excess(why: Why, left: usize) -> Option<Damage>
     }
 }
 
-/// Why what stands behind a front is not what a crash can leave there; none exactly if it can. A
-/// crash leaves nothing, or the beginning of a frame; or at most 1,048,576 bytes, as of a frame some
-/// of whose pages were not written, or zeros. No frame that is right in itself is left by a crash: it
-/// was written whole.
-///
-/// `Resources` is returned if memory is refused.
-pub fn damage_behind(
-    alloc: Global,
-    version: Version,
-    bytes: &[u8],
-    used: usize,
-    why: Why,
-) -> Result<Option<Damage>, Fault>
-    requires after { 32 ≤ used }
-    requires within { used ≤ length bytes.now }
-    ensures damage { IfOk result (λ damage. MatchOption damage
-        (IsLeftByCrash (version_of version) bytes.now used (why_of why))
-        (IsDamage bytes.now used (why_of why))) }
-    ensures refused { IfErr result (λ e. e ≡ Resources) }
-{
-    if let Some(damage) = excess(why, bytes.len() - used) {
-        return Ok(Some(damage));
-    }
-    if let Some(damage) = led_to(alloc, version, bytes, used)? {
-        return Ok(Some(damage));
-    }
-    match first_record(version, bytes, used) {
-        Scan::Clear => Ok(None),
-        Scan::At(place) => Ok(Some(Damage::Right(place))),
-        Scan::GaveUp(place) => Ok(Some(Damage::Unsearched(place))),
+impl Damage {
+    /// Why what stands behind a front is not what a crash can leave there; none exactly if it can. A
+    /// crash leaves nothing, or the beginning of a frame; or at most 1,048,576 bytes, as of a frame some
+    /// of whose pages were not written, or zeros. No frame that is right in itself is left by a crash: it
+    /// was written whole.
+    ///
+    /// `Resources` is returned if memory is refused.
+    pub fn left_behind(
+        alloc: Global,
+        version: Version,
+        bytes: &[u8],
+        used: usize,
+        why: Why,
+    ) -> Result<Option<Damage>, Fault>
+        requires after { 32 ≤ used }
+        requires within { used ≤ length bytes.now }
+        ensures damage { IfOk result (λ damage. MatchOption damage
+            (IsLeftByCrash (version_of version) bytes.now used (why_of why))
+            (IsDamage bytes.now used (why_of why))) }
+        ensures refused { IfErr result (λ e. e ≡ Resources) }
+    {
+        if let Some(damage) = excess(why, bytes.len() - used) {
+            return Ok(Some(damage));
+        }
+        if let Some(damage) = led_to(alloc, version, bytes, used)? {
+            return Ok(Some(damage));
+        }
+        match Scan::of(version, bytes, used) {
+            Scan::Clear => Ok(None),
+            Scan::At(place) => Ok(Some(Damage::Right(place))),
+            Scan::GaveUp(place) => Ok(Some(Damage::Unsearched(place))),
+        }
     }
 }

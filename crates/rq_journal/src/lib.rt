@@ -12,12 +12,10 @@ mod recoveries;
 pub use appender::{Appender, NotTaken};
 pub use carried_logs::{Truth, audit_carried, carried};
 pub use checkpoints::{checkpoint_of, marked};
-pub use left_behind::{Damage, TORN_LEN, damage_behind};
-pub use opened_logs::{
-    NotWritten, Opened, frames_behind, open, open_carried, opened_behind, opened_redone,
-};
-pub use recoveries::{MadeWhole, NotRecovered, recovered, recovered_at};
-pub use rq_catalog::Rule;
+pub use left_behind::Damage;
+pub use opened_logs::{NotWritten, Opened, frames_behind, open, open_carried};
+pub use recoveries::{MadeWhole, NotRecovered};
 pub use rq_front::{CARRIED_AT, is_carried, read_as_log, write_as_carried};
+pub use rq_lawful::Rule;
 pub use rq_record::Fault;
 pub use rq_restart::{Ending, Plan, Why};

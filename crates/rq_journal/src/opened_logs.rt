@@ -9,8 +9,8 @@ ghost use Rattle.rq_journal.specs.Openings.{IsOpened, IsOpenedAt, Opens, OpensCa
 
 use crate::appender::{Appender, NotTaken};
 use rq_catalog::Judge;
-use rq_front::CARRIED_AT;
-use rq_judged::{JudgedFront, judged_front, judged_front_at};
+use rq_front::{CARRIED_AT, Framer};
+use rq_judged::JudgedFront;
 use rq_record::{Fault, Record};
 use rq_restart::{Plan, RedoneFront, Why};
 use std::alloc::Global;
@@ -31,47 +31,48 @@ pub struct Opened {
     pub why: Why,
 }
 
-/// Stands behind a front that was judged.
-#[tactic(auto, using(crate::proofs::Openings::opened, crate::proofs::Openings::opened_at))]
-pub fn opened_behind(front: JudgedFront) -> Opened
-    ensures whole { (b : List ℕ) → IsJudged b front → IsOpened b result }
-    ensures from { (b : List ℕ) (offset : ℕ) → IsJudgedAt b offset front → IsOpenedAt b offset result }
-{
-    let JudgedFront {
-        judge,
-        last,
-        used,
-        records,
-        why,
-    } = front;
-    let appender = Appender {
-        judge,
-        last,
-        len: used,
-    };
-    Opened {
-        appender,
-        used,
-        records,
-        why,
+impl Opened {
+    /// Stands behind a front that was judged.
+    #[tactic(auto, using(crate::proofs::Openings::opened, crate::proofs::Openings::opened_at))]
+    pub fn of(front: JudgedFront) -> Opened
+        ensures whole { (b : List ℕ) → IsJudged b front → IsOpened b result }
+        ensures from { (b : List ℕ) (offset : ℕ) → IsJudgedAt b offset front → IsOpenedAt b offset result }
+    {
+        let JudgedFront {
+            judge,
+            last,
+            used,
+            records,
+            why,
+        } = front;
+        let appender = Appender {
+            judge,
+            framer: Framer::after(last, used),
+        };
+        Opened {
+            appender,
+            used,
+            records,
+            why,
+        }
     }
-}
 
-/// Stands behind a front of which the state was made. Refused with `Resources` alone.
-pub fn opened_redone(alloc: Global, front: &RedoneFront) -> Result<Opened, Fault>
-    ensures whole { IfOk result (λ opened. (b : List ℕ) → IsRedoneFront b front.now → IsOpened b opened) }
-    ensures from { IfOk result (λ opened. (b : List ℕ) (offset : ℕ) → IsRedoneAt b offset front.now
-        → IsOpenedAt b offset opened) }
-    ensures refused { IfErr result (λ e. e ≡ Resources) }
-{
-    let judge = Judge::of(alloc, front.version, &front.state)?;
-    Ok(opened_behind(JudgedFront {
-        judge,
-        last: front.last,
-        used: front.used,
-        records: front.records,
-        why: front.why,
-    }))
+    /// Stands behind a front of which the state was made. Refused with `Resources` alone.
+    pub fn of_redone(alloc: Global, front: &RedoneFront) -> Result<Opened, Fault>
+        ensures whole { IfOk result (λ opened. (b : List ℕ) → IsRedoneFront b front.now → IsOpened b opened) }
+        ensures from { IfOk result (λ opened. (b : List ℕ) (offset : ℕ) → IsRedoneAt b offset front.now
+            → IsOpenedAt b offset opened) }
+        ensures refused { IfErr result (λ e. e ≡ Resources) }
+    {
+        let judge = Judge::of(alloc, front.version, &front.state)?;
+        Ok(Opened::of(JudgedFront {
+            judge,
+            last: front.last,
+            used: front.used,
+            records: front.records,
+            why: front.why,
+        }))
+    }
 }
 
 /// Opens a log to write behind its front. No record is kept, and no queue is redone.
@@ -86,7 +87,7 @@ pub fn open<R: Threads + Sync>(
 ) -> Result<Opened, Fault>
     ensures opens { Opens bytes.now result }
 {
-    Ok(opened_behind(judged_front(rt, alloc, bytes, plan)?))
+    Ok(Opened::of(JudgedFront::of(rt, alloc, bytes, plan)?))
 }
 
 /// Opens a carried file that was read as a log (`read_as_log`), to write behind its front: as `open`,
@@ -102,7 +103,7 @@ pub fn open_carried<R: Threads + Sync>(
 ) -> Result<Opened, Fault>
     ensures opens { OpensCarried bytes.now result }
 {
-    Ok(opened_behind(judged_front_at(rt, alloc, bytes, CARRIED_AT as u64, plan)?))
+    Ok(Opened::of(JudgedFront::judged_at(rt, alloc, bytes, CARRIED_AT as u64, plan)?))
 }
 
 /// Why records are not written.

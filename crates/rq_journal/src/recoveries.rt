@@ -5,9 +5,9 @@ ghost use Rattle.rq_record.specs.declared.fault.Fault.TheVariants.{Resources};
 ghost use Rattle.rq_journal.specs.Recoveries.{CutsOff, Recovers, RecoversAt, RecoversFrom};
 
 use crate::checkpoints::are_octets;
-use crate::left_behind::{Damage, damage_behind};
+use crate::left_behind::Damage;
 use rq_record::Fault;
-use rq_restart::{Ending, Plan, ending_at, ending_of};
+use rq_restart::{Ending, Plan};
 use std::alloc::Global;
 use std::marker::Sync;
 use std::thread::Threads;
@@ -75,7 +75,7 @@ fn recovered_behind(
     requires within { ending.used ≤ length bytes.now }
     ensures { RecoversFrom bytes.now ending drops result }
 {
-    match damage_behind(alloc, ending.version, bytes, ending.used, ending.why) {
+    match Damage::left_behind(alloc, ending.version, bytes, ending.used, ending.why) {
         Ok(None) => cut_off(alloc, bytes, ending, None),
         Ok(Some(damage)) => {
             if drops {
@@ -88,45 +88,47 @@ fn recovered_behind(
     }
 }
 
-/// How a log goes on that a crash left: the new log is its front, and behind that its tail, the
-/// ABORTs of the units that are open there. What stood behind the front is handed back as what was
-/// cut. If that is not what a crash leaves (`damage_behind`), it is cut only if it is to be dropped.
-///
-/// Whatever beginning of the tail is written, a restart has the same queue lines.
-///
-/// Refuses damage that is not to be dropped with `Damaged`, and with `Log` what `closed` refuses.
-pub fn recovered<R: Threads + Sync>(
-    rt: &R,
-    alloc: Global,
-    bytes: &[u8],
-    plan: &Plan,
-    drops: bool,
-) -> Result<MadeWhole, NotRecovered>
-    ensures { Recovers bytes.now drops result }
-{
-    are_octets(bytes);
-    rq_model::closed_logs();
-    match ending_of(rt, alloc, bytes, plan) {
-        Ok(ending) => recovered_behind(alloc, bytes, ending, drops),
-        Err(fault) => Err(NotRecovered::Log(fault)),
+impl MadeWhole {
+    /// How a log goes on that a crash left: the new log is its front, and behind that its tail, the
+    /// ABORTs of the units that are open there. What stood behind the front is handed back as what was
+    /// cut. If that is not what a crash leaves (`Damage::left_behind`), it is cut only if it is to be dropped.
+    ///
+    /// Whatever beginning of the tail is written, a restart has the same queue lines.
+    ///
+    /// Refuses damage that is not to be dropped with `Damaged`, and with `Log` what `closed` refuses.
+    pub fn of<R: Threads + Sync>(
+        rt: &R,
+        alloc: Global,
+        bytes: &[u8],
+        plan: &Plan,
+        drops: bool,
+    ) -> Result<MadeWhole, NotRecovered>
+        ensures { Recovers bytes.now drops result }
+    {
+        are_octets(bytes);
+        rq_model::closed_logs();
+        match Ending::of(rt, alloc, bytes, plan) {
+            Ok(ending) => recovered_behind(alloc, bytes, ending, drops),
+            Err(fault) => Err(NotRecovered::Log(fault)),
+        }
     }
-}
 
-/// The same of a log from the checkpoint at an offset on, which is taken at its word.
-///
-/// Refuses damage that is not to be dropped with `Damaged`, and with `Log` what `ending_at` refuses.
-pub fn recovered_at<R: Threads + Sync>(
-    rt: &R,
-    alloc: Global,
-    bytes: &[u8],
-    offset: u64,
-    plan: &Plan,
-    drops: bool,
-) -> Result<MadeWhole, NotRecovered>
-    ensures { RecoversAt bytes.now offset drops result }
-{
-    match ending_at(rt, alloc, bytes, offset, plan) {
-        Ok(ending) => recovered_behind(alloc, bytes, ending, drops),
-        Err(fault) => Err(NotRecovered::Log(fault)),
+    /// The same of a log from the checkpoint at an offset on, which is taken at its word.
+    ///
+    /// Refuses damage that is not to be dropped with `Damaged`, and with `Log` what `Ending::ending_at` refuses.
+    pub fn made_at<R: Threads + Sync>(
+        rt: &R,
+        alloc: Global,
+        bytes: &[u8],
+        offset: u64,
+        plan: &Plan,
+        drops: bool,
+    ) -> Result<MadeWhole, NotRecovered>
+        ensures { RecoversAt bytes.now offset drops result }
+    {
+        match Ending::ending_at(rt, alloc, bytes, offset, plan) {
+            Ok(ending) => recovered_behind(alloc, bytes, ending, drops),
+            Err(fault) => Err(NotRecovered::Log(fault)),
+        }
     }
 }

@@ -10,7 +10,7 @@ use Rattle.rq_model.specs.Machine.{run}
 use Rattle.rq_model.specs.Fronts.{IsFront, restarted}
 use Rattle.rq_model.proofs.Longest.{front_whole}
 use Rattle.rq_model.proofs.Restarts.{header_long}
-use Rattle.rq_catalog.specs.declared.rules.Rule.{Rule}
+use Rattle.rq_lawful.specs.declared.rules.Rule.{Rule}
 use Rattle.rq_judged.specs.FrontEnds.{FindsEnd, FindsEndAt, is_law}
 use Rattle.rq_judged.specs.JudgedFronts.{IsJudged, IsJudgedAt}
 use Rattle.rq_judged.specs.Views.{why_of}

@@ -12,7 +12,7 @@ use Rattle.rq_front.specs.declared.spans.Span.{Span}
 use Rattle.rq_front.specs.Chains.{bodies_at, rest_of, spans_from, IsHeaded, Refused}
 use Rattle.rq_model.specs.Checkpoints.{IsRestartAt}
 use Rattle.rq_record.specs.declared.fault.Fault.{Fault}
-use Rattle.rq_catalog.specs.declared.rules.Rule.{Rule}
+use Rattle.rq_lawful.specs.declared.rules.Rule.{Rule}
 use Rattle.rq_judged.specs.declared.ends.FrontEnd.{FrontEnd}
 use Rattle.rq_judged.specs.Refusals.{RefusedAt}
 use Rattle.rq_judged.specs.Views.{why_of}

@@ -4,7 +4,7 @@ ghost use Rattle.std.specs.Prelude.{◌≡◌, ◌≤◌, ◌+◌, length, optio
 ghost use Rattle.rq_front.specs.Chains.{bodies_at};
 ghost use Rattle.rq_judged.specs.Checkpoints.{BeginsAt, kept_in, chain_start};
 
-use crate::frames::grain_of;
+use crate::front_pass::grain_of;
 use rq_front::{Chain, HEADER_LEN, Span, chain, log_version};
 use rq_plan::Plan;
 use rq_record::{Fault, Version};
@@ -47,28 +47,30 @@ fn chain_start(offset: u64, len: usize) -> usize
     }
 }
 
-/// The chain from an offset on, and the state that the checkpoint there spells.
-pub fn begin_at<R: Threads + Sync>(
-    rt: &R,
-    alloc: Global,
-    bytes: &[u8],
-    offset: u64,
-    plan: &Plan,
-) -> Result<Begun, Fault>
-    ensures { BeginsAt bytes.now offset result }
-{
-    rq_model::frames_are_right();
-    rq_model::frames_join();
-    let version = log_version(bytes)?;
-    let start = chain_start(offset, bytes.len());
-    let found = chain(rt, alloc, bytes, start, grain_of(plan))?;
-    let Some(kept) = kept_in(bytes, &found.spans) else {
-        return Err(Fault::NoCheckpoint);
-    };
-    let state = read_in(alloc, version, kept)?;
-    Ok(Begun {
-        version,
-        found,
-        state,
-    })
+impl Begun {
+    /// The chain from an offset on, and the state that the checkpoint there spells.
+    pub fn begun_at<R: Threads + Sync>(
+        rt: &R,
+        alloc: Global,
+        bytes: &[u8],
+        offset: u64,
+        plan: &Plan,
+    ) -> Result<Begun, Fault>
+        ensures { BeginsAt bytes.now offset result }
+    {
+        rq_model::frames_are_right();
+        rq_model::frames_join();
+        let version = log_version(bytes)?;
+        let start = chain_start(offset, bytes.len());
+        let found = chain(rt, alloc, bytes, start, grain_of(plan))?;
+        let Some(kept) = kept_in(bytes, &found.spans) else {
+            return Err(Fault::NoCheckpoint);
+        };
+        let state = read_in(alloc, version, kept)?;
+        Ok(Begun {
+            version,
+            found,
+            state,
+        })
+    }
 }

@@ -11,10 +11,11 @@ ghost use Rattle.rq_catalog.specs.Judges.{StandsIn};
 ghost use Rattle.rq_judged.specs.FrontEnds.{FindsEnd, FindsEndAt, is_law};
 ghost use Rattle.rq_judged.specs.Views.{why_of};
 
-use crate::checkpoint::begin_at;
+use crate::checkpoint::Begun;
 use crate::frames::body_at;
-use crate::judged::{JudgedFront, judged_behind, judged_front};
-use rq_catalog::{Judge, Rule};
+use crate::judged::{JudgedFront, judged_behind};
+use rq_catalog::Judge;
+use rq_lawful::Rule;
 use rq_plan::Plan;
 use rq_record::{Fault, decode_kept};
 use std::alloc::Global;
@@ -36,6 +37,11 @@ pub enum Why {
     Form,
     /// A record that is not lawful there.
     Law,
+}
+
+impl Why {
+    /// The most bytes that a crash leaves behind a front if they are no beginning of a frame.
+    pub const TORN_LEN: usize = 1_048_576;
 }
 
 /// Where the front of a log ends, and why: numbers of its restart.
@@ -98,46 +104,48 @@ fn numbers_of(front: &JudgedFront, records: u64, bytes: &[u8]) -> FrontEnd
     }
 }
 
-/// Where the front of a log ends, and why, as its restart says it; and the rule that the record
-/// behind it breaks, exactly if it ends by that. The log is read once; no queue is redone.
-///
-/// No record is kept, so beside the bytes this takes memory for the queues, registrants and open
-/// units alone, and for a part of the log, whose length does not grow with it.
-///
-/// Refuses with `TooLong` more than 4,294,967,295 bytes, with `NotALog` bytes that begin with no
-/// version's header, and with `Resources` where memory is refused.
-pub fn front_end<R: Threads + Sync>(
-    rt: &R,
-    alloc: Global,
-    bytes: &[u8],
-    plan: &Plan,
-) -> Result<(FrontEnd, Option<Rule>), Fault>
-    ensures { FindsEnd bytes.now result }
-{
-    rq_model::numbers_after();
-    rq_model::runs_are_well_formed();
-    let front = judged_front(rt, alloc, bytes, plan)?;
-    let rule = rule_behind(alloc, &front, bytes)?;
-    Ok((numbers_of(&front, front.records as u64, bytes), rule))
-}
+impl FrontEnd {
+    /// Where the front of a log ends, and why, as its restart says it; and the rule that the record
+    /// behind it breaks, exactly if it ends by that. The log is read once; no queue is redone.
+    ///
+    /// No record is kept, so beside the bytes this takes memory for the queues, registrants and open
+    /// units alone, and for a part of the log, whose length does not grow with it.
+    ///
+    /// Refuses with `TooLong` more than 4,294,967,295 bytes, with `NotALog` bytes that begin with no
+    /// version's header, and with `Resources` where memory is refused.
+    pub fn of<R: Threads + Sync>(
+        rt: &R,
+        alloc: Global,
+        bytes: &[u8],
+        plan: &Plan,
+    ) -> Result<(FrontEnd, Option<Rule>), Fault>
+        ensures { FindsEnd bytes.now result }
+    {
+        rq_model::numbers_after();
+        rq_model::runs_are_well_formed();
+        let front = JudgedFront::of(rt, alloc, bytes, plan)?;
+        let rule = rule_behind(alloc, &front, bytes)?;
+        Ok((numbers_of(&front, front.records as u64, bytes), rule))
+    }
 
-/// The same of the front from the checkpoint at an offset on, as the restart from there says it: it
-/// begins in the state that the checkpoint spells.
-///
-/// Refused as `restart_at` is.
-pub fn front_end_at<R: Threads + Sync>(
-    rt: &R,
-    alloc: Global,
-    bytes: &[u8],
-    offset: u64,
-    plan: &Plan,
-) -> Result<(FrontEnd, Option<Rule>), Fault>
-    ensures { FindsEndAt bytes.now offset result }
-{
-    rq_model::numbers_after();
-    let begun = begin_at(rt, alloc, bytes, offset, plan)?;
-    let front = judged_behind(alloc, &begun, bytes)?;
-    let rule = rule_behind(alloc, &front, bytes)?;
-    let records = begun.state.next() + front.records as u64;
-    Ok((numbers_of(&front, records, bytes), rule))
+    /// The same of the front from the checkpoint at an offset on, as the restart from there says it: it
+    /// begins in the state that the checkpoint spells.
+    ///
+    /// Refused as `restart_at` is.
+    pub fn ended_at<R: Threads + Sync>(
+        rt: &R,
+        alloc: Global,
+        bytes: &[u8],
+        offset: u64,
+        plan: &Plan,
+    ) -> Result<(FrontEnd, Option<Rule>), Fault>
+        ensures { FindsEndAt bytes.now offset result }
+    {
+        rq_model::numbers_after();
+        let begun = Begun::begun_at(rt, alloc, bytes, offset, plan)?;
+        let front = judged_behind(alloc, &begun, bytes)?;
+        let rule = rule_behind(alloc, &front, bytes)?;
+        let records = begun.state.next() + front.records as u64;
+        Ok((numbers_of(&front, records, bytes), rule))
+    }
 }

@@ -1,15 +1,9 @@
-//! The frames of a log: the body of one, what it is linked to, one more at the end, and how workers
-//! share them.
+//! The frames of a log: the body of one, and what it is linked to.
 
-ghost use Rattle.std.specs.Prelude.{◌≡◌, ◌≤◌, ◌==◌, if◌then◌else◌, length, drop, IfOk};
-ghost use Rattle.rq_model.specs.Frames.{HasFrame, IsBodyLength, before, body_in, digest, frame};
-ghost use Rattle.rq_record.specs.Writing.{Appends};
-ghost use Rattle.rq_plan.specs.Plans.{grain_of, workers_of};
+ghost use Rattle.std.specs.Prelude.{◌≡◌, ◌≤◌, length, drop};
+ghost use Rattle.rq_model.specs.Frames.{HasFrame, before, body_in};
 
 use byteorder::{BigEndian, ByteOrder};
-use rq_front::frame;
-use rq_plan::Plan;
-use rq_record::Fault;
 
 /// The body of the frame at an offset.
 pub fn body_at(bytes: &[u8], at: usize) -> &[u8]
@@ -30,28 +24,4 @@ pub fn before(bytes: &[u8], offset: usize) -> [u8; 32]
     let mut kept = [0; 32];
     kept.copy_from_slice(&bytes[offset - 32..offset]);
     kept
-}
-
-/// Appends the frame of a body behind these 32 bytes, and answers its own last 32 bytes. If memory
-/// is refused, nothing is appended.
-pub fn append_frame(prev: &[u8; 32], body: &[u8], out: &mut Vec<u8>) -> Result<[u8; 32], Fault>
-    requires { IsBodyLength (length body.now) }
-    ensures bytes { Appends out.old.items out.new.items (frame prev.now body.now) result }
-    ensures last { IfOk result (λ last. last ≡ digest prev.now body.now) }
-{
-    frame(prev, body, out)?;
-    Ok(before(out, out.len()))
-}
-
-/// How many frames a worker checks in one piece: those of the plan's grain, and all of them where
-/// it is alone, so that no thread is started.
-pub fn grain_of(plan: &Plan) -> u32
-    ensures range { 1 ≤ result }
-    ensures size { result ≡ if workers_of plan.now == 1 then 4294967295 else grain_of plan.now }
-{
-    if plan.workers() == 1 {
-        u32::MAX
-    } else {
-        plan.grain()
-    }
 }

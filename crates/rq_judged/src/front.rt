@@ -4,7 +4,6 @@ ghost use Rattle.std.specs.Prelude.{◌≡◌, ◌≤◌, ◌+◌, ◌++◌, ℕ
 ghost use Rattle.std.specs.Prelude.{IfErr, OnOk};
 ghost use Rattle.std.specs.Thread.{IsSync};
 ghost use Rattle.rq_model.specs.Frames.{bodies_of, log_limit};
-ghost use Rattle.rq_model.specs.Fronts.{Ends};
 ghost use Rattle.rq_model.specs.Records as records;
 ghost use Rattle.rq_model.specs.States as model;
 ghost use Rattle.rq_record.specs.Views.{record_of, version_of};
@@ -18,9 +17,9 @@ ghost use Rattle.rq_judged.specs.Views.{why_of};
 
 use crate::bodies::{FEW, PartedRecords, put_together, read_bodies};
 use crate::ends::Why;
-use crate::frames::grain_of;
+use crate::front_pass::{grain_of, why_of};
 use rq_catalog::{Analysis, analyse_kept};
-use rq_front::{Chain, Rest, Walk};
+use rq_front::{Chain, Walk};
 use rq_plan::Plan;
 use rq_record::{Fault, KeptRecord, LogBytes, Version};
 use rq_state::State;
@@ -46,18 +45,6 @@ pub struct Front {
     pub end: usize,
     /// Why they end there.
     pub why: Why,
-}
-
-/// Why the front ends behind all frames of a chain, by what follows them.
-pub(crate) fn why_of(rest: Rest) -> Why
-    ensures { why_of result ≡ Ends (rest_of rest) }
-{
-    match rest {
-        Rest::Whole => Why::Whole,
-        Rest::Cut => Why::Cut,
-        Rest::Length => Why::Length,
-        Rest::Digest => Why::Chain,
-    }
 }
 
 /// Where the front ends, and why: behind `kept` frames of a chain, of which `read` were read.
@@ -142,35 +129,6 @@ fn settled(found: &Chain, known: Known) -> Front
     }
 }
 
-/// The front of the log of the version, in the frames of a chain, from a state on. Of shared bytes its
-/// checkpoints and long payloads are parts.
-pub fn front_of<R: Threads + Sync>(
-    rt: &R,
-    alloc: Global,
-    version: Version,
-    bytes: &LogBytes<'_>,
-    found: &Chain,
-    state: &State,
-    plan: &Plan,
-) -> Result<Front, Fault>
-    requires chain { (offset : ℕ) × IsChain bytes.now offset found.now }
-    requires next { state.now.next ≤ 4294967295 }
-    ensures front { IfOk result (λ f. (offset : ℕ) → IsChain bytes.now offset found.now
-        → IsFrontFrom (version_of version) state.now bytes.now offset
-        (map record_of f.records.items) f.end (why_of f.why)) }
-    ensures bodies { IfOk result
-        (λ f. (left : List (List ℕ)) × (bodies_at bytes.now found.now.spans.items
-        ≡ bodies_of (map record_of f.records.items) ++ left)) }
-    ensures analysis { IfOk result (λ f. IsAnalysis (version_of version) state.now
-        (map record_of f.records.items) f.analysis) }
-    ensures refused { IfErr result (λ e. e ≡ Resources) }
-{
-    let workers = plan.workers();
-    let parts = read_bodies(rt, alloc, version, bytes, &found.spans, workers)?;
-    let known = known_of(alloc, version, parts, state)?;
-    Ok(settled(found, known))
-}
-
 // Checks the digests of a walk, while another thread puts the records of its bodies together and
 // goes through them.
 fn check_meanwhile<R: Threads + Sync>(
@@ -205,41 +163,72 @@ fn check_meanwhile<R: Threads + Sync>(
     )
 }
 
-/// The front of the log of the version, in the frames of a walk, from a state on. Of shared bytes its
-/// checkpoints and long payloads are parts.
-///
-/// Where threads are to be had, the records are read before any digest is known to be right, and
-/// those behind the first wrong one are dropped again: so the one pass over them, which is one
-/// thread's work, runs beside the digests.
-pub fn front_of_walk<R: Threads + Sync>(
-    rt: &R,
-    alloc: Global,
-    version: Version,
-    bytes: &LogBytes<'_>,
-    walk: Walk,
-    state: &State,
-    plan: &Plan,
-) -> Result<Front, Fault>
-    requires walk { (offset : ℕ) × Walks bytes.now offset walk }
-    requires inside { All (λ s. s.start + s.len ≤ length bytes.now) (spans_of walk) }
-    requires short { length bytes.now ≤ log_limit }
-    requires next { state.now.next ≤ 4294967295 }
-    ensures front { IfOk result (λ f. (offset : ℕ) → Walks bytes.now offset walk
-        → IsFrontFrom (version_of version) state.now bytes.now offset
-        (map record_of f.records.items) f.end (why_of f.why)) }
-    ensures analysis { IfOk result (λ f. IsAnalysis (version_of version) state.now
-        (map record_of f.records.items) f.analysis) }
-    ensures refused { IfErr result (λ e. e ≡ Resources) }
-{
-    let grain = grain_of(plan);
-    if plan.workers() < 2 || walk.spans().len() <= FEW {
-        let found = walk.checked(rt, bytes.as_slice(), grain);
-        return front_of(rt, alloc, version, bytes, &found, state, plan);
+impl Front {
+    /// The front of the log of the version, in the frames of a walk, from a state on. Of shared bytes its
+    /// checkpoints and long payloads are parts.
+    ///
+    /// Where threads are to be had, the records are read before any digest is known to be right, and
+    /// those behind the first wrong one are dropped again: so the one pass over them, which is one
+    /// thread's work, runs beside the digests.
+    pub fn of_walk<R: Threads + Sync>(
+        rt: &R,
+        alloc: Global,
+        version: Version,
+        bytes: &LogBytes<'_>,
+        walk: Walk,
+        state: &State,
+        plan: &Plan,
+    ) -> Result<Front, Fault>
+        requires walk { (offset : ℕ) × Walks bytes.now offset walk }
+        requires inside { All (λ s. s.start + s.len ≤ length bytes.now) (spans_of walk) }
+        requires short { length bytes.now ≤ log_limit }
+        requires next { state.now.next ≤ 4294967295 }
+        ensures front { IfOk result (λ f. (offset : ℕ) → Walks bytes.now offset walk
+            → IsFrontFrom (version_of version) state.now bytes.now offset
+            (map record_of f.records.items) f.end (why_of f.why)) }
+        ensures analysis { IfOk result (λ f. IsAnalysis (version_of version) state.now
+            (map record_of f.records.items) f.analysis) }
+        ensures refused { IfErr result (λ e. e ≡ Resources) }
+    {
+        let grain = grain_of(plan);
+        if plan.workers() < 2 || walk.spans().len() <= FEW {
+            let found = walk.checked(rt, bytes.as_slice(), grain);
+            return Front::of(rt, alloc, version, bytes, &found, state, plan);
+        }
+        let workers = plan.workers();
+        let parts = read_bodies(rt, alloc, version, bytes, walk.spans(), workers)?;
+        let (found, known) = check_meanwhile(rt, alloc, version, bytes, walk, parts, state, grain);
+        let mut known = known?;
+        keep_first(alloc, version, &mut known, found.spans.len(), state)?;
+        Ok(settled(&found, known))
     }
-    let workers = plan.workers();
-    let parts = read_bodies(rt, alloc, version, bytes, walk.spans(), workers)?;
-    let (found, known) = check_meanwhile(rt, alloc, version, bytes, walk, parts, state, grain);
-    let mut known = known?;
-    keep_first(alloc, version, &mut known, found.spans.len(), state)?;
-    Ok(settled(&found, known))
+
+    /// The front of the log of the version, in the frames of a chain, from a state on. Of shared bytes its
+    /// checkpoints and long payloads are parts.
+    pub fn of<R: Threads + Sync>(
+        rt: &R,
+        alloc: Global,
+        version: Version,
+        bytes: &LogBytes<'_>,
+        found: &Chain,
+        state: &State,
+        plan: &Plan,
+    ) -> Result<Front, Fault>
+        requires chain { (offset : ℕ) × IsChain bytes.now offset found.now }
+        requires next { state.now.next ≤ 4294967295 }
+        ensures front { IfOk result (λ f. (offset : ℕ) → IsChain bytes.now offset found.now
+            → IsFrontFrom (version_of version) state.now bytes.now offset
+            (map record_of f.records.items) f.end (why_of f.why)) }
+        ensures bodies { IfOk result
+            (λ f. (left : List (List ℕ)) × (bodies_at bytes.now found.now.spans.items
+            ≡ bodies_of (map record_of f.records.items) ++ left)) }
+        ensures analysis { IfOk result (λ f. IsAnalysis (version_of version) state.now
+            (map record_of f.records.items) f.analysis) }
+        ensures refused { IfErr result (λ e. e ≡ Resources) }
+    {
+        let workers = plan.workers();
+        let parts = read_bodies(rt, alloc, version, bytes, &found.spans, workers)?;
+        let known = known_of(alloc, version, parts, state)?;
+        Ok(settled(found, known))
+    }
 }

@@ -1,19 +1,22 @@
 //! A pass over a log that keeps none of its records.
 
-ghost use Rattle.std.specs.Prelude.{◌≡◌, ◌≤◌, ◌+◌, length, All, IfOk, IfErr};
+ghost use Rattle.std.specs.Prelude.{◌≡◌, ◌≤◌, ◌+◌, ◌==◌, if◌then◌else◌, length, All, IfOk, IfErr};
 ghost use Rattle.rq_model.specs.Records as records;
 ghost use Rattle.rq_model.specs.Frames.{log_limit};
+ghost use Rattle.rq_model.specs.Fronts.{Ends};
 ghost use Rattle.rq_model.specs.States as model;
 ghost use Rattle.rq_record.specs.declared.fault.Fault.TheVariants.{Resources};
-ghost use Rattle.rq_front.specs.Chains.{bodies_at};
+ghost use Rattle.rq_front.specs.Chains.{bodies_at, rest_of};
 ghost use Rattle.rq_catalog.specs.Judges.{KeepsStanding, StandsIn};
+ghost use Rattle.rq_plan.specs.Plans.{grain_of, workers_of};
 ghost use Rattle.rq_judged.specs.Views.{why_of};
 ghost use Rattle.rq_judged.specs.Passes.{AreJudged, HasPassedSome, IsVerdict, StopsIn, stays};
 
 use crate::ends::Why;
 use crate::front::end_of;
 use rq_catalog::Judge;
-use rq_front::{Span, chain};
+use rq_front::{Rest, Span, chain};
+use rq_plan::Plan;
 use rq_record::{Fault, decode_kept};
 use std::alloc::Global;
 use std::marker::Sync;
@@ -22,6 +25,31 @@ use std::thread::Threads;
 // By so many bytes the part of a log that is looked at grows, or by more where a frame is longer.
 // No answer depends on it.
 const WINDOW: usize = 16_777_216;
+
+/// How many frames a worker checks in one piece: those of the plan's grain, and all of them where
+/// it is alone, so that no thread is started.
+pub fn grain_of(plan: &Plan) -> u32
+    ensures range { 1 ≤ result }
+    ensures size { result ≡ if workers_of plan.now == 1 then 4294967295 else grain_of plan.now }
+{
+    if plan.workers() == 1 {
+        u32::MAX
+    } else {
+        plan.grain()
+    }
+}
+
+/// Why the front ends behind all frames of a chain, by what follows them.
+pub(crate) fn why_of(rest: Rest) -> Why
+    ensures { why_of result ≡ Ends (rest_of rest) }
+{
+    match rest {
+        Rest::Whole => Why::Whole,
+        Rest::Cut => Why::Cut,
+        Rest::Length => Why::Length,
+        Rest::Digest => Why::Chain,
+    }
+}
 
 /// What a judge makes of a body.
 #[derive(Clone, Copy, Debug)]

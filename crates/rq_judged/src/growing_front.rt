@@ -7,7 +7,7 @@ ghost use Rattle.rq_judged.specs.GrowingFronts.{GoesAlong, IsStageOf, RefusesMor
 ghost use Rattle.rq_judged.specs.JudgedFronts.{JudgesFront};
 ghost use Rattle.rq_judged.specs.declared.growing_front.Stage.TheVariants.{Frames};
 
-use crate::frames::grain_of;
+use crate::front_pass::grain_of;
 use crate::judged::JudgedFront;
 use crate::window::{WindowPass, stopped};
 use rq_front::{HEADER_LEN, version};
@@ -117,7 +117,7 @@ impl GrowingFront {
     }
 
     /// Where the front ends of the bytes that came, and a judge that stands there: what
-    /// `judged_front` answers of them.
+    /// `JudgedFront::of` answers of them.
     pub fn judged<R: Threads + Sync>(
         self,
         rt: &R,

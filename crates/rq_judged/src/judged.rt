@@ -5,11 +5,11 @@ ghost use Rattle.rq_record.specs.declared.fault.Fault.TheVariants.{Resources};
 ghost use Rattle.rq_judged.specs.Checkpoints.{IsBegun};
 ghost use Rattle.rq_judged.specs.JudgedFronts.{IsJudgedBehind, JudgesFront, JudgesFrontAt};
 
-use crate::checkpoint::{Begun, begin_at};
+use crate::checkpoint::Begun;
 use crate::ends::Why;
-use crate::frames::{before, grain_of};
+use crate::frames::before;
 use crate::front::end_of;
-use crate::front_pass::{PassSoFar, judge_each};
+use crate::front_pass::{PassSoFar, grain_of, judge_each};
 use rq_catalog::Judge;
 use rq_front::{HEADER_LEN, log_version};
 use rq_plan::Plan;
@@ -33,39 +33,59 @@ pub struct JudgedFront {
     pub why: Why,
 }
 
-/// The front of a log, with a judge of what may stand behind it. No record is kept, and no queue is
-/// redone.
-///
-/// Refused as `front_end` is.
-pub fn judged_front<R: Threads + Sync>(
-    rt: &R,
-    alloc: Global,
-    bytes: &[u8],
-    plan: &Plan,
-) -> Result<JudgedFront, Fault>
-    ensures { JudgesFront bytes.now result }
-{
-    rq_model::frames_join();
-    rq_model::one_front();
-    let version = log_version(bytes)?;
-    let mut pass = PassSoFar {
-        judge: Judge::new(alloc, version),
-        records: 0,
-        offset: HEADER_LEN,
-    };
-    let why = pass.finish(rt, alloc, bytes, grain_of(plan))?;
-    let PassSoFar {
-        judge,
-        records,
-        offset,
-    } = pass;
-    Ok(JudgedFront {
-        judge,
-        last: before(bytes, offset),
-        used: offset,
-        records,
-        why,
-    })
+impl JudgedFront {
+    /// The front of a log, with a judge of what may stand behind it. No record is kept, and no queue is
+    /// redone.
+    ///
+    /// Refused as `FrontEnd::of` is.
+    pub fn of<R: Threads + Sync>(
+        rt: &R,
+        alloc: Global,
+        bytes: &[u8],
+        plan: &Plan,
+    ) -> Result<JudgedFront, Fault>
+        ensures { JudgesFront bytes.now result }
+    {
+        rq_model::frames_join();
+        rq_model::one_front();
+        let version = log_version(bytes)?;
+        let mut pass = PassSoFar {
+            judge: Judge::new(alloc, version),
+            records: 0,
+            offset: HEADER_LEN,
+        };
+        let why = pass.finish(rt, alloc, bytes, grain_of(plan))?;
+        let PassSoFar {
+            judge,
+            records,
+            offset,
+        } = pass;
+        Ok(JudgedFront {
+            judge,
+            last: before(bytes, offset),
+            used: offset,
+            records,
+            why,
+        })
+    }
+
+    /// The front of a log from the checkpoint at an offset on, with a judge of what may stand behind it:
+    /// it begins in the state that the checkpoint spells. No record is kept, and no queue is redone.
+    ///
+    /// Refused as `restart_at` is.
+    pub fn judged_at<R: Threads + Sync>(
+        rt: &R,
+        alloc: Global,
+        bytes: &[u8],
+        offset: u64,
+        plan: &Plan,
+    ) -> Result<JudgedFront, Fault>
+        ensures { JudgesFrontAt bytes.now offset result }
+    {
+        let begun = Begun::begun_at(rt, alloc, bytes, offset, plan)?;
+        let front = judged_behind(alloc, &begun, bytes)?;
+        Ok(front)
+    }
 }
 
 /// The front behind the checkpoint that a front begins with, and a judge that stands there.
@@ -92,22 +112,4 @@ pub(crate) fn judged_behind(
         records: reach.lawful,
         why,
     })
-}
-
-/// The front of a log from the checkpoint at an offset on, with a judge of what may stand behind it:
-/// it begins in the state that the checkpoint spells. No record is kept, and no queue is redone.
-///
-/// Refused as `restart_at` is.
-pub fn judged_front_at<R: Threads + Sync>(
-    rt: &R,
-    alloc: Global,
-    bytes: &[u8],
-    offset: u64,
-    plan: &Plan,
-) -> Result<JudgedFront, Fault>
-    ensures { JudgesFrontAt bytes.now offset result }
-{
-    let begun = begin_at(rt, alloc, bytes, offset, plan)?;
-    let front = judged_behind(alloc, &begun, bytes)?;
-    Ok(front)
 }

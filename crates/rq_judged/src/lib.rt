@@ -13,9 +13,10 @@ mod growing_front;
 mod judged;
 mod window;
 
-pub use checkpoint::{Begun, begin_at};
-pub use ends::{FrontEnd, Why, front_end, front_end_at};
-pub use frames::{append_frame, before, body_at, grain_of};
-pub use front::{Front, front_of, front_of_walk};
+pub use checkpoint::Begun;
+pub use ends::{FrontEnd, Why};
+pub use frames::{before, body_at};
+pub use front::Front;
+pub use front_pass::grain_of;
 pub use growing_front::GrowingFront;
-pub use judged::{JudgedFront, judged_front, judged_front_at};
+pub use judged::JudgedFront;

@@ -14,8 +14,7 @@ ghost use Rattle.rq_judged.specs.Windows.{log_origin};
 
 use crate::ends::Why;
 use crate::frames::before;
-use crate::front::why_of;
-use crate::front_pass::{Verdict, judge_one, stays};
+use crate::front_pass::{Verdict, judge_one, stays, why_of};
 use crate::judged::JudgedFront;
 use rq_catalog::Judge;
 use rq_front::{HEADER_LEN, LOG_LIMIT, Span, chain};

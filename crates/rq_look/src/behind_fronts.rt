@@ -7,7 +7,7 @@ ghost use Rattle.rq_look.specs.Findings.{EndsWithin, IsBehind, behind_finding, b
 ghost use Rattle.rq_look.specs.Findings as spec;
 ghost use Rattle.rq_look.specs.Findings.{count_text, frames_text, given_up_text};
 
-use rq_behind::{Found, behind};
+use rq_behind::Found;
 use rq_found::{End, Put, is_whole};
 use rq_front::{Span, version};
 use rq_record::Fault;
@@ -24,7 +24,7 @@ pub fn standing_behind(alloc: Global, bytes: &[u8], end: &End) -> Result<Found, 
     let Some(version) = version(bytes) else {
         return Err(Fault::Resources);
     };
-    Ok(behind(alloc, version, bytes, end.used as usize)?)
+    Ok(Found::of(alloc, version, bytes, end.used as usize)?)
 }
 
 /// Whether a frame behind a front may be right in itself: one was found, or the search gave up.

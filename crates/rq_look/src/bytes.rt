@@ -1,7 +1,7 @@
 //! Bytes as text.
 
 use rq_found::TextPiece::{Number, Word};
-use rq_found::{Put, is_hidden, put_digits, put_text_pieces};
+use rq_found::{Put, TextPiece, is_hidden, put_digits};
 use std::alloc::{AllocError, Global};
 use std::str::from_utf8;
 
@@ -79,5 +79,5 @@ pub(crate) fn put_bytes(alloc: Global, text: &mut String, bytes: &[u8], full: bo
     if count <= shown {
         return Ok(());
     }
-    put_text_pieces(text, &[Word(".. "), Number(count as u64), Word(" bytes")])
+    TextPiece::put_all(text, &[Word(".. "), Number(count as u64), Word(" bytes")])
 }

@@ -12,9 +12,7 @@ ghost use Rattle.rq_look.specs.Findings.{end_finding, checkpoint_finding, may_ha
 
 use crate::behind_fronts::{may_have_right, put_rest, standing_behind};
 use rq_behind::Found;
-use rq_found::{
-    Diagnosis, End, Put, ShownLog, Trouble, diagnosis_of, end_of, is_whole, put_beginning, put_end,
-};
+use rq_found::{Diagnosis, End, Put, ShownLog, Trouble, is_whole};
 use rq_record::Fault;
 use rq_restart::{audit, audit_at};
 use std::alloc::{AllocError, Global};
@@ -67,9 +65,9 @@ fn front_text(alloc: Global, at: Option<u64>, end: &End) -> Result<String, Alloc
         (string_bytes end.now.reason)) }
 {
     let mut text = String::new(alloc);
-    put_beginning(&mut text, at)?;
+    End::put_beginning(&mut text, at)?;
     if !is_whole(end.why) {
-        put_end(&mut text, end)?;
+        End::put_end(&mut text, end)?;
     }
     Ok(text)
 }
@@ -100,7 +98,7 @@ fn findings_of(
     Ok(Findings {
         fine: is_fine(end, checkpoints),
         text,
-        diagnosis: diagnosis_of(end, may_have_right(behind), are_true(checkpoints)),
+        diagnosis: Diagnosis::of(end, may_have_right(behind), are_true(checkpoints)),
     })
 }
 
@@ -123,25 +121,27 @@ pub fn audited_from<R: Threads + Sync>(
     }
 }
 
-/// Whether a log is whole and each checkpoint of its front true, and what is wrong with it. A
-/// checkpoint that the log begins with is taken at its word, and the text says where it stands.
-///
-/// Refuses what a restart refuses, from there if the log begins so.
-#[tactic(auto, using(crate::proofs::Puts::resources_refused))]
-pub fn check<R: Threads + Sync>(
-    rt: &R,
-    alloc: Global,
-    log: &ShownLog<'_>,
-) -> Result<Findings, Trouble>
-    ensures checked { IfOk result
-        (λ found. IsFindings log.now.at log.now.bytes.now found.fine (string_bytes found.text)) }
-    ensures diagnosis { IfOk result
-        (λ found. IsDiagnosis log.now.at log.now.bytes.now found.diagnosis) }
-    ensures refused { IfErr result (IsRefusal log.now.at log.now.bytes.now) }
-{
-    let end = end_of(rt, alloc, log)?;
-    let behind = standing_behind(alloc, log.bytes, &end)?;
-    let checkpoints = audited_from(rt, alloc, log)?;
-    let found = findings_of(alloc, log.at, &end, &behind, &checkpoints)?;
-    Ok(found)
+impl Findings {
+    /// Whether a log is whole and each checkpoint of its front true, and what is wrong with it. A
+    /// checkpoint that the log begins with is taken at its word, and the text says where it stands.
+    ///
+    /// Refuses what a restart refuses, from there if the log begins so.
+    #[tactic(auto, using(crate::proofs::Puts::resources_refused))]
+    pub fn of<R: Threads + Sync>(
+        rt: &R,
+        alloc: Global,
+        log: &ShownLog<'_>,
+    ) -> Result<Findings, Trouble>
+        ensures checked { IfOk result
+            (λ found. IsFindings log.now.at log.now.bytes.now found.fine (string_bytes found.text)) }
+        ensures diagnosis { IfOk result
+            (λ found. IsDiagnosis log.now.at log.now.bytes.now found.diagnosis) }
+        ensures refused { IfErr result (IsRefusal log.now.at log.now.bytes.now) }
+    {
+        let end = End::of(rt, alloc, log)?;
+        let behind = standing_behind(alloc, log.bytes, &end)?;
+        let checkpoints = audited_from(rt, alloc, log)?;
+        let found = findings_of(alloc, log.at, &end, &behind, &checkpoints)?;
+        Ok(found)
+    }
 }

@@ -18,8 +18,7 @@ use crate::shown_records::{ShownFrame, ShownRecord};
 use crate::wanted::Wanted;
 use rq_behind::Found;
 use rq_found::{
-    End, Output, PlacedFrames, Put, ShownLog, Trouble, end_of, first_state, form_reason,
-    front_frames, put_beginning, put_end, queues_behind, queues_of,
+    End, Output, PlacedFrames, Put, ShownLog, Trouble, form_reason, queues_behind, queues_of,
 };
 use rq_front::Span;
 use rq_record::{Fault, KeptRecord};
@@ -115,7 +114,7 @@ pub(crate) fn put_closing(alloc: Global, text: &mut String, end: &End, wanted: &
     if wanted.json {
         return put_closing_object(alloc, text, end);
     }
-    Ok(put_end(text, end)?)
+    Ok(End::put_end(text, end)?)
 }
 
 // Puts those records of the front that are wanted. So many queues are defined before the first.
@@ -220,7 +219,7 @@ pub(crate) fn put_origin(text: &mut String, end: &End, wanted: &Wanted<'_>) -> P
     if wanted.json {
         return Ok(());
     }
-    put_beginning(text, end.at)
+    End::put_beginning(text, end.at)
 }
 
 // Writes the line of each record that is wanted, of the front, which begins behind this state, and of
@@ -242,7 +241,7 @@ fn put_lines<W: Output>(
     ensures refused { IfErr result IsBroken }
     ensures faults { CountsFaults (W.faults output.old) (W.faults output.new) result }
 {
-    let frames = front_frames(log.bytes, first, log.at, end.used);
+    let frames = PlacedFrames::front_frames(log.bytes, first, log.at, end.used);
     let queues = queues_of(first.definitions());
     let left = put_records(alloc, frames, queues, wanted, text, output)?;
     put_wanted_behind(alloc, log.bytes, end, wanted, left, text, output)?;
@@ -277,8 +276,8 @@ pub fn dump<R: Threads + Sync, W: Output>(
         (W.contents output.old) (W.contents output.new)) }
     ensures faults { CountsFaults (W.faults output.old) (W.faults output.new) result }
 {
-    let end = end_of(rt, alloc, log)?;
-    let first = first_state(alloc, log.bytes, log.at)?;
+    let end = End::of(rt, alloc, log)?;
+    let first = ShownLog::first_state(alloc, log.bytes, log.at)?;
     let mut text = String::new(alloc);
     put_lines(alloc, log, &end, &first, wanted, &mut text, output)
 }

@@ -17,9 +17,7 @@ use crate::salvages::{put_spans, words_of};
 use crate::sheet::write_out;
 use crate::wanted::Wanted;
 use rq_behind::Found;
-use rq_found::{
-    Diagnosis, End, Fault, Output, ShownLog, Trouble, end_without_front, put_beginning, put_end,
-};
+use rq_found::{Diagnosis, End, Fault, Output, ShownLog, Trouble};
 use rq_front::HEADER_LEN;
 use std::alloc::{AllocError, Global};
 
@@ -35,7 +33,7 @@ fn standing(alloc: Global, log: &ShownLog<'_>) -> Result<(End, Found), Fault>
     if log.bytes.len() < HEADER_LEN {
         return Err(Fault::NotALog);
     }
-    let end = end_without_front(alloc, log)?;
+    let end = End::without_front(alloc, log)?;
     let found = standing_behind(alloc, log.bytes, &end)?;
     Ok((end, found))
 }
@@ -53,26 +51,28 @@ fn finding_text(
         ++ behind_finding (why_of end.now.why) found.now end.now.total) }
 {
     let mut text = String::new(alloc);
-    put_beginning(&mut text, log.at)?;
-    put_end(&mut text, end)?;
+    End::put_beginning(&mut text, log.at)?;
+    End::put_end(&mut text, end)?;
     put_rest(&mut text, end, found)?;
     Ok(text)
 }
 
-/// What a check finds of a carried log, as it is read, which a restart refuses with `NoCheckpoint` or
-/// `BadCheckpoint`: that it has no front, and which frames are right behind where that would begin.
-pub fn check_frontless(alloc: Global, log: &ShownLog<'_>) -> Result<Findings, Trouble>
-    ensures fine { IfOk result (λ found. found.fine ≡ false) }
-    ensures text { IfOk result
-        (λ found. IsFrontless log.now.at log.now.bytes.now (string_bytes found.text)) }
-{
-    let (end, found) = standing(alloc, log)?;
-    let text = finding_text(alloc, log, &end, &found)?;
-    Ok(Findings {
-        fine: false,
-        text,
-        diagnosis: Diagnosis::Damaged,
-    })
+impl Findings {
+    /// What a check finds of a carried log, as it is read, which a restart refuses with `NoCheckpoint` or
+    /// `BadCheckpoint`: that it has no front, and which frames are right behind where that would begin.
+    pub fn of_frontless(alloc: Global, log: &ShownLog<'_>) -> Result<Findings, Trouble>
+        ensures fine { IfOk result (λ found. found.fine ≡ false) }
+        ensures text { IfOk result
+            (λ found. IsFrontless log.now.at log.now.bytes.now (string_bytes found.text)) }
+    {
+        let (end, found) = standing(alloc, log)?;
+        let text = finding_text(alloc, log, &end, &found)?;
+        Ok(Findings {
+            fine: false,
+            text,
+            diagnosis: Diagnosis::Damaged,
+        })
+    }
 }
 
 /// Writes the right frames of such a log that are wanted, how many there are, and that it has no front,

@@ -5,7 +5,7 @@ ghost use Rattle.std.specs.Prelude.{◌≡◌, ◌++◌, ℕ, List, codes, OnOk,
 use crate::bytes::is_plain;
 use crate::shown_records::{ShownRecord, by_of, registrant_of, unit_number};
 use rq_behind::Found;
-use rq_found::{End, FrontShown, Put, front_shown, is_hidden, kind_of};
+use rq_found::{End, FrontShown, Put, is_hidden, kind_of};
 use rq_record::{KeptRecord, QueueNo};
 use serde::Serialize;
 use std::alloc::{AllocError, Global};
@@ -210,7 +210,7 @@ pub(crate) fn put_closing_object(alloc: Global, text: &mut String, end: &End) ->
     ensures { OnOk result ((json : List ℕ)
         × (string_bytes text.new ≡ string_bytes text.old ++ (json ++ codes "\n"))) }
 {
-    let front = front_shown(end);
+    let front = FrontShown::of(end);
     put_json(alloc, text, &ClosingShown { front })
 }
 

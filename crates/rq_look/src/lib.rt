@@ -20,9 +20,9 @@ mod stories;
 mod wanted;
 
 pub use behind_fronts::{may_have_right, put_behind, standing_behind};
-pub use checks::{Findings, audited_from, check};
+pub use checks::{Findings, audited_from};
 pub use dumps::dump;
-pub use frontless::{check_frontless, dump_frontless, salvage_frontless};
+pub use frontless::{dump_frontless, salvage_frontless};
 pub use log_script::script;
 pub use mendings::mended_text;
 pub use reports::report;

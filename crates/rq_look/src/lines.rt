@@ -3,7 +3,7 @@
 use crate::bytes::put_bytes;
 use crate::shown_records::{ShownRecord, unit_number};
 use rq_found::TextPiece::{Number, Word};
-use rq_found::{Put, kind_of, put_text_pieces};
+use rq_found::{Put, TextPiece, kind_of};
 use rq_record::{KeptBy, KeptRecord};
 use rq_report::put_error;
 use std::alloc::Global;
@@ -11,7 +11,7 @@ use std::alloc::Global;
 // Puts a word and a number, if there is one.
 fn put_known(text: &mut String, word: &str, number: Option<u64>) -> Put {
     match number {
-        Some(number) => put_text_pieces(text, &[Word(word), Number(number)]),
+        Some(number) => TextPiece::put_all(text, &[Word(word), Number(number)]),
         None => Ok(()),
     }
 }
@@ -21,7 +21,7 @@ fn put_by(text: &mut String, by: &KeptBy) -> Put {
     match by.by() {
         Some(by) => {
             let (name, tag) = (Word(by.name.text()), Number(by.tag));
-            put_text_pieces(text, &[Word(" by "), name, Word(" tag "), tag])
+            TextPiece::put_all(text, &[Word(" by "), name, Word(" tag "), tag])
         }
         None => text.push_str(" by -"),
     }
@@ -45,11 +45,11 @@ fn put_fields(alloc: Global, text: &mut String, record: &KeptRecord, full: bool)
                 limit,
                 Word(" error "),
             ];
-            put_text_pieces(text, &words)?;
+            TextPiece::put_all(text, &words)?;
             put_error(text, *error)
         }
         KeptRecord::Register { name, .. } | KeptRecord::Deregister { name, .. } => {
-            put_text_pieces(text, &[Word(" name "), Word(name.text())])
+            TextPiece::put_all(text, &[Word(" name "), Word(name.text())])
         }
         KeptRecord::Enqueue {
             priority,
@@ -57,12 +57,12 @@ fn put_fields(alloc: Global, text: &mut String, record: &KeptRecord, full: bool)
             payload,
             ..
         } => {
-            put_text_pieces(text, &[Word(" priority "), Number(u64::from(*priority))])?;
+            TextPiece::put_all(text, &[Word(" priority "), Number(u64::from(*priority))])?;
             put_by(text, by)?;
             put_load(alloc, text, " payload ", payload.bytes(), full)
         }
         KeptRecord::Dequeue { by, .. } => put_by(text, by),
-        KeptRecord::Kill { element, .. } => put_text_pieces(
+        KeptRecord::Kill { element, .. } => TextPiece::put_all(
             text,
             &[Word(" element "), Number(element.0)],
         ),
@@ -84,7 +84,7 @@ pub(crate) fn put_record(
         None => Word("behind"),
     };
     let kind = Word(kind_of(it.record));
-    put_text_pieces(
+    TextPiece::put_all(
         text,
         &[Number(it.offset), Word(" "), number, Word(" "), kind],
     )?;

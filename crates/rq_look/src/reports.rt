@@ -13,8 +13,7 @@ ghost use Rattle.rq_look.specs.Looks.{PutsReportAs, StaysUnreported};
 
 use crate::json::{BytesShown, queue_number, spelled_out, written};
 use rq_found::{
-    End, FrontShown, Output, OverWrite, RegistrantShown, ShownLog, Trouble, end_after, front_shown,
-    put_beginning, registrants_shown, restarted_from, write_bytes,
+    End, FrontShown, Output, OverWrite, RegistrantShown, ShownLog, Trouble, write_bytes,
 };
 use rq_record::QueueNo;
 use rq_report::{free_elements, queue_report, write_report_by};
@@ -80,7 +79,7 @@ fn queue_shown<'a>(
         limit: definition.limit,
         error: queue_number(definition.error),
         elements: elements_shown(alloc, state, queue)?,
-        registrants: registrants_shown(alloc, state, queue)?,
+        registrants: RegistrantShown::all_of(alloc, state, queue)?,
     })
 }
 
@@ -127,7 +126,7 @@ fn restarted_with<R: Threads + Sync>(
         (λ r. IsRestartFrom log.now.at log.now.bytes.now r × HasQueue r wanted) }
     ensures refused { IfErr result (LacksReport log.now.at log.now.bytes.now wanted) }
 {
-    let restarted = restarted_from(rt, alloc, log)?;
+    let restarted = log.restarted(rt, alloc)?;
     match wanted {
         Some(queue) if queue as usize >= restarted.state().definitions().len() => {
             Err(Trouble::NoQueue(queue))
@@ -146,7 +145,7 @@ fn json_of(
     ensures { IfOk result (λ text. (json : List ℕ) × (string_bytes text ≡ json ++ codes "\n")) }
 {
     let report = ReportShown {
-        front: front_shown(end),
+        front: FrontShown::of(end),
         units: UnitsShown {
             committed: restarted.committed(),
             aborted: restarted.aborted(),
@@ -201,7 +200,7 @@ fn beginning_of(alloc: Global, at: Option<u64>) -> Result<String, AllocError>
     ensures { IfOk result (λ text. string_bytes text ≡ beginning_text at) }
 {
     let mut text = String::new(alloc);
-    put_beginning(&mut text, at)?;
+    End::put_beginning(&mut text, at)?;
     Ok(text)
 }
 
@@ -308,7 +307,7 @@ pub fn report<R: Threads + Sync, W: Output>(
 {
     let restarted = restarted_with(rt, alloc, log, wanted)?;
     if json {
-        let end = end_after(rt, alloc, log, &restarted)?;
+        let end = End::after_restart(rt, alloc, log, &restarted)?;
         put_json(alloc, &restarted, &end, wanted, output)
     } else {
         put_text(rt, alloc, log, &restarted, wanted, output)

@@ -15,7 +15,7 @@ use crate::log_script::{is_untold, put_front_script, put_line};
 use crate::sheet::{relieve, write_out};
 use crate::shown_records::ShownFrame;
 use rq_behind::Found;
-use rq_found::{End, Output, Put, ShownLog, Trouble, form_reason, is_whole, put_end};
+use rq_found::{End, Output, Put, ShownLog, Trouble, form_reason, is_whole};
 use rq_record::Fault;
 use std::alloc::{AllocError, Global};
 use std::fmt::Write;
@@ -116,7 +116,7 @@ pub(crate) fn words_of(alloc: Global, end: &End, found: &Found) -> Result<String
 {
     let advice = advice_of(alloc, found, end.total)?;
     let mut text = String::from_str(alloc, "# ")?;
-    put_end(&mut text, end)?;
+    End::put_end(&mut text, end)?;
     text.push_str(advice.as_str())?;
     Ok(text)
 }

@@ -2,6 +2,7 @@
 
 ghost use Rattle.std.specs.Prelude.{◌≡◌, ◌<◌, [], IfOk, IfErr, OnOk, string_bytes};
 ghost use Rattle.rq_front.specs.Chains.{IsLog};
+ghost use Rattle.rq_record.specs.declared.fault.Fault.TheVariants.{Resources};
 ghost use Rattle.rq_found.specs.Refusals.{CountsFaults, IsBroken};
 ghost use Rattle.rq_look.specs.Looks.{AppendsSome, LacksStory, StaysWithoutStory};
 
@@ -9,9 +10,9 @@ use crate::lines::put_record;
 use crate::sheet::{relieve, write_out};
 use crate::shown_records::{ShownRecord, unit_number};
 use rq_found::{
-    End, Event, FollowedQueues, Numbered, Output, Placed, PlacedFrames, Put, ShownLog, Subject,
-    Trouble, end_of, first_state, front_frames, put_beginning, put_end,
+    End, Event, Followed, Numbered, Output, Placed, PlacedFrames, Put, ShownLog, Subject, Trouble,
 };
+use rq_record::Fault;
 use std::alloc::{AllocError, Global};
 use std::fmt::Write;
 use std::thread::Threads;
@@ -85,7 +86,7 @@ fn tell_record<W: Output>(
     alloc: Global,
     placed: Placed<'_>,
     subject: Subject,
-    machine: &mut FollowedQueues,
+    followed: &mut Followed,
     text: &mut String,
     output: &mut W,
 ) -> Result<u64, Trouble>
@@ -96,8 +97,8 @@ fn tell_record<W: Output>(
     ensures refused { IfErr result IsBroken }
     ensures faults { CountsFaults (W.faults output.old) (W.faults output.new) result }
 {
-    let it = machine.follow(placed)?;
-    let count = put_events(alloc, text, &Cause::Record(&it), machine.events(), subject)?;
+    let it = followed.follow(placed)?;
+    let count = put_events(alloc, text, &Cause::Record(&it), followed.events(), subject)?;
     relieve(text, output)?;
     Ok(count)
 }
@@ -106,7 +107,7 @@ fn tell_record<W: Output>(
 fn tell_front<W: Output>(
     alloc: Global,
     frames: PlacedFrames<'_>,
-    machine: &mut FollowedQueues,
+    followed: &mut Followed,
     subject: Subject,
     text: &mut String,
     output: &mut W,
@@ -121,7 +122,7 @@ fn tell_front<W: Output>(
 {
     let mut told: u64 = 0;
     for placed in frames {
-        let count = tell_record(alloc, placed, subject, machine, text, output)?;
+        let count = tell_record(alloc, placed, subject, followed, text, output)?;
         told = told.saturating_add(count);
     }
     Ok(told)
@@ -131,17 +132,19 @@ fn tell_front<W: Output>(
 fn tell_restart(
     alloc: Global,
     text: &mut String,
-    machine: &mut FollowedQueues,
+    followed: &mut Followed,
     subject: Subject,
-) -> Put {
-    let units = machine.open_units()?;
+) -> Result<(), Fault>
+    ensures { IfErr result (λ e. e ≡ Resources) }
+{
+    let units = followed.machine().open_units(alloc)?;
     for unit in units.iter() {
-        machine.abort(*unit)?;
+        followed.abort(*unit)?;
         put_events(
             alloc,
             text,
-            &Cause::Restart(*unit),
-            machine.events(),
+            &Cause::Restart(unit.0),
+            followed.events(),
             subject,
         )?;
     }
@@ -152,7 +155,7 @@ fn tell_restart(
 fn tell_all<W: Output>(
     alloc: Global,
     frames: PlacedFrames<'_>,
-    machine: &mut FollowedQueues,
+    followed: &mut Followed,
     end: &End,
     subject: Subject,
     text: &mut String,
@@ -165,13 +168,13 @@ fn tell_all<W: Output>(
         (LacksStory subject (W.contents output.old) (W.contents output.new)) }
     ensures faults { CountsFaults (W.faults output.old) (W.faults output.new) result }
 {
-    let told = tell_front(alloc, frames, machine, subject, text, output)?;
+    let told = tell_front(alloc, frames, followed, subject, text, output)?;
     if told == 0 {
         return Err(Trouble::Nothing(subject));
     }
-    put_beginning(text, end.at)?;
-    put_end(text, end)?;
-    tell_restart(alloc, text, machine, subject)?;
+    End::put_beginning(text, end.at)?;
+    End::put_end(text, end)?;
+    tell_restart(alloc, text, followed, subject)?;
     write_out(text, output)?;
     Ok(())
 }
@@ -189,11 +192,19 @@ fn tell<W: Output>(
         (LacksStory subject (W.contents output.old) (W.contents output.new)) }
     ensures faults { CountsFaults (W.faults output.old) (W.faults output.new) result }
 {
-    let first = first_state(alloc, bytes, end.at)?;
-    let mut machine = FollowedQueues::of(alloc, &first)?;
+    let first = ShownLog::first_state(alloc, bytes, end.at)?;
+    let mut followed = Followed::of(alloc, &first)?;
     let mut text = String::new(alloc);
-    let frames = front_frames(bytes, &first, end.at, end.used);
-    tell_all(alloc, frames, &mut machine, end, subject, &mut text, output)
+    let frames = PlacedFrames::front_frames(bytes, &first, end.at, end.used);
+    tell_all(
+        alloc,
+        frames,
+        &mut followed,
+        end,
+        subject,
+        &mut text,
+        output,
+    )
 }
 
 /// Writes what became of an element, or what a unit did: a line for each record of the front that
@@ -217,6 +228,6 @@ pub fn story<R: Threads + Sync, W: Output>(
         (W.contents output.old) (W.contents output.new)) }
     ensures faults { CountsFaults (W.faults output.old) (W.faults output.new) result }
 {
-    let end = end_of(rt, alloc, log)?;
+    let end = End::of(rt, alloc, log)?;
     tell(alloc, log.bytes, &end, subject, output)
 }

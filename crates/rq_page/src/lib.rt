@@ -18,5 +18,5 @@ mod surveys;
 mod tables;
 mod units;
 
-pub use markup::{BEGINNING, put_text};
+pub use markup::BEGINNING;
 pub use pages::{Asked, Order, page};

@@ -7,9 +7,7 @@ ghost use Rattle.rq_found.specs.declared.trouble.Trouble.TheVariants.{Log};
 use crate::records::{Happening, put_row};
 use crate::shown::{Linkable, Linked};
 use crate::steps::{At, STEPS, Step, step_of, step_of_operation, step_of_unit};
-use rq_found::{
-    End, Event, FollowedQueues, Numbered, PlacedFrames, Trouble, front_frames, unit_of,
-};
+use rq_found::{End, Event, Followed, Numbered, PlacedFrames, Trouble, unit_of};
 use rq_record::{Fault, KeptRecord, Name};
 use rq_state::State;
 use std::alloc::{AllocError, Global};
@@ -214,17 +212,17 @@ impl Lives {
         alloc: Global,
         shown: &Linked<'_>,
         frames: PlacedFrames<'_>,
-        machine: &mut FollowedQueues,
+        followed: &mut Followed,
         truths: &BTreeMap<u64, bool>,
     ) -> Result<(), Fault>
         ensures { IfErr result (λ e. e ≡ Resources) }
     {
         for placed in frames {
             let truth = truths.get(&placed.offset).copied().unwrap_or(true);
-            let it = machine.follow(placed)?;
+            let it = followed.follow(placed)?;
             let done = Happening {
                 it: &it,
-                events: machine.events(),
+                events: followed.events(),
                 truth,
             };
             self.take(alloc, shown, &done)?;
@@ -237,14 +235,16 @@ impl Lives {
         &mut self,
         alloc: Global,
         shown: &Linked<'_>,
-        machine: &mut FollowedQueues,
-    ) -> Result<(), AllocError> {
-        for unit in machine.open_units()? {
-            machine.abort(unit)?;
-            self.take_elements(alloc, shown, machine.events(), At::Restart, Some(unit))?;
-            if shown.shows(Linkable::Unit, unit) {
+        followed: &mut Followed,
+    ) -> Result<(), Fault>
+        ensures { IfErr result (λ e. e ≡ Resources) }
+    {
+        for unit in followed.machine().open_units(alloc)? {
+            followed.abort(unit)?;
+            self.take_elements(alloc, shown, followed.events(), At::Restart, Some(unit.0))?;
+            if shown.shows(Linkable::Unit, unit.0) {
                 let step = Step::of("back", "aborted", At::Restart);
-                add(alloc, &mut self.units, unit, &step)?;
+                add(alloc, &mut self.units, unit.0, &step)?;
             }
         }
         Ok(())
@@ -280,9 +280,9 @@ pub(crate) fn lives_of(
         return Ok(lives);
     }
     let truths = truths_of(alloc, checkpoints)?;
-    let mut machine = FollowedQueues::of(alloc, first)?;
-    let frames = front_frames(bytes, first, end.at, end.used);
-    lives.walk(alloc, shown, frames, &mut machine, &truths)?;
-    lives.take_restart(alloc, shown, &mut machine)?;
+    let mut followed = Followed::of(alloc, first)?;
+    let frames = PlacedFrames::front_frames(bytes, first, end.at, end.used);
+    lives.walk(alloc, shown, frames, &mut followed, &truths)?;
+    lives.take_restart(alloc, shown, &mut followed)?;
     Ok(lives)
 }

@@ -80,7 +80,7 @@ pub(crate) fn put_char(text: &mut String, c: char) -> Put
 /// Puts a text into HTML: each character that HTML takes for its own is spelled out, and each hidden
 /// one is shown by its picture, or as one that is not known. Refuses if memory is refused, and
 /// then some of it may stand there.
-pub fn put_text(text: &mut String, word: &str) -> Put
+pub(crate) fn put_text(text: &mut String, word: &str) -> Put
     ensures { OnOk result (AppendsText (string_bytes text.old) (string_bytes text.new)) }
 {
     for c in word.chars() {

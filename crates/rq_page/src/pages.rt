@@ -21,10 +21,7 @@ use crate::surveys::{Survey, surveyed};
 use crate::tables::put_queue_table;
 use crate::units::put_open;
 use rq_behind::Found;
-use rq_found::{
-    End, Output, Put, ShownLog, Trouble, diagnosis_of, end_after, first_state, restarted_from,
-    write_bytes,
-};
+use rq_found::{Diagnosis, End, Output, Put, ShownLog, Trouble, write_bytes};
 use rq_look::{audited_from, may_have_right, standing_behind};
 use rq_restart::Restarted;
 use rq_state::State;
@@ -100,8 +97,8 @@ fn found_in<R: Threads + Sync>(
     ensures refused { IfErr result (λ e. (IsLog log.now.bytes.now × (e ≡ Log Resources))
         ⊎ IsRefusal log.now.at log.now.bytes.now e) }
 {
-    let restarted = restarted_from(rt, alloc, log)?;
-    let end = end_after(rt, alloc, log, &restarted)?;
+    let restarted = log.restarted(rt, alloc)?;
+    let end = End::after_restart(rt, alloc, log, &restarted)?;
     let behind = standing_behind(alloc, log.bytes, &end)?;
     let checkpoints = audited_from(rt, alloc, log)?;
     Ok(RestartedLog {
@@ -122,7 +119,7 @@ fn contents_of(
 {
     let elements = asked.elements.to_vec(alloc)?;
     let units = asked.units.to_vec(alloc)?;
-    let first = first_state(alloc, bytes, found.end.at)?;
+    let first = ShownLog::first_state(alloc, bytes, found.end.at)?;
     let seen = surveyed(alloc, bytes, &first, &found.end, found.restarted.state())?;
     Ok(Contents {
         found,
@@ -193,7 +190,7 @@ fn put_top(
     put_head(alloc, text, asked.name)?;
     let checkpoints = found.checkpoints.as_slice();
     let is_sound = checkpoints.iter().all(|checkpoint| checkpoint.1);
-    let diagnosis = diagnosis_of(end, may_have_right(&found.behind), is_sound);
+    let diagnosis = Diagnosis::of(end, may_have_right(&found.behind), is_sound);
     put_header(alloc, text, asked, restarted, end, diagnosis)?;
     put_parts(text, &told.lives, told.all)?;
     text.push_str("<main>\n")?;

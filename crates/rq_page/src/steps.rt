@@ -4,6 +4,7 @@ use crate::markup::Html::{Count, Number, Tag};
 use crate::markup::{put_html, put_optional};
 use crate::shown::{Linkable, Linked};
 use rq_found::{Effect, Event, Numbered, Put, unit_of};
+use rq_queue::Fate;
 use rq_record::KeptRecord;
 
 /// As many steps of one life are kept.
@@ -60,26 +61,33 @@ impl Step {
     }
 }
 
+// What became of an element.
+fn step_of_fate(fate: Fate, at: At) -> Step {
+    match fate {
+        Fate::Freed(queue) => Step {
+            queue: Some(queue.0),
+            ..Step::of("free", "free in", at)
+        },
+        Fate::Gone => Step::of("gone", "gone", at),
+        Fate::Undone => Step::of("gone", "not put in after all", at),
+        Fate::Back(queue, attempts) => Step {
+            queue: Some(queue.0),
+            attempts: Some(attempts),
+            ..Step::of("back", "back in", at)
+        },
+        Fate::Moved(queue) => Step {
+            queue: Some(queue.0),
+            ..Step::of("moved", "moved to", at)
+        },
+    }
+}
+
 // What happened to an element.
 fn step_of_effect(effect: Effect, at: At) -> Step {
     match effect {
         Effect::Put => Step::of("put", "put in", at),
         Effect::Taken => Step::of("taken", "taken", at),
-        Effect::Free(queue) => Step {
-            queue: Some(queue),
-            ..Step::of("free", "free in", at)
-        },
-        Effect::Gone => Step::of("gone", "gone", at),
-        Effect::Undone => Step::of("gone", "not put in after all", at),
-        Effect::Back(queue, attempts) => Step {
-            queue: Some(queue),
-            attempts: Some(attempts),
-            ..Step::of("back", "back in", at)
-        },
-        Effect::Moved(queue) => Step {
-            queue: Some(queue),
-            ..Step::of("moved", "moved to", at)
-        },
+        Effect::Ended(fate) => step_of_fate(fate, at),
     }
 }
 

@@ -5,7 +5,7 @@ use crate::markup::Html::{Count, Number, Tag, Text};
 use crate::markup::{Html, put_html, put_optional};
 use crate::pages::Asked;
 use rq_behind::Found;
-use rq_found::{Diagnosis, End, Put, is_whole, put_diagnosis};
+use rq_found::{Diagnosis, End, Put, is_whole};
 use rq_look::put_behind;
 use rq_report::why_word;
 use rq_restart::Restarted;
@@ -150,7 +150,7 @@ const HEADER: &str =
 // Puts the verdict on a log, and what to do next, where this stands for it in a line that is typed.
 fn put_diagnosed(alloc: Global, text: &mut String, typed: &str, diagnosis: Diagnosis) -> Put {
     let mut said = String::new(alloc);
-    put_diagnosis(&mut said, diagnosis, typed)?;
+    diagnosis.put_verdict(&mut said, typed)?;
     let class = match diagnosis {
         Diagnosis::Whole => "whole",
         _ => "bad",

@@ -5,7 +5,8 @@ ghost use Rattle.rq_record.specs.declared.fault.Fault.TheVariants.{Resources};
 ghost use Rattle.rq_found.specs.declared.trouble.Trouble.TheVariants.{Log};
 
 use crate::curves::{Curve, bin_of};
-use rq_found::{Effect, End, Event, FollowedQueues, Numbered, Trouble, front_frames, kind_of};
+use rq_found::{Effect, End, Event, Followed, Numbered, PlacedFrames, Trouble, kind_of};
+use rq_queue::Fate;
 use rq_record::{Fault, KeptRecord, QueueNo};
 use rq_state::{Mark, State};
 use std::alloc::{AllocError, Global};
@@ -45,23 +46,31 @@ fn count(bin: &mut Bin, kind: &'static str) -> Result<(), AllocError> {
     Ok(())
 }
 
+// The queue that has one free element more, or one fewer, as an element's unit ends or it is killed.
+fn change_by(it: &Numbered, fate: Fate) -> Option<(u32, bool)> {
+    match fate {
+        Fate::Freed(queue) | Fate::Back(queue, _) | Fate::Moved(queue) => Some((queue.0, true)),
+        // A commit's elements were taken before; a KILL's was free.
+        Fate::Gone => match &it.record {
+            KeptRecord::Kill { queue, .. } => Some((queue.0, false)),
+            _ => None,
+        },
+        Fate::Undone => None,
+    }
+}
+
 // The queue that has one free element more, or one fewer.
 fn change_of(it: &Numbered, event: &Event) -> Option<(u32, bool)> {
     let Event::To(_, effect) = event else {
         return None;
     };
     match effect {
-        Effect::Free(queue) | Effect::Back(queue, _) | Effect::Moved(queue) => Some((*queue, true)),
         Effect::Taken => match it.queue() {
             Some(queue) => Some((queue.0, false)),
             None => None,
         },
-        // A commit's elements were taken before; a KILL's was free.
-        Effect::Gone => match &it.record {
-            KeptRecord::Kill { queue, .. } => Some((queue.0, false)),
-            _ => None,
-        },
-        Effect::Put | Effect::Undone => None,
+        Effect::Ended(fate) => change_by(it, *fate),
+        Effect::Put => None,
     }
 }
 
@@ -145,10 +154,10 @@ impl Survey {
     fn walk(&mut self, alloc: Global, bytes: &[u8], first: &State, end: &End) -> Result<(), Fault>
         ensures { IfErr result (λ e. e ≡ Resources) }
     {
-        let mut machine = FollowedQueues::of(alloc, first)?;
-        for placed in front_frames(bytes, first, end.at, end.used) {
-            let it = machine.follow(placed)?;
-            self.take(alloc, &it, machine.events(), end.total)?;
+        let mut followed = Followed::of(alloc, first)?;
+        for placed in PlacedFrames::front_frames(bytes, first, end.at, end.used) {
+            let it = followed.follow(placed)?;
+            self.take(alloc, &it, followed.events(), end.total)?;
         }
         Ok(())
     }

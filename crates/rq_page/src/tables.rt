@@ -7,7 +7,7 @@ use crate::markup::put_html;
 use crate::pages::Order;
 use crate::shown::{Linked, QUEUES};
 use crate::surveys::{FEW_BINS, Survey};
-use rq_found::{End, Put, registrants_shown};
+use rq_found::{End, Put, RegistrantShown};
 use rq_record::{Name, QueueNo};
 use rq_report::free_elements;
 use rq_state::{Definition, State};
@@ -112,7 +112,7 @@ fn put_queue(alloc: Global, text: &mut String, hall: &Hall<'_>, line: &QueueRow)
     };
     put_row(text, hall, line, definition)?;
     let elements = free_elements(alloc, hall.state, QueueNo(line.number))?;
-    let registrants = registrants_shown(alloc, hall.state, QueueNo(line.number))?;
+    let registrants = RegistrantShown::all_of(alloc, hall.state, QueueNo(line.number))?;
     put_fold(
         alloc,
         text,

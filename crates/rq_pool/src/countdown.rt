@@ -16,8 +16,8 @@ mod pass;
 mod plays;
 mod steps;
 
+pub use arrival::Arrival;
 use arrival::noted;
-pub use arrival::{Arrival, Entry};
 use atomic_table::Table;
 use closing::Arrivals;
 pub use closing::Closing;

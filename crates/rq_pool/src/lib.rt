@@ -13,7 +13,7 @@ mod room;
 mod seat;
 mod vault;
 
-pub use countdown::{Arrival, Closing, Countdown, Entry, Fits, Pass};
+pub use countdown::{Arrival, Closing, Countdown, Fits, Pass};
 pub use room::{Left, Room};
 pub use rq_plan::{Gate, Open, Plan};
 pub use seat::Seat;

@@ -18,8 +18,10 @@ use Rattle.rq_queue.specs.Kept.{items_of, Entry, IsKeyed, IsOfUnit, Stowed, Amon
 use Rattle.rq_queue.proofs.ByNumber.{each_front}
 use Rattle.rq_queue.proofs.Sorting.{each_unsorted, held_sorted, apart_into, apart_from, sorted_from}
 use Rattle.rq_model.proofs.Apart.{Apart}
-use Rattle.rq_queue.proofs.Firsts.{IsBehind, first_held, best_is, no_best}
+use Rattle.rq_queue.proofs.Firsts.{IsBehind, first_held, best_is, best_itself, no_best}
 use Rattle.std.specs.BTreeMap.{insert_entry}
+use Rattle.std.specs.Prelude.{slice_get}
+use Rattle.std.specs.List.Sorted.{IsStrictlySortedBy}
 use Rattle.std.specs.Ordering.{match_ordering}
 use Rattle.rq_model.specs.States.{Definition, is_held, is_fresh}
 use Rattle.rq_queue.proofs.Moving.{behind, rank_cmp, none_held}
@@ -107,6 +109,47 @@ best_first queue x all rest old split keyed units first home =
     ap (λ (es : List Entry). option_map (λ (e : Element). e.id) (best queue (sorted (values_of es ++ items_of old))))
     split
     ∙ best_is queue x.1 (values_of rest ++ items_of old) facts.0 facts.1
+
+-- and it is the best itself
+pub best_entry : (queue : ℕ) (x : Entry) (all rest : List Entry) (old : Lists) → all ≡ x ∷ rest
+    → AllByRecursion IsKeyed all → AllByRecursion IsOfUnit old
+    → AllByRecursion (λ (k : Reverse ℕ × ℕ). rank_cmp (x.0.0.0, x.0.1) (k.0.0, k.1) ≡ Less) (keys_of rest)
+    → AllByRecursion (λ e. e.home ≡ queue) (sorted (values_of all ++ items_of old))
+    → best queue (sorted (values_of all ++ items_of old)) ≡ Some x.1
+best_entry queue x all rest old split keyed units first home =
+    let facts = first_facts queue x all rest old split keyed units first home in
+    ap (λ (es : List Entry). best queue (sorted (values_of es ++ items_of old))) split
+    ∙ best_itself queue x.1 (values_of rest ++ items_of old) facts.0 facts.1
+
+pub no_entry : (queue : ℕ) (old : Lists) → AllByRecursion IsOfUnit old
+    → best queue (sorted (items_of old)) ≡ None
+no_entry queue old units = no_best queue (items_of old) (none_free queue old units)
+
+best_there : (queue : ℕ) (x : Entry) (k : Reverse ℕ × ℕ) (e : Element) (rest : List Entry) (old : Lists)
+    → slice_get (x ∷ rest) 0 ≡ Some (k, e)
+    → IsStrictlySortedBy (λ (a b : Reverse ℕ × ℕ). rank_cmp (a.0.0, a.1) (b.0.0, b.1)) (x.0 ∷ keys_of rest)
+    → AllByRecursion IsKeyed (x ∷ rest) → AllByRecursion IsOfUnit old
+    → AllByRecursion (λ e. e.home ≡ queue) (sorted (values_of (x ∷ rest) ++ items_of old))
+    → best queue (sorted (values_of (x ∷ rest) ++ items_of old)) ≡ Some e
+unfolding IsStrictlySortedBy
+best_there queue x k e rest old is rise keyed units home =
+    best_entry queue x (x ∷ rest) rest old refl keyed units rise.0 home
+    ∙ ap (option_map (λ (y : Entry). y.1)) is
+
+-- what stands first among the Free ones is the best
+pub best_stands_first : (queue : ℕ) (es : List Entry) (k : Reverse ℕ × ℕ) (e : Element) (old : Lists)
+    → slice_get es 0 ≡ Some (k, e)
+    → IsStrictlySortedBy (λ (a b : Reverse ℕ × ℕ). rank_cmp (a.0.0, a.1) (b.0.0, b.1)) (keys_of es)
+    → AllByRecursion IsKeyed es → AllByRecursion IsOfUnit old
+    → AllByRecursion (λ e. e.home ≡ queue) (sorted (values_of es ++ items_of old))
+    → best queue (sorted (values_of es ++ items_of old)) ≡ Some e
+best_stands_first queue [] k e old is rise keyed units home = absurd (cc)
+best_stands_first queue (x ∷ rest) k e old is rise keyed units home =
+    best_there queue x k e rest old is rise keyed units home
+
+pub emptied_by_len : (es : List Entry) → length es ≡ 0 → es ≡ []
+emptied_by_len [] h = refl
+emptied_by_len (x ∷ es) h = absurd (omega arith)
 
 emptied : (es : List Entry) → (0 < length es → false ≡ true) → es ≡ []
 emptied [] h = refl

@@ -58,7 +58,7 @@ find_none : (p : Element → Bool) (es : List Element) → AllByRecursion (λ e.
 find_none p [] h = refl
 find_none p (e ∷ es) h = ap (λ b. cond b (Some e) (find p es)) h.0 ∙ find_none p es h.1
 
-any_sorted : (p : Element → Bool) (xs : List Element) → list_any p (sorted xs) ≡ list_any p xs
+pub any_sorted : (p : Element → Bool) (xs : List Element) → list_any p (sorted xs) ≡ list_any p xs
 any_sorted p [] = refl
 any_sorted p (x ∷ xs) = any_put p id_before x (sorted xs) ∙ ap (λ b. p x || b) (any_sorted p xs)
 
@@ -70,6 +70,27 @@ best_is queue e es t h = find_among (is_best queue (sorted (e ∷ es))) e.id (so
     (each_sorted (λ f. is_best queue (sorted (e ∷ es)) f ≡ true → f.id ≡ e.id) (e ∷ es) (
       (λ _. refl),
       each_weaker (IsBehind queue e) (λ f. is_best queue (sorted (e ∷ es)) f ≡ true → f.id ≡ e.id)
+          (λ f k b. absurd (false≢true (sym (best_any_order queue (e ∷ es) f ∙ not_best queue e f es t k) ∙ b))) es h,
+    ))
+    (any_sorted (is_best queue (sorted (e ∷ es))) (e ∷ es)
+    ∙ ap (λ b. b || list_any (is_best queue (sorted (e ∷ es))) es)
+    (best_any_order queue (e ∷ es) e ∙ first_best queue e es t h))
+
+-- the first that passes, if no other passes
+find_itself : (p : Element → Bool) (x : Element) (es : List Element) → AllByRecursion (λ e. p e ≡ true → e ≡ x) es
+    → list_any p es ≡ true → find p es ≡ Some x
+find_itself p x [] h k = absurd (false≢true k)
+find_itself p x (e ∷ es) h k = by_cases (p e)
+    (λ b. p e ≡ b → (b || list_any p es) ≡ true → cond b (Some e) (find p es) ≡ Some x)
+    (λ _ t _. ap (λ n. Some n) (h.0 t)) (λ _ _ l. find_itself p x es h.1 l) refl k
+
+-- the best is the first itself
+pub best_itself : (queue : ℕ) (e : Element) (es : List Element) → is_free_at queue e ≡ true
+    → AllByRecursion (IsBehind queue e) es → best queue (sorted (e ∷ es)) ≡ Some e
+best_itself queue e es t h = find_itself (is_best queue (sorted (e ∷ es))) e (sorted (e ∷ es))
+    (each_sorted (λ f. is_best queue (sorted (e ∷ es)) f ≡ true → f ≡ e) (e ∷ es) (
+      (λ _. refl),
+      each_weaker (IsBehind queue e) (λ f. is_best queue (sorted (e ∷ es)) f ≡ true → f ≡ e)
           (λ f k b. absurd (false≢true (sym (best_any_order queue (e ∷ es) f ∙ not_best queue e f es t k) ∙ b))) es h,
     ))
     (any_sorted (is_best queue (sorted (e ∷ es))) (e ∷ es)

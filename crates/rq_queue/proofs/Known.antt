@@ -106,7 +106,7 @@ known_killed o queue id es h = known_by o es _
 
 -- The element of an id, if its priority is known.
 
-no_such : (id : ℕ) (by_id : List (ℕ × ℕ)) → lookup (is_at (nat_cmp id)) by_id ≡ None → (e : Element) → IsKnown by_id e
+pub no_such : (id : ℕ) (by_id : List (ℕ × ℕ)) → lookup (is_at (nat_cmp id)) by_id ≡ None → (e : Element) → IsKnown by_id e
     → not (e.id == id) ≡ true
 no_such id by_id n e k = grind (arith, nat_tests, cases_eq e.id id)
 

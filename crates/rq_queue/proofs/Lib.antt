@@ -14,3 +14,5 @@ pub mod Cases
 pub mod Known
 pub mod Building
 pub mod Gathered
+pub mod Listing
+pub mod Searching

@@ -18,7 +18,7 @@ use Rattle.rq_queue.proofs.Firsts.{IsBehind}
 abbrev pub rank_cmp : ℕ × ℕ → ℕ × ℕ → Ordering
 rank_cmp a b = ordering_then (nat_cmp b.0 a.0) (nat_cmp a.1 b.1)
 
-less_leads : (p i q j : ℕ) → rank_cmp (p, i) (q, j) ≡ Less
+pub less_leads : (p i q j : ℕ) → rank_cmp (p, i) (q, j) ≡ Less
     → ((nat_lt q p || ((q == p) && nat_le i j)) ≡ true) × ((nat_lt p q || ((p == q) && nat_le j i)) ≡ false)
 less_leads p i q j h = (
   grind (arith, nat_tests, cases_Bool (nat_lt q p), cases_Bool (q == p), cases_Bool (nat_lt i j)),

@@ -1,9 +1,9 @@
 -- What is done to the registrants of a queue.
 use Rattle.std.proofs.Common.{inl, inr, ◌≡◌, ◌+◌, ◌<◌, ◌≤◌, ℕ, zero, suc, Bool, true, false, cond, not, ◌&&◌, ◌||◌}
-use Rattle.std.proofs.Common.{◌==◌, List, [], ◌∷◌, Option, Some, None, is_some, map, length, refl, sym, ap, ◌∙◌, arith}
+use Rattle.std.proofs.Common.{◌==◌, List, [], ◌∷◌, Option, Some, None, option_map, is_some, map, length, refl, sym, ap, ◌∙◌, arith}
 use Rattle.std.proofs.Common.{if◌then◌else◌}
 use Rattle.std.specs.Prelude.{nat_lt, slice_index_or}
-use Rattle.std.specs.List.{list_any, AllByRecursion}
+use Rattle.std.specs.List.{list_any, find, AllByRecursion}
 use Rattle.std.specs.Map.{lookup, remove_entry, set_value}
 use Rattle.std.specs.BTreeMap.{insert_entry, is_at}
 use Rattle.std.specs.Ordering.{is_eq, match_ordering, nat_cmp, ordering_reverse}
@@ -65,7 +65,7 @@ none_of (Some x) h = absurd (false≢true (sym h))
 
 -- REGISTER
 
-any_registrant : (queue : ℕ) (name : List ℕ) (es : List RollEntry)
+pub any_registrant : (queue : ℕ) (name : List ℕ) (es : List RollEntry)
     → list_any (is_registrant queue name) (map (registrant_of queue) es)
     ≡ is_some (lookup (is_at (slice_cmp nat_cmp name)) es)
 any_registrant queue name es = through es ∙ any_at (slice_cmp nat_cmp) nat_list_cmp_total name es
@@ -74,6 +74,20 @@ any_registrant queue name es = through es ∙ any_at (slice_cmp nat_cmp) nat_lis
         ≡ list_any (λ (e : RollEntry). is_eq (slice_cmp nat_cmp name e.0)) es
     through [] = refl
     through (x ∷ es) = λ i. sym (registrant_is queue name x) i || through es i
+
+-- who is registered by the name has the last operation that stands under it
+pub last_registrant : (queue : ℕ) (name : List ℕ) (es : List RollEntry)
+    → option_map (λ (r : Registrant). r.last) (find (is_registrant queue name) (map (registrant_of queue) es))
+    ≡ lookup (is_at (slice_cmp nat_cmp name)) es
+last_registrant queue name [] = refl
+last_registrant queue name (x ∷ es) =
+    ap (λ b. option_map (λ (r : Registrant). r.last) (cond b (Some (registrant_of queue x))
+    (find (is_registrant queue name) (map (registrant_of queue) es)))) (sym (registrant_is queue name x))
+    ∙ by_cases (is_eq (slice_cmp nat_cmp name x.0))
+    (λ b. option_map (λ (r : Registrant). r.last) (cond b (Some (registrant_of queue x))
+    (find (is_registrant queue name) (map (registrant_of queue) es)))
+    ≡ cond b (Some x.1) (lookup (is_at (slice_cmp nat_cmp name)) es))
+    (λ _. refl) (λ _. last_registrant queue name es)
 
 pub still_registered : (queue : ℕ) (name : List ℕ) (es : List RollEntry)
     → is_some (lookup (is_at (slice_cmp nat_cmp name)) es) ≡ true

@@ -8,3 +8,5 @@ pub mod Roll
 pub mod Noted
 pub mod Priorities
 pub mod Rooms
+pub mod Fates
+pub mod Firsts

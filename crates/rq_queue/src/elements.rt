@@ -19,7 +19,7 @@ use crate::shelves::{
     Rank, all_freed, all_returned, free_list, mapped, parted, shelve, stow, taken, with_marked,
 };
 use rq_record::{ElemId, Fault, QueueNo, UnitNo};
-use rq_state::{Definition, Element, KeptElement, Mark, SHORTEST_ELEMENT, order, told_elements};
+use rq_state::{Definition, Element, KeptElement, Mark, order, told_elements};
 use std::alloc::Global;
 use std::collections::BTreeMap;
 use std::marker::Model;
@@ -34,9 +34,9 @@ use std::mem::replace;
 /// without a KILL keeps none.
 #[derive(Drop)]
 pub struct Elements {
-    free: BTreeMap<Rank, KeptElement>,
-    marked: BTreeMap<u64, Vec<KeptElement>>,
-    priorities: Option<BTreeMap<u64, u8>>,
+    pub(crate) free: BTreeMap<Rank, KeptElement>,
+    pub(crate) marked: BTreeMap<u64, Vec<KeptElement>>,
+    pub(crate) priorities: Option<BTreeMap<u64, u8>>,
 }
 
 impl Model for Elements {
@@ -123,7 +123,7 @@ impl Elements {
     pub(crate) fn room_left(&self, room: u64) -> Option<u64>
         ensures { SomeIff result (28 * length self.now ≤ room) (room - 28 * length self.now) }
     {
-        let left = room_after(room, SHORTEST_ELEMENT, self.free.len())?;
+        let left = room_after(room, KeptElement::SHORTEST, self.free.len())?;
         room_after_marked(left, &self.marked)
     }
 

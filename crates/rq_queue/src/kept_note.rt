@@ -6,8 +6,8 @@ ghost use Rattle.rq_model.specs.StateSpelling.{note_bytes};
 ghost use Rattle.rq_record.specs.declared.fault.Fault.TheVariants.{Resources};
 
 use rq_record::{Fault, KeptName, Name, QueueNo, UnitNo};
-use rq_state::{Compare, Compared, Last, Note, Ordinal};
-use std::alloc::Global;
+use rq_state::{Compare, Compared, Last, Note, Ordinal, Spell};
+use std::alloc::{AllocError, Global};
 use std::marker::Model;
 
 /// A note in 8 bytes and 72 of its own; a `Note` takes 120. A unit may make many, and a map whose
@@ -49,6 +49,18 @@ impl Compare for KeptNote {
 
     fn compare(&self, bytes: &mut Compared<'_>) {
         self.note().compare(bytes);
+    }
+}
+
+impl Spell for KeptNote {
+    ghost spelling = { note_bytes };
+
+    fn put(&self, out: &mut Vec<u8>) -> Result<(), AllocError> {
+        self.note().put(out)
+    }
+
+    fn size(&self) -> u32 {
+        self.note().size()
     }
 }
 

@@ -7,8 +7,8 @@ ghost use Rattle.rq_record.specs.declared.fault.Fault.TheVariants.{Resources};
 
 use crate::kept_note::KeptNote;
 use rq_record::Fault;
-use rq_state::{Compare, Compared, KeptElement, Ordinal};
-use std::alloc::Global;
+use rq_state::{Compare, Compared, KeptElement, Ordinal, Spell};
+use std::alloc::{AllocError, Global};
 use std::collections::BTreeMap;
 use std::marker::Model;
 
@@ -45,7 +45,8 @@ impl<'a, M: Ordinal> Lent<'a, M> {
         }
     }
 
-    fn member(&self) -> &'a M
+    /// The member itself.
+    pub fn member(&self) -> &'a M
         ensures { result.now ≡ self.now }
     {
         self.member
@@ -68,6 +69,18 @@ impl<'a, M: Ordinal + Compare> Compare for Lent<'a, M> {
     }
 }
 
+impl<'a, M: Ordinal + Spell> Spell for Lent<'a, M> {
+    ghost spelling = { M.spelling };
+
+    fn put(&self, out: &mut Vec<u8>) -> Result<(), AllocError> {
+        self.member.put(out)
+    }
+
+    fn size(&self) -> u32 {
+        self.member.size()
+    }
+}
+
 /// Lends the members of a map, by key.
 pub(crate) fn lend_values<'a, K: Ord, M: Ordinal>(
     lent: &mut Vec<Lent<'a, M>>,
@@ -82,8 +95,11 @@ pub(crate) fn lend_values<'a, K: Ord, M: Ordinal>(
     Ok(())
 }
 
-// Lends the elements of a list.
-fn lend_list<'a>(lent: &mut Vec<LentElement<'a>>, list: &'a [KeptElement]) -> Result<(), Fault>
+/// Lends the elements of a list.
+pub(crate) fn lend_list<'a>(
+    lent: &mut Vec<LentElement<'a>>,
+    list: &'a [KeptElement],
+) -> Result<(), Fault>
     ensures lent { OnOk result (lent.new.items ≡ lent.old.items ++ list.now) }
     ensures refused { IfErr result (λ e. e ≡ Resources) }
 {

@@ -4,11 +4,14 @@
 
 mod draws;
 mod elements;
+mod fates;
 mod kept_last;
 mod kept_note;
 mod keys;
 mod lent;
+mod lent_registrant;
 mod lists;
+mod looks;
 mod moves;
 mod notes;
 mod operations;
@@ -19,14 +22,14 @@ mod priorities;
 mod queue_redo;
 mod registrants;
 mod rooms;
+mod searches;
 mod shelves;
 mod whose;
 
-pub use elements::Elements;
-pub use lent::{Lent, LentElement, LentNote};
-pub use moves::{KeptMove, Move, MoveOf};
-pub use notes::Notes;
-pub use operations::{AnyRecord, KeptOp, KeptOps, Op, OpOf};
+pub use fates::Fate;
+pub use lent::{LentElement, LentNote};
+pub use lent_registrant::LentRegistrant;
+pub use moves::{KeptMove, Move};
+pub use operations::{KeptOp, KeptOps, Op};
 pub use part::Part;
-pub use places::{file, unfiled};
 pub use queue_redo::{redo, redo_kept};

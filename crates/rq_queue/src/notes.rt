@@ -19,7 +19,7 @@ use crate::places::{file, places_of, unfiled};
 use crate::rooms::room_after;
 use crate::whose::Whose;
 use rq_record::{ElemId, Fault, KeptBy, KeptName, Name, QueueNo, UnitNo};
-use rq_state::{Last, Note, OpKind, SHORTEST_NOTE, order};
+use rq_state::{Last, Note, OpKind, order};
 use std::alloc::Global;
 use std::collections::BTreeMap;
 use std::marker::Model;
@@ -118,7 +118,7 @@ impl Notes {
     pub(crate) fn room_left(&self, room: u64) -> Option<u64>
         ensures { SomeIff result (38 * length self.now ≤ room) (room - 38 * length self.now) }
     {
-        room_after(room, SHORTEST_NOTE, self.all.len())
+        room_after(room, Note::SHORTEST, self.all.len())
     }
 
     /// Adds the note of an operation, if somebody is named. Notes that refuse are no longer of use.

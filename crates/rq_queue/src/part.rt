@@ -1,42 +1,37 @@
 //! What belongs to one queue.
 
 ghost use Rattle.std.specs.Prelude.{◌≡◌, ◌≢◌, ◌+◌, ◌<◌, ◌^◌, ◌++◌, ◌∷◌, [], length, IfOk, IfErr};
-ghost use Rattle.std.specs.Prelude.{◌-◌, ◌≤◌, OnOk, SomeIff, option_map};
-ghost use Rattle.std.specs.List.{AllByRecursion, flat_map};
-ghost use Rattle.std.specs.List.Sorted.{IsPermutation};
+ghost use Rattle.std.specs.Prelude.{◌-◌, OnOk, option_map, map};
+ghost use Rattle.std.specs.List.{AllByRecursion};
 ghost use Rattle.rq_model.specs.Machine as machine;
 ghost use Rattle.rq_model.specs.Queues as queues;
 ghost use Rattle.rq_model.specs.Redo.{IsReady};
 ghost use Rattle.rq_model.specs.Records as records;
 ghost use Rattle.rq_model.specs.Redo as redo_words;
-ghost use Rattle.rq_model.specs.StateSpelling.{registrant_bytes};
 ghost use Rattle.rq_model.specs.States as states;
 ghost use Rattle.rq_record.specs.declared.fault.Fault.TheVariants.{Resources};
-ghost use Rattle.rq_state.specs.Comparing.{left_after};
 ghost use Rattle.rq_state.specs.Views.{id_of};
 ghost use Rattle.rq_queue.specs.Pouring.{Pours};
-ghost use Rattle.rq_queue.specs.Rooms.{member_bytes};
 
 use crate::elements::Elements;
-use crate::lent::{LentElement, LentNote};
 use crate::moves::KeptMove;
 use crate::notes::Notes;
 use crate::operations::KeptOp;
 use crate::poured_members::add_members;
 use crate::registrants::Registrants;
 use rq_record::{ElemId, Fault, KeptBy, KeptPayload, KeptRecord, Name, QueueNo, UnitNo};
-use rq_state::{Compared, Definition, Fields, KeptElement, KeptFields, OpKind, State};
+use rq_state::{Definition, Fields, KeptElement, KeptFields, OpKind, State};
 use std::alloc::Global;
 use std::marker::Model;
 
 /// What belongs to one queue: its definition, elements, registrants, and notes of open units.
 #[derive(Drop)]
 pub struct Part {
-    queue: QueueNo,
-    definition: Definition,
-    elements: Elements,
-    registrants: Registrants,
-    notes: Notes,
+    pub(crate) queue: QueueNo,
+    pub(crate) definition: Definition,
+    pub(crate) elements: Elements,
+    pub(crate) registrants: Registrants,
+    pub(crate) notes: Notes,
 }
 
 impl Model for Part {
@@ -138,48 +133,6 @@ impl Part {
         let registrants = self.registrants.copies(alloc, self.queue)?;
         let notes = self.notes.copies(alloc)?;
         add_members(fields, elements, registrants, notes)
-    }
-
-    /// Lends its elements: adds them to the list, in some order. Refused with Resources.
-    pub fn lend_elements<'a>(&'a self, lent: &mut Vec<LentElement<'a>>) -> Result<(), Fault>
-        ensures lent { OnOk result
-            (IsPermutation (lent.old.items ++ self.now.elements) lent.new.items) }
-        ensures refused { IfErr result (λ e. e ≡ Resources) }
-    {
-        self.elements.lend(lent)
-    }
-
-    /// Lends its notes: adds them to the list, by place. Refused with Resources.
-    pub fn lend_notes<'a>(&'a self, lent: &mut Vec<LentNote<'a>>) -> Result<(), Fault>
-        ensures lent { OnOk result (lent.new.items ≡ lent.old.items ++ self.now.notes) }
-        ensures refused { IfErr result (λ e. e ≡ Resources) }
-    {
-        self.notes.lend(lent)
-    }
-
-    /// How many registrants it has.
-    pub fn registrant_count(&self) -> usize
-        ensures { result ≡ length self.now.registrants }
-    {
-        self.registrants.count()
-    }
-
-    /// The spellings of its registrants are to come next in the bytes. It looks at none behind the
-    /// first that differs.
-    pub fn compare_registrants(&self, bytes: &mut Compared<'_>)
-        ensures { bytes.new ≡ left_after (flat_map registrant_bytes self.now.registrants) bytes.old }
-    {
-        self.registrants.compare(self.queue, bytes);
-    }
-
-    /// The room that its members leave of so many bytes, each member spelled in its shortest form.
-    /// None if they do not fit. It looks at no more lists than fit.
-    pub fn room_left(&self, room: u64) -> Option<u64>
-        ensures { SomeIff result (member_bytes self.now ≤ room) (room - member_bytes self.now) }
-    {
-        let left = self.registrants.room_left(room)?;
-        let left = self.notes.room_left(left)?;
-        self.elements.room_left(left)
     }
 
     /// Puts in what arrives.

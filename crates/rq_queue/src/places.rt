@@ -20,7 +20,11 @@ pub(crate) fn places_of<'a, K: Ord>(index: &'a BTreeMap<K, Vec<u64>>, key: &K) -
 }
 
 /// Takes the list of a key out.
-pub fn unfiled<K: Ord + Drop>(alloc: Global, index: &mut BTreeMap<K, Vec<u64>>, key: &K) -> Vec<u64>
+pub(crate) fn unfiled<K: Ord + Drop>(
+    alloc: Global,
+    index: &mut BTreeMap<K, Vec<u64>>,
+    key: &K,
+) -> Vec<u64>
     ensures places { result.items ≡ filed K.cmp key.now index.old.entries }
     ensures others { (k : K) → filed K.cmp k index.new.entries
         ≡ (if is_eq (K.cmp key.now k) then [] else filed K.cmp k index.old.entries) }
@@ -33,7 +37,7 @@ pub fn unfiled<K: Ord + Drop>(alloc: Global, index: &mut BTreeMap<K, Vec<u64>>, 
 
 /// Puts a place at the end of the list of a key. Refused with Resources: the lists are then as
 /// before.
-pub fn file<K: Ord + Drop>(
+pub(crate) fn file<K: Ord + Drop>(
     alloc: Global,
     index: &mut BTreeMap<K, Vec<u64>>,
     key: K,

@@ -1,25 +1,25 @@
 //! The registrants of a queue.
 
-ghost use Rattle.std.specs.Prelude.{◌≡◌, [], ℕ, ◌&&◌, ◌||◌, not, map, IfOk, IfErr};
-ghost use Rattle.std.specs.Prelude.{◌*◌, ◌-◌, ◌≤◌, length, OnOk, SomeIff};
+ghost use Rattle.std.specs.Prelude.{◌≡◌, ◌++◌, [], ℕ, ◌&&◌, ◌||◌, not, map, IfOk, IfErr};
+ghost use Rattle.std.specs.Prelude.{◌*◌, ◌-◌, ◌≤◌, length, OnOk, SomeIff, option_map};
 ghost use Rattle.std.specs.BTreeMap.{insert_entry};
 ghost use Rattle.std.specs.Cmp.Lexicographic.{slice_cmp};
-ghost use Rattle.std.specs.List.{flat_map};
+ghost use Rattle.std.specs.List.{flat_map, list_any, find};
 ghost use Rattle.std.specs.Ordering.{nat_cmp};
 ghost use Rattle.rq_model.specs.Machine as machine;
 ghost use Rattle.rq_model.specs.Queues.{registrants_at};
 ghost use Rattle.rq_model.specs.StateSpelling.{registrant_bytes};
+ghost use Rattle.rq_model.specs.States.{is_registrant};
 ghost use Rattle.rq_record.specs.declared.fault.Fault.TheVariants.{Resources};
 ghost use Rattle.rq_state.specs.Comparing.{left_after};
 ghost use Rattle.rq_queue.specs.Roll.{IsRoll, registrant_of, entry_of, picked, is_early, heard};
 
 use crate::kept_last::KeptLast;
 use crate::kept_note::KeptNote;
+use crate::lent_registrant::LentRegistrant;
 use crate::rooms::room_after;
 use rq_record::{Fault, KeptName, Name, QueueNo, UnitNo};
-use rq_state::{
-    Compared, KeptRegistrant, Registrant, SHORTEST_REGISTRANT, State, told_registrants,
-};
+use rq_state::{Compared, KeptRegistrant, Last, Registrant, State, told_registrants};
 use std::alloc::Global;
 use std::collections::BTreeMap;
 use std::marker::Model;
@@ -122,11 +122,44 @@ impl Registrants {
         copied(alloc, queue, &self.lasts)
     }
 
+    /// Lends all of them, by name: adds them to the list.
+    pub(crate) fn lend<'a>(
+        &'a self,
+        queue: QueueNo,
+        lent: &mut Vec<LentRegistrant<'a>>,
+    ) -> Result<(), Fault>
+        ensures lent { OnOk result
+            (lent.new.items ≡ lent.old.items ++ map (registrant_of queue.0) self.now) }
+        ensures refused { IfErr result (λ e. e ≡ Resources) }
+    {
+        lend_all(queue, &self.lasts, lent)
+    }
+
     /// How many they are.
     pub(crate) fn count(&self) -> usize
         ensures { result ≡ length self.now }
     {
         self.lasts.len()
+    }
+
+    /// Whether the name is registered.
+    pub(crate) fn has_registered(&self, name: &KeptName) -> bool
+        ensures { (queue : ℕ) → result
+            ≡ list_any (is_registrant queue name.now) (map (registrant_of queue) self.now) }
+    {
+        self.lasts.contains_key(name)
+    }
+
+    /// The last operation of who is registered by the name, lent; none if nobody is.
+    pub(crate) fn last(&self, name: &KeptName) -> Option<Option<&Last>>
+        ensures { (queue : ℕ) → option_map (λ l. option_map (λ x. x.now) l) result
+            ≡ option_map (λ r. r.last)
+            (find (is_registrant queue name.now) (map (registrant_of queue) self.now)) }
+    {
+        match self.lasts.get(name) {
+            Some(last) => Some(last.lent()),
+            None => None,
+        }
     }
 
     /// Their spellings are to come next in the bytes.
@@ -141,7 +174,7 @@ impl Registrants {
     pub(crate) fn room_left(&self, room: u64) -> Option<u64>
         ensures { SomeIff result (6 * length self.now ≤ room) (room - 6 * length self.now) }
     {
-        room_after(room, SHORTEST_REGISTRANT, self.count())
+        room_after(room, KeptRegistrant::SHORTEST, self.count())
     }
 
     /// Registers a name, unless it is registered.
@@ -265,6 +298,22 @@ fn copied(
         all.push(registrant_again(alloc, queue, name, last)?)?;
     }
     Ok(all)
+}
+
+// Lends the registrants, by name.
+fn lend_all<'a>(
+    queue: QueueNo,
+    lasts: &'a BTreeMap<KeptName, KeptLast>,
+    lent: &mut Vec<LentRegistrant<'a>>,
+) -> Result<(), Fault>
+    ensures lent { OnOk result
+        (lent.new.items ≡ lent.old.items ++ map (registrant_of queue.0) lasts.now.entries) }
+    ensures refused { IfErr result (λ e. e ≡ Resources) }
+{
+    for (name, last) in lasts {
+        lent.push(LentRegistrant::of(queue, name, last))?;
+    }
+    Ok(())
 }
 
 fn compare_one(queue: QueueNo, name: &KeptName, last: &KeptLast, bytes: &mut Compared<'_>)

@@ -3,7 +3,7 @@
 ghost use Rattle.std.specs.Prelude.{◌*◌, ◌-◌, ◌≤◌, length, SomeIff};
 ghost use Rattle.rq_queue.specs.Kept.{items_of};
 
-use rq_state::{KeptElement, SHORTEST_ELEMENT};
+use rq_state::KeptElement;
 use std::collections::BTreeMap;
 
 /// The room that members leave of so many bytes, each spelled in this many. None if they do not
@@ -23,7 +23,7 @@ pub(crate) fn room_after_marked(room: u64, marked: &BTreeMap<u64, Vec<KeptElemen
 {
     let mut left = room;
     for (_, list) in marked {
-        left = room_after(left, SHORTEST_ELEMENT, list.len())?;
+        left = room_after(left, KeptElement::SHORTEST, list.len())?;
     }
     Some(left)
 }

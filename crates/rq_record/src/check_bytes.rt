@@ -12,9 +12,6 @@ use std::alloc::Global;
 use std::marker::Model;
 use std::sync::ArcSlice;
 
-// A record has at most 268,435,456 bytes, and the first is its kind.
-const LIMIT: usize = 268_435_455;
-
 /// The bytes of a checkpoint record after its kind byte, at most 268,435,455: a part of the log if
 /// that is shared.
 #[derive(Drop)]
@@ -44,16 +41,19 @@ impl Model for CheckBytes {
 }
 
 impl CheckBytes {
+    /// The most bytes: a record has at most 268,435,456, and the first is its kind.
+    pub const LIMIT: usize = 268_435_455;
+
     /// These bytes; none if there are more than 268,435,455, which are dropped. Takes no memory.
     pub fn new(bytes: Vec<u8>) -> Option<CheckBytes>
         ensures bounded { IsSome result ↔ (length bytes.items ≤ 268435455) }
         ensures bytes { IfSome result (λ p. p ≡ bytes.items) }
     {
-        if bytes.len() > LIMIT {
-            return None;
+        if bytes.len() <= CheckBytes::LIMIT {
+            let bytes = Kept::Own(bytes);
+            return Some(CheckBytes { bytes });
         }
-        let bytes = Kept::Own(bytes);
-        Some(CheckBytes { bytes })
+        None
     }
 
     /// Lets go of the bytes: there are none then. Takes no memory.
@@ -70,7 +70,7 @@ impl CheckBytes {
         requires { EndsAt at.now.log.now at.now.end bytes.now }
         ensures { KeepsRead (λ p. p) result (at_most 268435455 bytes.now) }
     {
-        if bytes.len() > LIMIT {
+        if bytes.len() > CheckBytes::LIMIT {
             return Err(Fault::Form);
         }
         if let Some((whole, start)) = at.part_before(bytes)? {

@@ -86,7 +86,7 @@ impl KeptPayload {
         ensures refused { IfErr result
             (λ e. (e ≡ Resources) × (22 < length bytes.now) × (length bytes.now ≤ 65535)) }
     {
-        if bytes.len() > 65535 {
+        if bytes.len() > Payload::LIMIT {
             return Ok(None);
         }
         Ok(Some(kept(alloc, bytes)?))
@@ -99,7 +99,7 @@ impl KeptPayload {
         requires { EndsAt at.now.log.now at.now.end bytes.now }
         ensures { KeepsRead (λ p. p) result (at_most 65535 bytes.now) }
     {
-        if 22 < bytes.len() && bytes.len() <= 65535 {
+        if 22 < bytes.len() && bytes.len() <= Payload::LIMIT {
             if let Some((whole, start)) = at.part_before(bytes)? {
                 let len = bytes.len() as u16;
                 let bytes = Bytes::Part { whole, start, len };

@@ -25,6 +25,6 @@ pub use log_bytes::LogBytes;
 pub use name::Name;
 pub use payload::Payload;
 pub use readers::{decode, decode_at, decode_in, decode_kept};
-pub use record::{By, ElemId, QueueNo, Record, RecordOf, UnitNo};
+pub use record::{By, ElemId, QueueNo, Record, UnitNo};
 pub use version::Version;
 pub use writers::encode;

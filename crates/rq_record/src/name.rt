@@ -59,7 +59,7 @@ fn are_name_chars(bytes: &[u8]) -> bool
 pub(crate) fn is_name_bytes(bytes: &[u8]) -> bool
     ensures { result ≡ is_name bytes.now }
 {
-    1 <= bytes.len() && bytes.len() <= 64 && are_name_chars(bytes)
+    1 <= bytes.len() && bytes.len() <= Name::LIMIT && are_name_chars(bytes)
 }
 
 pub(crate) fn padded<const N: usize>(bytes: &[u8]) -> [u8; N]
@@ -81,6 +81,9 @@ pub(crate) fn text_of(name: &[u8]) -> &str
 }
 
 impl Name {
+    /// The most bytes.
+    pub const LIMIT: usize = 64;
+
     /// The name with these bytes; none if they are not a name. Takes no memory.
     pub fn new(bytes: &[u8]) -> Option<Name>
         ensures { result ≡ (if is_name bytes.now then Some bytes.now else None) }

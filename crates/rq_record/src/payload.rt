@@ -21,12 +21,15 @@ impl Model for Payload {
 }
 
 impl Payload {
+    /// The most bytes.
+    pub const LIMIT: usize = 65_535;
+
     /// These bytes; none if there are more than 65,535, which are dropped. Takes no memory.
     pub fn new(bytes: Vec<u8>) -> Option<Payload>
         ensures bounded { IsSome result ↔ (length bytes.items ≤ 65535) }
         ensures bytes { IfSome result (λ p. p ≡ bytes.items) }
     {
-        if bytes.len() > 65535 {
+        if bytes.len() > Payload::LIMIT {
             return None;
         }
         Some(Payload::of_checked(bytes))

@@ -10,5 +10,5 @@ mod writers;
 pub use lines::{kind_word, put_error, why_word};
 pub use listing::free_elements;
 pub use report::queue_report;
-pub use stream::{Input, Output, Over, OverRead, OverWrite};
+pub use stream::{Input, Output, OverRead, OverWrite};
 pub use writers::{write_all, write_report, write_report_by};

@@ -2,7 +2,7 @@ pub mod Closings
 pub mod Endings
 pub mod Upgradings
 pub mod Walks
-pub mod Keepers
+pub mod Taking
 pub mod RedoneFronts
 pub mod TailEnds
 pub mod Audited

@@ -15,8 +15,6 @@ use Rattle.rq_model.specs.Carrying.{IsFrontAt}
 use Rattle.rq_record.specs.declared.fault.Fault.{Fault}
 use Rattle.rq_front.specs.declared.spans.Span.{Span}
 use Rattle.rq_front.specs.Chains.{IsHeaded, Refused}
-use Rattle.rq_standing.specs.Stands.{Stands}
-use Rattle.rq_standing.specs.declared.standing.Standing.{Standing}
 use Rattle.rq_judged.specs.FrontEnds.{IsFrontFrom}
 use Rattle.rq_judged.specs.Refusals.{RefusedAt}
 
@@ -41,20 +39,6 @@ past at (r ∷ rs) = past (at + 36 + length (body_of r)) rs
 
 abbrev pub audited_of : ℕ × Bool → Audited
 audited_of x = record { offset = x.0; truth = x.1 }
-
--- the records are lawful where x stands
-abbrev pub MayGoOn : Standing → List Record → Type 0
-MayGoOn x rs = (version : Version) × (s : State) × Stands version x s × (all_lawful version s rs ≡ true)
-
--- where x stands and they are lawful, y stands behind them
-abbrev pub StandsAfter : Standing → List Record → Standing → Type 0
-StandsAfter x rs y = (version : Version) (s : State) → Stands version x s → all_lawful version s rs ≡ true
-    → Stands version y (run s rs)
-
--- and to what was told comes the checkpoint behind them, of these bytes
-abbrev pub TellsBehind : Standing → List Record → ℕ → List ℕ → List Audited → List Audited → Type 0
-TellsBehind x rs at kept old new = (version : Version) (s : State) → Stands version x s
-    → all_lawful version s rs ≡ true → new ≡ old ++ audit_of (run s rs) at (Checkpoint kept)
 
 -- the spans of a chain from an offset on, of which the first are those of the records
 abbrev pub StandAt : ℕ → List Record → List Span → Type 0

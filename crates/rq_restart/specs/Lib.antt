@@ -3,4 +3,4 @@ pub mod RedoneFronts
 pub mod Tails
 pub mod Upgrades
 pub mod Audits
-pub mod Keepers
+pub mod Taking

@@ -1,19 +1,19 @@
 //! Which checkpoints of a log are true, of all of it or from a checkpoint on; the law of that.
 
-ghost use Rattle.std.specs.Prelude.{◌≡◌, ◌≤◌, ℕ, length, map, IfOk, OnOk, IfErr};
+ghost use Rattle.std.specs.Prelude.{◌≡◌, ◌≤◌, ◌++◌, ◌∷◌, [], ℕ, true, length, map, IfOk, OnOk, IfErr};
+ghost use Rattle.rq_model.specs.Machine.{all_lawful, run};
 ghost use Rattle.rq_record.specs.Views.{record_of, version_of};
 ghost use Rattle.rq_record.specs.declared.fault.Fault.TheVariants.{Resources};
 ghost use Rattle.rq_judged.specs.FrontEnds.{IsChain};
 ghost use Rattle.rq_restart.specs.Audits.{StandInFrames, Audits, AuditsAt, IsAuditedFrom};
-ghost use Rattle.rq_restart.specs.Audits.{EveryLogHasAudit, MayGoOn, StandsAfter, TellsBehind};
-ghost use Rattle.rq_restart.specs.Audits.{audited_of, audits};
+ghost use Rattle.rq_restart.specs.Audits.{EveryLogHasAudit, audited_of, audits, is_spelled};
 
 use crate::pieces::go_on;
 use rq_front::{Span, chain, log_version};
-use rq_judged::{Begun, Front, begin_at, front_of, grain_of};
+use rq_judged::{Begun, Front, grain_of};
 use rq_plan::Plan;
 use rq_record::{Fault, KeptRecord, LogBytes, Version};
-use rq_standing::Standing;
+use rq_standing::Machine;
 use rq_state::State;
 use std::alloc::Global;
 use std::marker::Sync;
@@ -24,22 +24,25 @@ use std::thread::Threads;
 fn tell_behind<R: Threads + Sync>(
     rt: &R,
     alloc: Global,
-    standing: &mut Standing,
+    version: Version,
+    machine: &mut Machine,
     before: &[KeptRecord],
     kept: &[u8],
     offset: u64,
     plan: &Plan,
     found: &mut Vec<(u64, bool)>,
 ) -> Result<(), Fault>
-    requires lawful { MayGoOn standing.old (map record_of before.now) }
+    requires lawful { all_lawful (version_of version) machine.old (map record_of before.now)
+        ≡ true }
     requires short { length kept.now ≤ 268435455 }
-    ensures stands { OnOk result (StandsAfter standing.old (map record_of before.now) standing.new) }
-    ensures found { OnOk result (TellsBehind standing.old (map record_of before.now) offset kept.now
-        (map audited_of found.old.items) (map audited_of found.new.items)) }
+    ensures state { OnOk result (machine.new ≡ run machine.old (map record_of before.now)) }
+    ensures found { OnOk result (map audited_of found.new.items ≡ map audited_of found.old.items
+        ++ audited_of (offset, is_spelled (run machine.old (map record_of before.now)) kept.now)
+        ∷ []) }
     ensures refused { IfErr result (λ e. e ≡ Resources) }
 {
-    go_on(rt, alloc, standing, before, plan)?;
-    let is_true = standing.is_spelled_by(alloc, kept)?;
+    go_on(rt, alloc, version, machine, before, plan)?;
+    let is_true = machine.is_spelled_by(alloc, kept)?;
     found.push((offset, is_true))?;
     Ok(())
 }
@@ -61,20 +64,21 @@ fn checkpoints_among<R: Threads + Sync>(
         → map audited_of v.items ≡ audits state.now at (map record_of records.now)) }
     ensures refused { IfErr result (λ e. e ≡ Resources) }
 {
-    let mut standing = Standing::of(alloc, version, state)?;
+    let mut machine = Machine::of(alloc, state)?;
     let mut found = Vec::new(alloc);
     let mut done = 0;
     for place in 0..records.len() {
         let KeptRecord::Checkpoint { bytes } = &records[place] else {
             continue;
         };
-        let before = &records[done..place];
+        let piece = &records[done..place];
         let offset = spans[place].offset() as u64;
         tell_behind(
             rt,
             alloc,
-            &mut standing,
-            before,
+            version,
+            &mut machine,
+            piece,
             bytes.bytes(),
             offset,
             plan,
@@ -107,7 +111,7 @@ fn checkpoints_of<R: Threads + Sync>(
         → IsAuditedFrom (version_of begun.now.version) begun.now.state bytes.now offset v.items) }
     ensures refused { IfErr result (λ e. e ≡ Resources) }
 {
-    let front = front_of(
+    let front = Front::of(
         rt,
         alloc,
         begun.version,
@@ -186,7 +190,7 @@ pub fn audit_at<R: Threads + Sync>(
 ) -> Result<Vec<(u64, bool)>, Fault>
     ensures { AuditsAt bytes.now offset result }
 {
-    let begun = begin_at(rt, alloc, bytes, offset, plan)?;
+    let begun = Begun::begun_at(rt, alloc, bytes, offset, plan)?;
     checkpoints_of(rt, alloc, &LogBytes::borrowed(bytes), &begun, plan)
 }
 

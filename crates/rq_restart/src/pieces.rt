@@ -1,19 +1,21 @@
-//! Many records onto the queues as they stand, up to the first that is not lawful.
+//! Many records onto a machine, up to the first that is not lawful.
 
 ghost use Rattle.std.specs.Prelude.{◌≡◌, map, IfOk, IfErr};
-ghost use Rattle.rq_record.specs.Views.{record_of};
+ghost use Rattle.rq_exchange.specs.Gathering.{ComesTo};
+ghost use Rattle.rq_model.specs.States.{empty};
+ghost use Rattle.rq_record.specs.Views.{record_of, version_of};
 ghost use Rattle.rq_record.specs.declared.fault.Fault.TheVariants.{Resources};
-ghost use Rattle.rq_restart.specs.Keepers.{IsStanding, TakesOne, WentOn};
+ghost use Rattle.rq_restart.specs.Taking.{TakesOne};
 
 use rq_exchange::front_redone;
 use rq_plan::Plan;
-use rq_record::{Fault, KeptRecord};
-use rq_standing::{Standing, Taken};
+use rq_record::{Fault, KeptRecord, Version};
+use rq_standing::{Machine, Taken};
 use std::alloc::Global;
 use std::marker::Sync;
 use std::thread::Threads;
 
-// An element is spelled in 28 bytes at least. So what stands has at most two elements for each seven
+// An element is spelled in 28 bytes at least. So a state has at most two elements for each seven
 // records, and to copy it costs less than they do.
 const BYTES: usize = 8;
 
@@ -27,12 +29,18 @@ pub(crate) fn room_beside(count: usize, plan: &Plan) -> usize {
 }
 
 // Whether a record is lawful. If it is, it is done.
-fn take_one(alloc: Global, standing: &mut Standing, rec: &KeptRecord) -> Result<bool, Fault>
-    requires { IsStanding standing.old }
-    ensures takes { IfOk result (TakesOne standing.old (record_of rec.now) standing.new) }
+fn take_one(
+    alloc: Global,
+    version: Version,
+    machine: &mut Machine,
+    rec: &KeptRecord,
+) -> Result<bool, Fault>
+    ensures takes { IfOk result
+        (TakesOne (version_of version) machine.old (record_of rec.now) machine.new) }
     ensures refused { IfErr result (λ e. e ≡ Resources) }
+    ensures spent { IfErr result (λ e. machine.new ≡ empty) }
 {
-    match standing.take(alloc, rec) {
+    match machine.take(alloc, version, rec) {
         Ok(Taken::Done(_)) => Ok(true),
         Ok(Taken::Unlawful(_)) => Ok(false),
         Err(fault) => Err(fault),
@@ -43,51 +51,77 @@ fn take_one(alloc: Global, standing: &mut Standing, rec: &KeptRecord) -> Result<
 /// answers how many it took. Refused as `go_on` is.
 pub(crate) fn take_each(
     alloc: Global,
-    standing: &mut Standing,
+    version: Version,
+    machine: &mut Machine,
     records: &[KeptRecord],
 ) -> Result<usize, Fault>
-    requires { IsStanding standing.old }
-    ensures went_on { IfOk result
-        (WentOn standing.old (map record_of records.now) standing.new) }
+    ensures went_on { IfOk result (ComesTo (version_of version) machine.old
+        (map record_of records.now) machine.new) }
     ensures refused { IfErr result (λ e. e ≡ Resources) }
+    ensures spent { IfErr result (λ e. machine.new ≡ empty) }
 {
     for place in 0..records.len() {
-        if !take_one(alloc, standing, &records[place])? {
+        if !take_one(alloc, version, machine, &records[place])? {
             return Ok(place);
         }
     }
     Ok(records.len())
 }
 
-/// Does the records that are lawful where the queues stand, up to the first that is not, and answers
-/// how many these are.
-///
-/// That costs the records and the members that they touch, whatever else stands. If what stands is
-/// little beside them, and they are at least a grain of the plan, all queues are redone on its
-/// workers; else the calling thread takes one record after the other. Refused with `Resources`
-/// alone: nothing is known of the queues from then on, as after `Standing::take`.
-pub fn go_on<R: Threads + Sync>(
+// The machine behind these records, made anew: all queues are redone on the workers.
+fn made_anew<R: Threads + Sync>(
     rt: &R,
     alloc: Global,
-    standing: &mut Standing,
+    version: Version,
+    machine: &Machine,
     records: &[KeptRecord],
     plan: &Plan,
-) -> Result<usize, Fault>
-    requires stands { IsStanding standing.old }
-    ensures went_on { IfOk result
-        (WentOn standing.old (map record_of records.now) standing.new) }
+) -> Result<(Machine, usize), Fault>
+    ensures went_on { IfOk result (λ r. ComesTo (version_of version) machine.now
+        (map record_of records.now) r.0 r.1) }
     ensures refused { IfErr result (λ e. e ≡ Resources) }
 {
-    if !standing.fits(room_beside(records.len(), plan)) {
-        return take_each(alloc, standing, records);
-    }
-    let version = standing.version();
-    let state = standing.state(alloc)?;
+    let state = machine.state(alloc)?;
     // No log has so many records: past here a number could run over.
     if state.next().saturating_add(records.len() as u64) > 1 << 62 {
         return Err(Fault::Resources);
     }
     let (state, count) = front_redone(rt, alloc, version, &state, records, plan)?;
-    *standing = Standing::of(alloc, version, &state)?;
-    Ok(count)
+    let anew = Machine::of(alloc, &state)?;
+    Ok((anew, count))
+}
+
+/// Does the records that are lawful by the rules of the version, up to the first that is not, and
+/// answers how many these are.
+///
+/// That costs the records and the members that they touch, whatever else the state has. If that is
+/// little beside them, and they are at least a grain of the plan, all queues are redone on its
+/// workers; else the calling thread takes one record after the other. Refused with `Resources`
+/// alone: what is left is the state before the first record, as after `Machine::take`.
+pub fn go_on<R: Threads + Sync>(
+    rt: &R,
+    alloc: Global,
+    version: Version,
+    machine: &mut Machine,
+    records: &[KeptRecord],
+    plan: &Plan,
+) -> Result<usize, Fault>
+    ensures went_on { IfOk result (ComesTo (version_of version) machine.old
+        (map record_of records.now) machine.new) }
+    ensures refused { IfErr result (λ e. e ≡ Resources) }
+    ensures spent { IfErr result (λ e. machine.new ≡ empty) }
+{
+    if !machine.fits(room_beside(records.len(), plan)) {
+        return take_each(alloc, version, machine, records);
+    }
+    match made_anew(rt, alloc, version, machine, records, plan) {
+        Ok((anew, count)) => {
+            *machine = anew;
+            Ok(count)
+        }
+        Err(fault) => {
+            *machine = Machine::empty(alloc);
+            Err(fault)
+        }
+    }
 }

@@ -67,38 +67,40 @@ fn state_behind<R: Threads + Sync>(
     })
 }
 
-/// The state after the front of a log whose bytes may be shared, before any abort, and where and why
-/// the front ends. If they are, a payload of more than 22 bytes is a part of them and no copy.
-///
-/// Refuses with `TooLong` more than 4,294,967,295 bytes, with `NotALog` bytes that begin with no
-/// version's header, and with `Resources` where memory is refused.
-pub fn redone_front<R: Threads + Sync>(
-    rt: &R,
-    alloc: Global,
-    bytes: &LogBytes<'_>,
-    plan: &Plan,
-) -> Result<RedoneFront, Fault>
-    ensures { RedoesFront bytes.now result }
-{
-    let from = whole_front(rt, alloc, bytes, plan)?;
-    state_behind(rt, alloc, from, bytes, plan)
-}
+impl RedoneFront {
+    /// The state after the front of a log whose bytes may be shared, before any abort, and where and why
+    /// the front ends. If they are, a payload of more than 22 bytes is a part of them and no copy.
+    ///
+    /// Refuses with `TooLong` more than 4,294,967,295 bytes, with `NotALog` bytes that begin with no
+    /// version's header, and with `Resources` where memory is refused.
+    pub fn of<R: Threads + Sync>(
+        rt: &R,
+        alloc: Global,
+        bytes: &LogBytes<'_>,
+        plan: &Plan,
+    ) -> Result<RedoneFront, Fault>
+        ensures { RedoesFront bytes.now result }
+    {
+        let from = whole_front(rt, alloc, bytes, plan)?;
+        state_behind(rt, alloc, from, bytes, plan)
+    }
 
-/// The state after the front of a log from the checkpoint at an offset on, before any abort, and
-/// where and why the front ends: it begins in the state that the checkpoint spells.
-///
-/// Refused as `restart_at` is.
-pub fn redone_front_at<R: Threads + Sync>(
-    rt: &R,
-    alloc: Global,
-    bytes: &LogBytes<'_>,
-    offset: u64,
-    plan: &Plan,
-) -> Result<RedoneFront, Fault>
-    ensures { RedoesFrontAt bytes.now offset result }
-{
-    let from = front_from(rt, alloc, bytes, offset, plan)?;
-    state_behind(rt, alloc, from, bytes, plan)
+    /// The state after the front of a log from the checkpoint at an offset on, before any abort, and
+    /// where and why the front ends: it begins in the state that the checkpoint spells.
+    ///
+    /// Refused as `restart_at` is.
+    pub fn redone_at<R: Threads + Sync>(
+        rt: &R,
+        alloc: Global,
+        bytes: &LogBytes<'_>,
+        offset: u64,
+        plan: &Plan,
+    ) -> Result<RedoneFront, Fault>
+        ensures { RedoesFrontAt bytes.now offset result }
+    {
+        let from = front_from(rt, alloc, bytes, offset, plan)?;
+        state_behind(rt, alloc, from, bytes, plan)
+    }
 }
 
 /// The state after the front of a log, before any abort: open units stay open.
@@ -113,6 +115,6 @@ pub fn front_state<R: Threads + Sync>(
 ) -> Result<State, Fault>
     ensures { FindsState bytes.now result }
 {
-    let front = redone_front(rt, alloc, &LogBytes::borrowed(bytes), plan)?;
+    let front = RedoneFront::of(rt, alloc, &LogBytes::borrowed(bytes), plan)?;
     Ok(front.state)
 }

@@ -5,7 +5,7 @@ ghost use Rattle.rq_restart.specs.Restarts.{Restarts, RestartsAt};
 
 use crate::restart_ends::{Restarted, finish};
 use rq_front::{log_version, walk};
-use rq_judged::{Front, begin_at, front_of, front_of_walk};
+use rq_judged::{Begun, Front};
 use rq_plan::{Gate, Plan};
 use rq_record::{Fault, LogBytes, Version};
 use rq_state::State;
@@ -36,7 +36,7 @@ pub(crate) fn whole_front<R: Threads + Sync>(
     let version = log_version(bytes.as_slice())?;
     let walk = walk(alloc, bytes.as_slice(), 40)?;
     let state = State::empty(alloc);
-    let front = front_of_walk(rt, alloc, version, bytes, walk, &state, plan)?;
+    let front = Front::of_walk(rt, alloc, version, bytes, walk, &state, plan)?;
     Ok(FoundFront {
         version,
         state,
@@ -47,7 +47,7 @@ pub(crate) fn whole_front<R: Threads + Sync>(
 /// The restart of a log whose bytes may be shared: `restart` of them. If they are, a checkpoint, and
 /// a payload of more than 22 bytes, are parts of them and no copies. So they stay in memory as long
 /// as one such payload of the state does.
-pub fn restart_of<R: Threads + Sync, G: Gate + Sync>(
+pub(crate) fn restart_of<R: Threads + Sync, G: Gate + Sync>(
     rt: &R,
     alloc: Global,
     bytes: &LogBytes<'_>,
@@ -110,8 +110,8 @@ pub(crate) fn front_from<R: Threads + Sync>(
 ) -> Result<FoundFront, Fault>
     ensures { FindsFrontAt bytes.now offset result }
 {
-    let begun = begin_at(rt, alloc, bytes.as_slice(), offset, plan)?;
-    let front = front_of(
+    let begun = Begun::begun_at(rt, alloc, bytes.as_slice(), offset, plan)?;
+    let front = Front::of(
         rt,
         alloc,
         begun.version,
@@ -149,7 +149,7 @@ pub fn restart_own_at<R: Threads + Sync, G: Gate + Sync>(
 /// The restart from a checkpoint of a log whose bytes may be shared: `restart_at` of them. If they
 /// are, another checkpoint behind that one, and a payload of more than 22 bytes, are parts of them
 /// and no copies.
-pub fn restart_of_at<R: Threads + Sync, G: Gate + Sync>(
+pub(crate) fn restart_of_at<R: Threads + Sync, G: Gate + Sync>(
     rt: &R,
     alloc: Global,
     bytes: &LogBytes<'_>,

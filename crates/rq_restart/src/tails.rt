@@ -10,8 +10,8 @@ ghost use Rattle.rq_restart.specs.RedoneFronts.{IsFoundFrom};
 ghost use Rattle.rq_restart.specs.Tails.{Closes, EndsLog, EndsLogAt, IsCrowded, IsEndingOf, Tails};
 
 use crate::restarts::{FoundFront, front_from, whole_front};
-use rq_front::LOG_LIMIT;
-use rq_judged::{Why, append_frame, before};
+use rq_front::{LOG_LIMIT, append_frame};
+use rq_judged::{Why, before};
 use rq_plan::Plan;
 use rq_record::{Fault, LogBytes, Record, UnitNo, Version, encode};
 use std::alloc::Global;
@@ -112,36 +112,38 @@ fn ending_behind(alloc: Global, from: &FoundFront, bytes: &[u8]) -> Result<Endin
     })
 }
 
-/// Where the front of a log ends, why, and its tail. No queue is redone.
-///
-/// Refused as `tail` is.
-pub fn ending_of<R: Threads + Sync>(
-    rt: &R,
-    alloc: Global,
-    bytes: &[u8],
-    plan: &Plan,
-) -> Result<Ending, Fault>
-    ensures { EndsLog bytes.now result }
-{
-    let from = whole_front(rt, alloc, &LogBytes::borrowed(bytes), plan)?;
-    ending_behind(alloc, &from, bytes)
-}
+impl Ending {
+    /// Where the front of a log ends, why, and its tail. No queue is redone.
+    ///
+    /// Refused as `tail` is.
+    pub fn of<R: Threads + Sync>(
+        rt: &R,
+        alloc: Global,
+        bytes: &[u8],
+        plan: &Plan,
+    ) -> Result<Ending, Fault>
+        ensures { EndsLog bytes.now result }
+    {
+        let from = whole_front(rt, alloc, &LogBytes::borrowed(bytes), plan)?;
+        ending_behind(alloc, &from, bytes)
+    }
 
-/// The same of the front from the checkpoint at an offset on, which is taken at its word.
-///
-/// Refuses with `TooLarge` if the front followed by the tail would have more than 4,294,967,295
-/// bytes, and else as `restart_at` does.
-pub fn ending_at<R: Threads + Sync>(
-    rt: &R,
-    alloc: Global,
-    bytes: &[u8],
-    offset: u64,
-    plan: &Plan,
-) -> Result<Ending, Fault>
-    ensures { EndsLogAt bytes.now offset result }
-{
-    let from = front_from(rt, alloc, &LogBytes::borrowed(bytes), offset, plan)?;
-    ending_behind(alloc, &from, bytes)
+    /// The same of the front from the checkpoint at an offset on, which is taken at its word.
+    ///
+    /// Refuses with `TooLarge` if the front followed by the tail would have more than 4,294,967,295
+    /// bytes, and else as `restart_at` does.
+    pub fn ending_at<R: Threads + Sync>(
+        rt: &R,
+        alloc: Global,
+        bytes: &[u8],
+        offset: u64,
+        plan: &Plan,
+    ) -> Result<Ending, Fault>
+        ensures { EndsLogAt bytes.now offset result }
+    {
+        let from = front_from(rt, alloc, &LogBytes::borrowed(bytes), offset, plan)?;
+        ending_behind(alloc, &from, bytes)
+    }
 }
 
 /// The tail of a log: the frames of the ABORT of each unit that is open after its front, rising,
@@ -157,7 +159,7 @@ pub fn tail<R: Threads + Sync>(
 ) -> Result<Vec<u8>, Fault>
     ensures { Tails bytes.now result }
 {
-    let ending = ending_of(rt, alloc, bytes, plan)?;
+    let ending = Ending::of(rt, alloc, bytes, plan)?;
     Ok(ending.tail)
 }
 
@@ -173,5 +175,5 @@ pub fn closed<R: Threads + Sync>(
 ) -> Result<Vec<u8>, Fault>
     ensures { Closes bytes.items result }
 {
-    ending_of(rt, alloc, &bytes, plan)?.close(bytes)
+    Ending::of(rt, alloc, &bytes, plan)?.close(bytes)
 }

@@ -3,3 +3,7 @@ mod Acting
 mod Together
 mod UnitEnds
 mod Spellings
+mod OneState
+mod Looks
+mod Ending
+mod ComingTrue

@@ -2,3 +2,6 @@ pub mod Parts
 pub mod Units
 pub mod Stands
 pub mod Spelled
+pub mod Machines
+pub mod Ends
+pub mod Fates

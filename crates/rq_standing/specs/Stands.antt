@@ -1,5 +1,5 @@
--- The queues of a state as they stand, and what a standing machine makes of a record.
-use Rattle.std.specs.Prelude.{ℕ, ◌≡◌, length, Option, Some, None, option_map, true, false}
+-- The queues of a state, and what a record does to them.
+use Rattle.std.specs.Prelude.{ℕ, ◌≡◌, length, Option, Some, None, option_map, true}
 use Rattle.rq_model.specs.Records.{Record, Register, Deregister, Enqueue, Dequeue, Kill, Version}
 use Rattle.rq_model.specs.States.{State}
 use Rattle.rq_model.specs.WellFormed.{IsWellFormed}
@@ -7,12 +7,6 @@ use Rattle.rq_model.specs.Machine.{is_lawful, best, step}
 use Rattle.rq_standing.specs.Parts.{ArePartsOf}
 use Rattle.rq_standing.specs.Units.{AreUnits}
 use Rattle.rq_standing.specs.declared.queues.Queues.{Queues}
-use Rattle.rq_model.specs.Records as model
-use Rattle.rq_catalog.specs.Judges.{StandsIn}
-use Rattle.rq_state.specs.Views.{id_of}
-use Rattle.rq_standing.specs.declared.standing.Taken.{Taken}
-use Rattle.rq_standing.specs.declared.standing.Taken.TheVariants.{Unlawful, Done}
-use Rattle.rq_standing.specs.declared.standing.Standing.{Standing}
 
 -- the queue that a record names
 abbrev pub queue_named : Record → Option ℕ
@@ -72,19 +66,3 @@ MovesBy x y r = (version : Version) (s : State) → May x version s r → Moved 
 -- whatever state they held, this is the id of the element that the record takes there
 abbrev pub TakesElement : Queues → Record → Option ℕ → Type 0
 TakesElement x r id = (version : Version) (s : State) → May x version s r → id ≡ taken s r
-
--- it judges by the rules of the version, and holds the queues of the state
-pub record Stands (version : Version) (x : Standing) (s : State) : Type 0 where
-  pub judge : StandsIn version x.judge s
-  pub queues : HoldsState x.queues s
-
--- the record is not lawful, or it is and took this element
-abbrev pub IsTakenAs : Version → State → model.Record → Taken → Type 0
-IsTakenAs version s r (Unlawful rule) = is_lawful version s r ≡ false
-IsTakenAs version s r (Done element) =
-    (is_lawful version s r ≡ true) × (id_of element ≡ taken s r)
-
--- the state after the record, if it was done
-abbrev pub state_with : State → model.Record → Taken → State
-state_with s r (Unlawful rule) = s
-state_with s r (Done element) = step s r

@@ -62,6 +62,16 @@ impl OpenUnits {
         Ok(())
     }
 
+    /// The queues that a unit named.
+    pub(crate) fn queues_named(&self, unit: UnitNo) -> &[u64]
+        ensures { result.now ≡ queues_of self.now unit.0 }
+    {
+        match self.named.get(&unit.0) {
+            Some(queues) => queues,
+            None => &[],
+        }
+    }
+
     /// A unit ends. The queues that it named.
     pub(crate) fn end(&mut self, alloc: Global, unit: UnitNo) -> Vec<u64>
         ensures queues { result.items ≡ queues_of self.old unit.0 }
@@ -76,12 +86,26 @@ impl OpenUnits {
         }
     }
 
+    /// Whether the unit is one of them.
+    pub(crate) fn has_begun(&self, unit: UnitNo) -> bool
+        ensures { result ≡ has_open self.now unit.0 }
+    {
+        self.named.contains_key(&unit.0)
+    }
+
     /// How many they are.
     pub(crate) fn count(&self) -> usize
         ensures { (s : State) → IsWellFormed s → AreUnits self.now s
             → result ≡ length s.units }
     {
         self.named.len()
+    }
+
+    /// Their numbers rise.
+    pub(crate) fn numbers_rise(&self)
+        ensures { IsOrdered nat_cmp self.now.named }
+    {
+        BTreeMap::len(&self.named);
     }
 
     /// How many they are and their numbers, rising, are to come next in the bytes.

@@ -2,7 +2,7 @@
 
 ghost use Rattle.std.specs.Prelude.{◌≡◌, ◌<◌, ◌+◌, ◌^◌, IfOk, OnOk, IfErr, Some, None, length};
 ghost use Rattle.rq_model.specs.Machine.{step};
-ghost use Rattle.rq_model.specs.States.{State};
+ghost use Rattle.rq_model.specs.States.{State, empty};
 ghost use Rattle.rq_model.specs.Records as records;
 ghost use Rattle.rq_record.specs.Views.{record_of};
 ghost use Rattle.rq_record.specs.declared.fault.Fault.TheVariants.{Resources};
@@ -33,6 +33,22 @@ pub struct Queues {
 }
 
 impl Queues {
+    /// No queues yet. Takes no memory.
+    pub(crate) fn empty(alloc: Global) -> Queues
+        ensures { HoldsState result empty }
+    {
+        rq_model::runs_are_well_formed();
+        Queues {
+            next: 0,
+            greatest: 0,
+            committed: 0,
+            aborted: 0,
+            definitions: Vec::new(alloc),
+            parts: Vec::new(alloc),
+            units: OpenUnits::none(alloc),
+        }
+    }
+
     /// The queues of the state. Refused with `Resources` alone.
     pub(crate) fn of(alloc: Global, state: &rq_state::State) -> Result<Queues, Fault>
         ensures holds { IfOk result (λ x. HoldsState x state.now) }

@@ -1,24 +1,26 @@
-//! Whether bytes spell the state that is held: what stands is compared with them as they come.
+//! The spelling of the state that is held, and whether bytes are it: then what stands is compared
+//! with them as they come.
 
 ghost use Rattle.std.specs.Prelude.{◌≡◌, ◌<◌, length, sum_by, IfOk, IfErr, ◌≤◌, ◌&&◌, nat_le};
 ghost use Rattle.std.specs.Prelude.{is_some, OnOk};
 ghost use Rattle.std.specs.List.{flat_map};
-ghost use Rattle.std.specs.List.Sorted.{IsPermutation};
 ghost use Rattle.rq_model.specs.Queues as model;
 ghost use Rattle.rq_model.specs.StateSpelling.{registrant_bytes, counted, element_bytes};
 ghost use Rattle.rq_model.specs.StateSpelling.{note_bytes, state_bytes};
 ghost use Rattle.rq_record.specs.declared.fault.Fault.TheVariants.{Resources};
 ghost use Rattle.rq_state.specs.Comparing.{left_after};
+ghost use Rattle.rq_state.specs.Spelling.{Spelled};
 ghost use Rattle.std.specs.Str.{bytes_eq};
 ghost use Rattle.rq_model.specs.States as states;
 ghost use Rattle.rq_queue.specs.Rooms.{member_bytes};
 ghost use Rattle.rq_standing.specs.Spelled.{head_of, members_of, least_bytes};
 ghost use Rattle.rq_standing.specs.Stands.{HoldsState};
 
+use crate::lent_members::lent_registrants;
 use crate::queues::Queues;
-use rq_queue::{LentElement, LentNote, Part};
+use rq_queue::Part;
 use rq_record::Fault;
-use rq_state::{Compared, SHORTEST_DEFINITION, SHORTEST_STATE, SHORTEST_UNIT, compare_all, order};
+use rq_state::{Compared, Definition, LentState, State, compare_all, spell_lent};
 use std::alloc::Global;
 
 /// How many registrants the parts have.
@@ -46,35 +48,6 @@ pub(crate) fn compare_registrants_of(parts: &[Part], bytes: &mut Compared<'_>)
         }
         part.compare_registrants(bytes);
     }
-}
-
-/// Lends the elements, in some order.
-pub(crate) fn lent_elements<'a>(
-    alloc: Global,
-    parts: &'a [Part],
-) -> Result<Vec<LentElement<'a>>, Fault>
-    ensures lent { IfOk result (λ v.
-        IsPermutation (flat_map (λ (p : model.Part). p.elements) parts.now) v.items) }
-    ensures refused { IfErr result (λ e. e ≡ Resources) }
-{
-    let mut lent = Vec::new(alloc);
-    for part in parts {
-        part.lend_elements(&mut lent)?;
-    }
-    Ok(lent)
-}
-
-/// Lends the notes, those of each part by place.
-pub(crate) fn lent_notes<'a>(alloc: Global, parts: &'a [Part]) -> Result<Vec<LentNote<'a>>, Fault>
-    ensures lent { IfOk result
-        (λ v. v.items ≡ flat_map (λ (p : model.Part). p.notes) parts.now) }
-    ensures refused { IfErr result (λ e. e ≡ Resources) }
-{
-    let mut lent = Vec::new(alloc);
-    for part in parts {
-        part.lend_notes(&mut lent)?;
-    }
-    Ok(lent)
 }
 
 // Whether the members of the parts, each in its shortest form, are within so many bytes.
@@ -111,9 +84,9 @@ impl Queues {
             → result ≡ nat_le (least_bytes t) len }
     {
         rq_state::parts_make_the_state();
-        let lists = SHORTEST_STATE as u128
-            + SHORTEST_DEFINITION as u128 * self.definitions.len() as u128
-            + SHORTEST_UNIT as u128 * self.units.count() as u128;
+        let lists = State::SHORTEST as u128
+            + Definition::SHORTEST as u128 * self.definitions.len() as u128
+            + State::UNIT as u128 * self.units.count() as u128;
         lists <= len as u128 && parts_fit(&self.parts, (len as u128 - lists) as u64)
     }
 
@@ -124,7 +97,7 @@ impl Queues {
             → result ≡ (nat_le self.now.next 4294967295
             && (is_some bytes.now && nat_le (least_bytes t) len)) }
     {
-        self.next <= 4_294_967_295 && bytes.agree() && self.fits(len)
+        self.next <= State::RECORDS && bytes.agree() && self.fits(len)
     }
 
     // The number of registrants and their spellings are to come next.
@@ -148,13 +121,10 @@ impl Queues {
             → bytes.new ≡ left_after (counted element_bytes t.elements) bytes.old) }
         ensures refused { IfErr result (λ e. e ≡ Resources) }
     {
-        rq_state::parts_make_the_state();
-        rq_state::any_order_makes_the_state();
         if !bytes.agree() {
             return Ok(());
         }
-        let mut elements = lent_elements(alloc, &self.parts)?;
-        order(&mut elements);
+        let elements = self.elements_in_order(alloc)?;
         bytes.member_count(elements.len());
         compare_all(&elements, bytes);
         Ok(())
@@ -168,12 +138,10 @@ impl Queues {
             → bytes.new ≡ left_after (counted note_bytes t.notes) bytes.old) }
         ensures refused { IfErr result (λ e. e ≡ Resources) }
     {
-        rq_state::parts_make_the_state();
         if !bytes.agree() {
             return Ok(());
         }
-        let mut notes = lent_notes(alloc, &self.parts)?;
-        order(&mut notes);
+        let notes = self.notes_in_order(alloc)?;
         bytes.member_count(notes.len());
         compare_all(&notes, bytes);
         Ok(())
@@ -210,5 +178,30 @@ impl Queues {
         }
         self.compare_lists(alloc, &mut bytes)?;
         Ok(bytes.is_matched())
+    }
+
+    /// The bytes that spell the state that they hold.
+    pub(crate) fn spell(&self, alloc: Global) -> Result<Vec<u8>, Fault>
+        requires holds { (t : states.State) × HoldsState self.now t }
+        requires next { self.now.next ≤ 4294967295 }
+        ensures { (t : states.State) → HoldsState self.now t → Spelled t result }
+    {
+        rq_state::parts_make_the_state();
+        let units = self.units.numbers(alloc)?;
+        let registrants = lent_registrants(alloc, &self.parts)?;
+        let elements = self.elements_in_order(alloc)?;
+        let notes = self.notes_in_order(alloc)?;
+        let state = LentState {
+            next: self.next,
+            greatest: self.greatest,
+            committed: self.committed,
+            aborted: self.aborted,
+            definitions: &self.definitions,
+            units: &units,
+            registrants: &registrants,
+            elements: &elements,
+            notes: &notes,
+        };
+        spell_lent(alloc, &state)
     }
 }

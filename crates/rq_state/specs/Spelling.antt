@@ -7,12 +7,16 @@ use Rattle.rq_model.specs.StateSpelling.{state_bytes, Fits, SpellsState}
 use Rattle.rq_record.specs.declared.fault.Fault.{Fault}
 use Rattle.rq_record.specs.declared.fault.Fault.TheVariants.{Resources, TooLarge, BadCheckpoint}
 
--- The bytes of the state, or they would pass their bound, or memory ran out
+-- The text, or it would pass its bound, or memory ran out
+abbrev pub IsWritten : List ℕ → Result (Vec ℕ) Fault → Type 0
+IsWritten text (Ok v) = (v.items ≡ text) × (length v.items ≤ 268435455)
+IsWritten text (Err TooLarge) = 268435455 < length text
+IsWritten text (Err Resources) = ⊤
+IsWritten text (Err e) = ⊥
+
+-- The bytes of the state, or why there are none
 abbrev pub Spelled : State → Result (Vec ℕ) Fault → Type 0
-Spelled s (Ok v) = (v.items ≡ state_bytes s) × (length v.items ≤ 268435455)
-Spelled s (Err TooLarge) = 268435455 < length (state_bytes s)
-Spelled s (Err Resources) = ⊤
-Spelled s (Err e) = ⊥
+Spelled s result = IsWritten (state_bytes s) result
 
 -- The state that the bytes spell in a log of the version, or they spell none. Memory is asked for
 -- only if all bytes have the form of a state: they spell numbers and members in their widths,

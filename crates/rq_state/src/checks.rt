@@ -23,21 +23,16 @@ use crate::checks::lists::{
 };
 use crate::fields::KeptFields;
 use crate::members::Definition;
+use crate::state::State;
 use rq_record::{Fault, Name, Version};
 use std::alloc::Global;
-
-// The greatest next record number that a spelling may have.
-const GREATEST_NEXT: u64 = 4_294_967_295;
-
-// The most queues that may be defined.
-const MOST_QUEUES: usize = 4096;
 
 // Queues and records stay within their bounds, and units and registrants are no more than records.
 fn are_numbers(fields: &KeptFields) -> bool
     ensures { IsTrue result ↔ KeepsNumbers (state_of fields.now) }
 {
-    fields.next <= GREATEST_NEXT
-        && fields.definitions.len() <= MOST_QUEUES
+    fields.next <= State::RECORDS
+        && fields.definitions.len() <= Definition::MOST
         && fields.committed <= fields.next
         && fields.aborted <= fields.next - fields.committed
         && fields.units.len() as u64 <= fields.next - fields.committed - fields.aborted

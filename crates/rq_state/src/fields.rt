@@ -2,10 +2,11 @@
 
 ghost use Rattle.std.specs.Prelude.{◌≡◌, IfOk, IfErr};
 ghost use Rattle.rq_record.specs.declared.fault.Fault.TheVariants.{Resources};
-ghost use Rattle.rq_state.specs.Inside.{state_of};
+ghost use Rattle.rq_state.specs.Inside.{state_lent, state_of};
 
 use crate::kept_element::{Element, KeptElement, kept_elements};
 use crate::kept_registrant::{KeptRegistrant, kept_registrants};
+use crate::lent_state::LentState;
 use crate::members::{Definition, Note, Registrant};
 use rq_record::{Fault, UnitNo};
 use std::alloc::Global;
@@ -61,5 +62,22 @@ impl KeptFields {
             elements,
             notes: fields.notes,
         })
+    }
+
+    /// The fields, lent.
+    pub(crate) fn lent(&self) -> LentState<'_, KeptRegistrant, KeptElement, Note>
+        ensures { state_lent result ≡ state_of self.now }
+    {
+        LentState {
+            next: self.next,
+            greatest: self.greatest,
+            committed: self.committed,
+            aborted: self.aborted,
+            definitions: &self.definitions,
+            units: &self.units,
+            registrants: &self.registrants,
+            elements: &self.elements,
+            notes: &self.notes,
+        }
     }
 }

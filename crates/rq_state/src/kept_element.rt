@@ -153,7 +153,7 @@ fn all_of<P: PayloadBytes, Q: MadeOf<P>>(
 }
 
 /// Keeps the elements, in their order. `Resources` if memory runs out.
-pub fn kept_elements(alloc: Global, elements: &[Element]) -> Result<Vec<KeptElement>, Fault>
+pub(crate) fn kept_elements(alloc: Global, elements: &[Element]) -> Result<Vec<KeptElement>, Fault>
     ensures kept { IfOk result (λ v. v.items ≡ elements.now) }
     ensures refused { IfErr result (λ e. e ≡ Resources) }
 {

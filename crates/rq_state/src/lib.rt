@@ -11,6 +11,7 @@ mod heard;
 mod kept_element;
 mod kept_registrant;
 mod laws;
+mod lent_state;
 mod looks;
 mod marks;
 mod members;
@@ -24,17 +25,13 @@ mod writers;
 pub use compared::{Compare, Compared, compare_all};
 pub use copies::copied_definitions;
 pub use fields::{Fields, FieldsOf, KeptFields};
-pub use kept_element::{
-    Element, ElementOf, KeptElement, MadeOf, PayloadBytes, kept_elements, told_elements,
-};
+pub use kept_element::{Element, ElementOf, KeptElement, MadeOf, PayloadBytes, told_elements};
 pub use kept_registrant::{KeptRegistrant, told_registrants};
 pub use laws::{any_order_makes_the_state, parts_make_the_state};
+pub use lent_state::LentState;
 pub use members::{Definition, Last, Mark, Note, OpKind, Registrant};
 pub use orders::{Ordinal, order};
 pub use readers::{read, read_in};
 pub use state::State;
 pub use tables::empty_lists;
-pub use writers::{
-    SHORTEST_DEFINITION, SHORTEST_ELEMENT, SHORTEST_NOTE, SHORTEST_REGISTRANT, SHORTEST_STATE,
-    SHORTEST_UNIT, spell, spelled_len,
-};
+pub use writers::{Spell, put_registrant, registrant_size, spell, spell_lent, spelled_len};

@@ -143,6 +143,12 @@ impl Model for Definition {
 }
 
 impl Definition {
+    /// The most queues that may be defined.
+    pub const MOST: usize = 4096;
+
+    /// The greatest limit.
+    pub const LIMIT: u16 = 1000;
+
     /// The same definition again.
     pub fn copied(&self) -> Definition
         ensures { result ≡ self.now }

@@ -44,6 +44,9 @@ impl Model for State {
 }
 
 impl State {
+    /// The most records before a state that is spelled.
+    pub const RECORDS: u64 = 4_294_967_295;
+
     /// The state before the first record. It takes no memory.
     pub fn empty(alloc: Global) -> State
         ensures { result ≡ model.empty }

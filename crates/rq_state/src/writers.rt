@@ -2,33 +2,24 @@
 
 ghost use Rattle.std.specs.Prelude.{◌≤◌, ◌++◌};
 ghost use Rattle.std.specs.Int.{w64, to_be_bytes};
-ghost use Rattle.rq_model.specs.Reading.{AreFew};
-ghost use Rattle.rq_model.specs.StateSpelling.{counted, registrant_bytes, element_bytes};
-ghost use Rattle.rq_model.specs.StateSpelling.{note_bytes, state_bytes};
-ghost use Rattle.rq_model.specs.WellFormed.{IsWellFormed};
-ghost use Rattle.rq_state.specs.Inside.{state_of};
-ghost use Rattle.rq_state.specs.Spelling.{Spelled};
-ghost use Rattle.rq_state.specs.Writing.{PutsSpelling};
+ghost use Rattle.rq_model.specs.StateSpelling.{counted};
+ghost use Rattle.rq_state.specs.Spelling.{IsWritten, Spelled};
+ghost use Rattle.rq_state.specs.Writing.{AreCountable, PutsSpelling, text_of};
 
 mod lists;
 mod members;
 mod output;
 mod sizes;
 
-use crate::fields::KeptFields;
+use crate::lent_state::LentState;
 use crate::state::State;
 use crate::writers::lists::{put_all, put_units};
-use crate::writers::sizes::fields_len;
-pub use crate::writers::sizes::{
-    SHORTEST_DEFINITION, SHORTEST_ELEMENT, SHORTEST_NOTE, SHORTEST_REGISTRANT, SHORTEST_STATE,
-    SHORTEST_UNIT, spelled_len,
-};
+pub use crate::writers::members::{Spell, put_registrant};
+use crate::writers::sizes::lent_len;
+pub use crate::writers::sizes::{registrant_size, spelled_len};
 use rq_bytes::put_u64;
-use rq_record::Fault;
+use rq_record::{CheckBytes, Fault};
 use std::alloc::{AllocError, Global};
-
-// The greatest length of a spelling, as a checkpoint record holds it after its kind.
-const BOUND: u128 = 268_435_455;
 
 /// The bytes of a checkpoint of this state, at most 268,435,455: four counts, then definitions by
 /// number, open units rising, registrants by queue and name, elements by id and notes by place,
@@ -38,54 +29,74 @@ pub fn spell(alloc: Global, state: &State) -> Result<Vec<u8>, Fault>
     requires { state.now.next ≤ 4294967295 }
     ensures { Spelled state.now result }
 {
-    spell_fields(alloc, state.fields())
+    spell_lent(alloc, &state.fields().lent())
 }
 
-// The same for fields whose lists are in order.
-fn spell_fields(alloc: Global, fields: &KeptFields) -> Result<Vec<u8>, Fault>
-    requires next { fields.now.next ≤ 4294967295 }
-    requires well_formed { IsWellFormed (state_of fields.now) }
-    ensures { Spelled (state_of fields.now) result }
+/// The same of a state whose lists are lent.
+pub fn spell_lent<R: Spell, E: Spell, N: Spell>(
+    alloc: Global,
+    state: &LentState<'_, R, E, N>,
+) -> Result<Vec<u8>, Fault>
+    requires { AreCountable state.now }
+    ensures { IsWritten (text_of R.spelling E.spelling N.spelling state.now) result }
 {
-    let size = fields_len(fields);
-    if size > BOUND {
+    let size = lent_len(state);
+    if size > CheckBytes::LIMIT as u128 {
         return Err(Fault::TooLarge);
     }
     let mut out = Vec::with_capacity(alloc, size as usize)?;
-    put_fields(&mut out, fields)?;
+    put_state(&mut out, state)?;
     Ok(out)
 }
 
-fn put_numbers(out: &mut Vec<u8>, fields: &KeptFields) -> Result<(), AllocError>
+fn put_numbers(
+    out: &mut Vec<u8>,
+    next: u64,
+    greatest: u64,
+    committed: u64,
+    aborted: u64,
+) -> Result<(), AllocError>
     ensures { PutsSpelling out.old.items out.new.items
-        (to_be_bytes w64 fields.now.next ++ (to_be_bytes w64 fields.now.greatest
-        ++ (to_be_bytes w64 fields.now.committed ++ to_be_bytes w64 fields.now.aborted))) result }
+        (to_be_bytes w64 next ++ (to_be_bytes w64 greatest
+        ++ (to_be_bytes w64 committed ++ to_be_bytes w64 aborted))) result }
 {
-    put_u64(out, fields.next)?;
-    put_u64(out, fields.greatest)?;
-    put_u64(out, fields.committed)?;
-    put_u64(out, fields.aborted)
+    put_u64(out, next)?;
+    put_u64(out, greatest)?;
+    put_u64(out, committed)?;
+    put_u64(out, aborted)
 }
 
-fn put_members(out: &mut Vec<u8>, fields: &KeptFields) -> Result<(), AllocError>
-    requires { AreFew (state_of fields.now) }
+fn put_members<R: Spell, E: Spell, N: Spell>(
+    out: &mut Vec<u8>,
+    state: &LentState<'_, R, E, N>,
+) -> Result<(), AllocError>
+    requires { AreCountable state.now }
     ensures { PutsSpelling out.old.items out.new.items
-        (counted registrant_bytes fields.now.registrants.items
-        ++ (counted element_bytes fields.now.elements.items
-        ++ counted note_bytes fields.now.notes.items)) result }
+        (counted R.spelling state.now.registrants.now
+        ++ (counted E.spelling state.now.elements.now
+        ++ counted N.spelling state.now.notes.now)) result }
 {
-    put_all(out, &fields.registrants)?;
-    put_all(out, &fields.elements)?;
-    put_all(out, &fields.notes)
+    put_all(out, state.registrants)?;
+    put_all(out, state.elements)?;
+    put_all(out, state.notes)
 }
 
-fn put_fields(out: &mut Vec<u8>, fields: &KeptFields) -> Result<(), AllocError>
-    requires next { fields.now.next ≤ 4294967295 }
-    requires well_formed { IsWellFormed (state_of fields.now) }
-    ensures { PutsSpelling out.old.items out.new.items (state_bytes (state_of fields.now)) result }
+fn put_state<R: Spell, E: Spell, N: Spell>(
+    out: &mut Vec<u8>,
+    state: &LentState<'_, R, E, N>,
+) -> Result<(), AllocError>
+    requires { AreCountable state.now }
+    ensures { PutsSpelling out.old.items out.new.items
+        (text_of R.spelling E.spelling N.spelling state.now) result }
 {
-    put_numbers(out, fields)?;
-    put_all(out, &fields.definitions)?;
-    put_units(out, &fields.units)?;
-    put_members(out, fields)
+    put_numbers(
+        out,
+        state.next,
+        state.greatest,
+        state.committed,
+        state.aborted,
+    )?;
+    put_all(out, state.definitions)?;
+    put_units(out, state.units)?;
+    put_members(out, state)
 }

@@ -6,11 +6,12 @@ ghost use Rattle.rq_record.specs.declared.fault.Fault.TheVariants.{Resources};
 use crate::rows::Value::{Number, Word};
 use crate::rows::{PAYLOADS, Row, UNITS, put_greatest};
 use rq_found::{
-    Effect, End, Event, FollowedQueues, Numbered, PlacedFrames, ShownLog, first_state,
-    front_frames, kind_of,
+    Effect, End, Event, Followed, Numbered, PlacedFrames, ShownLog, kind_of, queues_of,
 };
 use rq_front::FRAME_LEN;
-use rq_record::{Fault, KeptRecord, Name, UnitNo};
+use rq_queue::Fate;
+use rq_record::{Fault, KeptRecord, Name, QueueNo, UnitNo};
+use rq_standing::Machine;
 use rq_state::{Definition, State};
 use std::alloc::{AllocError, Global};
 use std::collections::BTreeMap;
@@ -142,10 +143,10 @@ impl Measures {
 
     fn take_events(&mut self, events: &[Event]) {
         for event in events {
-            let Event::To(_, Effect::Moved(queue)) = event else {
+            let Event::To(_, Effect::Ended(Fate::Moved(queue))) = event else {
                 continue;
             };
-            if let Some(moves) = self.moves.get_mut(*queue as usize) {
+            if let Some(moves) = self.moves.get_mut(queue.0 as usize) {
                 *moves = moves.saturating_add(1);
             }
         }
@@ -159,23 +160,25 @@ impl Measures {
     }
 
     // Does all records of the front.
-    fn walk(&mut self, frames: PlacedFrames<'_>, machine: &mut FollowedQueues) -> Result<(), Fault>
+    fn walk(&mut self, frames: PlacedFrames<'_>, followed: &mut Followed) -> Result<(), Fault>
         ensures { IfErr result (λ e. e ≡ Resources) }
     {
         for placed in frames {
-            let it = machine.follow(placed)?;
-            self.take(placed.body, &it, machine.events())?;
+            let it = followed.follow(placed)?;
+            self.take(placed.body, &it, followed.events())?;
         }
         Ok(())
     }
 
     // Aborts the units that are open behind the front, as a restart does.
-    fn restart(&mut self, machine: &mut FollowedQueues, number: u64) -> Result<(), AllocError> {
-        for unit in machine.open_units()? {
-            machine.abort(unit)?;
-            self.take_events(machine.events());
+    fn restart(&mut self, alloc: Global, followed: &mut Followed, number: u64) -> Result<(), Fault>
+        ensures { IfErr result (λ e. e ≡ Resources) }
+    {
+        for unit in followed.machine().open_units(alloc)? {
+            followed.abort(unit)?;
+            self.take_events(followed.events());
             self.cut_off = self.cut_off.saturating_add(1);
-            self.end_unit(unit, number, "cut off")?;
+            self.end_unit(unit.0, number, "cut off")?;
         }
         Ok(())
     }
@@ -190,22 +193,31 @@ impl Measures {
     ) -> Result<(), Fault>
         ensures { IfErr result (λ e. e ≡ Resources) }
     {
-        let mut machine = FollowedQueues::of(alloc, first)?;
+        let mut followed = Followed::of(alloc, first)?;
         self.take_names(first.definitions())?;
         self.take_units(first.units(), first.next())?;
-        self.walk(frames, &mut machine)?;
-        self.restart(&mut machine, end.records)?;
-        self.depths = machine.depths()?;
+        self.walk(frames, &mut followed)?;
+        self.restart(alloc, &mut followed, end.records)?;
+        self.depths = depths_of(alloc, followed.machine())?;
         Ok(())
     }
+}
+
+// How many free elements each queue has, by number.
+fn depths_of(alloc: Global, state: &Machine) -> Result<Vec<u64>, AllocError> {
+    let mut depths = Vec::new(alloc);
+    for queue in 0..queues_of(state.definitions()) {
+        depths.push(state.depth(QueueNo(queue)) as u64)?;
+    }
+    Ok(depths)
 }
 
 /// What the front of a log counts.
 pub(crate) fn counted(alloc: Global, log: &ShownLog<'_>, end: &End) -> Result<Measures, Fault>
     ensures { IfErr result (λ e. e ≡ Resources) }
 {
-    let first = first_state(alloc, log.bytes, log.at)?;
-    let frames = front_frames(log.bytes, &first, log.at, end.used);
+    let first = ShownLog::first_state(alloc, log.bytes, log.at)?;
+    let frames = PlacedFrames::front_frames(log.bytes, &first, log.at, end.used);
     let mut measures = Measures::new(alloc);
     measures.take_all(alloc, &first, frames, end)?;
     Ok(measures)

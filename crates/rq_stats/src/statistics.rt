@@ -13,9 +13,7 @@ ghost use Rattle.rq_stats.specs.Statistics.{AreNumbers, PutsNumbers};
 
 use crate::measures::{Measures, counted};
 use crate::shown::{StatisticsShown, lines_of, rows_of};
-use rq_found::{
-    End, Output, ShownLog, Trouble, end_of, front_shown, put_beginning, put_end, write_bytes,
-};
+use rq_found::{End, FrontShown, Output, ShownLog, Trouble, write_bytes};
 use std::alloc::{AllocError, Global};
 use std::thread::Threads;
 
@@ -32,8 +30,8 @@ fn text_of(
 {
     let lines = lines_of(alloc, measures)?;
     let mut text = String::new(alloc);
-    put_beginning(&mut text, at)?;
-    put_end(&mut text, end)?;
+    End::put_beginning(&mut text, at)?;
+    End::put_end(&mut text, end)?;
     text.push_str(lines.as_str())?;
     Ok(text)
 }
@@ -45,7 +43,7 @@ fn json_of(alloc: Global, end: &End, measures: &Measures) -> Result<String, Trou
         (λ text. (object : List ℕ) × (string_bytes text ≡ object ++ codes "\n")) }
     ensures refused { IfErr result (λ e. e ≡ Log Resources) }
 {
-    let (front, rows) = (front_shown(end), rows_of(alloc, measures)?);
+    let (front, rows) = (FrontShown::of(end), rows_of(alloc, measures)?);
     let mut text = serde_json::to_string_pretty(alloc, &StatisticsShown { front, rows: &rows })?;
     text.push('\n')?;
     Ok(text)
@@ -92,7 +90,7 @@ pub fn stats<R: Threads + Sync, W: Output>(
         (W.contents output.old) (W.contents output.new)) }
     ensures faults { CountsFaults (W.faults output.old) (W.faults output.new) result }
 {
-    let end = end_of(rt, alloc, log)?;
+    let end = End::of(rt, alloc, log)?;
     let text = numbers_of(alloc, log, &end, json)?;
     write_bytes(output, text.as_bytes())?;
     Ok(())

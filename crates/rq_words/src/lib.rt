@@ -6,12 +6,6 @@ use clap::builder::ValueParser;
 use clap::{Arg, ArgAction, Command};
 use std::alloc::{AllocError, Global};
 
-/// What the value of a word has to be: any text.
-pub const TEXT: ValueParser<'static> = ValueParser::String;
-
-/// Or a number that 32 bits hold.
-pub const SMALL: ValueParser<'static> = ValueParser::Signed(0, 4_294_967_295);
-
 /// How a word is given.
 #[derive(Clone, Copy)]
 pub enum WordForm {
@@ -37,12 +31,20 @@ pub enum WordForm {
 #[derive(Clone, Copy)]
 pub struct Word(pub &'static str, pub WordForm, pub &'static str);
 
-/// How many workers there are, as an option.
-pub const WORKERS: Word = Word(
-    "workers",
-    WordForm::WithOr("WORKERS", SMALL, "4"),
-    "How many threads work, 1 to 64",
-);
+impl Word {
+    /// What the value of a word has to be: any text.
+    pub const TEXT: ValueParser<'static> = ValueParser::String;
+
+    /// Or a number that 32 bits hold.
+    pub const SMALL: ValueParser<'static> = ValueParser::Signed(0, 4_294_967_295);
+
+    /// How many workers there are, as an option.
+    pub const WORKERS: Word = Word(
+        "workers",
+        WordForm::WithOr("WORKERS", Word::SMALL, "4"),
+        "How many threads work, 1 to 64",
+    );
+}
 
 /// A command: its name, what the help says of it, and its words.
 pub struct Subcommand {
@@ -79,7 +81,7 @@ fn argument<'a>(alloc: Global, word: &Word) -> Arg<'a> {
         WordForm::Flag => flag(alloc, word),
         WordForm::Letter(letter) => flag(alloc, word).short(letter),
         WordForm::With(name, parser) => option(alloc, word, name, parser),
-        WordForm::WithName(name) => option(alloc, word, name, TEXT).allow_hyphen_values(true),
+        WordForm::WithName(name) => option(alloc, word, name, Word::TEXT).allow_hyphen_values(true),
         WordForm::WithOr(name, parser, usual) => {
             option(alloc, word, name, parser).default_value(usual)
         }
@@ -115,19 +117,21 @@ fn commands<'a>(
     Ok(commands)
 }
 
-/// The command of a program by its name, what its help says of it, its version, and the table of its
-/// commands, one of which must be given.
-pub fn program_command<'a>(
-    alloc: Global,
-    name: &'static str,
-    about: &'static str,
-    version: &'static str,
-    texts: &'static [Subcommand],
-) -> Result<Command<'a>, AllocError> {
-    let commands = commands(alloc, texts)?;
-    Command::new(alloc, name)
-        .about(about)
-        .version(version)
-        .subcommand_required(true)
-        .subcommands(commands)
+impl Subcommand {
+    /// The command of a program by its name, what its help says of it, its version, and the table of
+    /// its commands, one of which must be given.
+    pub fn program_command<'a>(
+        alloc: Global,
+        name: &'static str,
+        about: &'static str,
+        version: &'static str,
+        texts: &'static [Subcommand],
+    ) -> Result<Command<'a>, AllocError> {
+        let commands = commands(alloc, texts)?;
+        Command::new(alloc, name)
+            .about(about)
+            .version(version)
+            .subcommand_required(true)
+            .subcommands(commands)
+    }
 }

@@ -70,7 +70,7 @@ fn hex(alloc: Global, limit: usize, text: &[u8]) -> Result<Vec<u8>, Fault>
 pub(crate) fn payload(alloc: Global, text: &[u8]) -> Result<Payload, Fault>
     ensures { Gives (λ x. x) result (spec.bytes_of_hex 65535 text.now) }
 {
-    match Payload::new(hex(alloc, 65535, text)?) {
+    match Payload::new(hex(alloc, Payload::LIMIT, text)?) {
         Some(payload) => Ok(payload),
         None => Err(Fault::Form),
     }
@@ -79,7 +79,7 @@ pub(crate) fn payload(alloc: Global, text: &[u8]) -> Result<Payload, Fault>
 pub(crate) fn kept(alloc: Global, text: &[u8]) -> Result<CheckBytes, Fault>
     ensures { Gives (λ x. x) result (spec.bytes_of_hex 268435455 text.now) }
 {
-    match CheckBytes::new(hex(alloc, 268_435_455, text)?) {
+    match CheckBytes::new(hex(alloc, CheckBytes::LIMIT, text)?) {
         Some(bytes) => Ok(bytes),
         None => Err(Fault::Form),
     }

@@ -9,5 +9,5 @@ mod made_logs;
 mod readers;
 
 pub use fields::decimal_number;
-pub use made_logs::{line_at, make, make_in, one_answer};
-pub use readers::{ScriptLine, read_line};
+pub use made_logs::{make, make_in, one_answer};
+pub use readers::{ScriptLine, line_at};

@@ -7,7 +7,7 @@ ghost use Rattle.rq_writer.specs.Fronts.{IsFrontAfter, AreLogged};
 ghost use Rattle.rq_writer.specs.Making.{HoldsRecords, RecordOf, Framed, LineMade, Starts};
 
 use crate::front::MadeFront;
-use crate::readers::{ScriptLine, read_line};
+use crate::readers::ScriptLine;
 use rq_front::{FRAME_LEN, LOG_LIMIT, frame, header_of};
 use rq_plan::Plan;
 use rq_record::{Fault, Record, Version, encode};
@@ -36,7 +36,7 @@ fn record_at<R: Threads + Sync>(
         × AreLogged (version_of version) rs }
     ensures { RecordOf (version_of version) number text.now front.old front.new result }
 {
-    match read_line(alloc, version, text) {
+    match ScriptLine::of(alloc, version, text) {
         Ok(ScriptLine::Told(r)) => Ok(r),
         Ok(ScriptLine::Spelled) => front.spelled(rt, alloc, version, plan),
         Err(Fault::Form) => Err(Fault::Script(number)),

@@ -3,25 +3,13 @@
 ghost use Rattle.rq_model.specs.Records.{One};
 ghost use Rattle.rq_record.specs.Views.{version_of};
 ghost use Rattle.rq_writer.specs.Made.{Made, EveryScriptHasAnswer, OneAnswer};
-ghost use Rattle.rq_writer.specs.Making.{NextLine};
 
-use crate::fields::split_once;
 use crate::log::Log;
+use crate::readers::line_at;
 use rq_plan::Plan;
 use rq_record::{Fault, Version};
 use std::alloc::Global;
 use std::thread::Threads;
-
-/// The text of the next line of a script, and what comes after it. `Script` with the line's number
-/// if it has no end.
-pub fn line_at(number: u64, rest: &[u8]) -> Result<(&[u8], &[u8]), Fault>
-    ensures { NextLine (λ x. (x.0.now, x.1.now)) number rest.now result }
-{
-    match split_once(b'\n', rest) {
-        Some((text, after)) => Ok((text, after)),
-        None => Err(Fault::Script(number)),
-    }
-}
 
 /// The log of a script in a version: the header, then one frame for each line. Records are written
 /// as told, unlawful ones too. A line `checkpoint` becomes a checkpoint of the state after the

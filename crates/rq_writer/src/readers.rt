@@ -1,10 +1,11 @@
 //! The lines of a script, and from a text to a line.
 
 ghost use Rattle.rq_record.specs.Views.{record_of, version_of};
+ghost use Rattle.rq_writer.specs.Making.{NextLine};
 ghost use Rattle.rq_writer.specs.Reading as spec;
 ghost use Rattle.rq_writer.specs.Reading.{Gives, ReadsLine, line_of};
 
-use crate::fields::{by, error, field, name, number, number_field, u32_field};
+use crate::fields::{by, error, field, name, number, number_field, split_once, u32_field};
 use crate::hexes::{kept, payload};
 use rq_record::{ElemId, Fault, Name, QueueNo, Record, UnitNo, Version};
 use std::alloc::Global;
@@ -16,6 +17,17 @@ pub enum ScriptLine {
     Told(Record),
     /// A checkpoint of the state so far.
     Spelled,
+}
+
+/// The text of the next line of a script, and what comes after it. `Script` with the line's number
+/// if it has no end.
+pub fn line_at(number: u64, rest: &[u8]) -> Result<(&[u8], &[u8]), Fault>
+    ensures { NextLine (λ x. (x.0.now, x.1.now)) number rest.now result }
+{
+    match split_once(b'\n', rest) {
+        Some((text, after)) => Ok((text, after)),
+        None => Err(Fault::Script(number)),
+    }
 }
 
 #[tactic(auto, unfolding(crate::specs::Reading::define_line))]
@@ -144,13 +156,15 @@ fn told_line(alloc: Global, version: Version, text: &[u8]) -> Result<ScriptLine,
     Ok(ScriptLine::Told(record))
 }
 
-/// The line that the text tells in the version. `Form` if no line has this text.
-#[tactic(auto, using(crate::proofs::Lines::reads))]
-pub fn read_line(alloc: Global, version: Version, text: &[u8]) -> Result<ScriptLine, Fault>
-    ensures { ReadsLine (version_of version) text.now result }
-{
-    if text == b"checkpoint".as_slice() {
-        return Ok(ScriptLine::Spelled);
+impl ScriptLine {
+    /// The line that the text tells in the version. `Form` if no line has this text.
+    #[tactic(auto, using(crate::proofs::Lines::reads))]
+    pub fn of(alloc: Global, version: Version, text: &[u8]) -> Result<ScriptLine, Fault>
+        ensures { ReadsLine (version_of version) text.now result }
+    {
+        if text == b"checkpoint".as_slice() {
+            return Ok(ScriptLine::Spelled);
+        }
+        told_line(alloc, version, text)
     }
-    told_line(alloc, version, text)
 }

@@ -7,7 +7,7 @@ use crate::refusal::Refusal;
 use rq_journal::{NotTaken, Plan, carried, checkpoint_of, write_as_carried};
 use rq_record::{Fault, LogBytes, Record, kept_records};
 use rq_restart::{RedoneFront, go_on};
-use rq_standing::Standing;
+use rq_standing::Machine;
 use rq_state::State;
 use std::alloc::Global;
 use std::thread::Threads;
@@ -49,9 +49,9 @@ fn end_units<R: Threads + Sync>(
     let aborts = aborts_of(alloc, &front.state)?;
     append_all(alloc, log, &aborts)?;
     let aborts = kept_records(alloc, &aborts)?;
-    let mut standing = Standing::of(alloc, front.version, &front.state)?;
-    go_on(rt, alloc, &mut standing, &aborts, plan)?;
-    Ok(standing.state(alloc)?)
+    let mut machine = Machine::of(alloc, &front.state)?;
+    go_on(rt, alloc, front.version, &mut machine, &aborts, plan)?;
+    Ok(machine.state(alloc)?)
 }
 
 // Appends a checkpoint of the state, behind which the log stands.

@@ -13,11 +13,11 @@ use crate::new_log::{expect_free, put_new};
 use crate::recovery::recover;
 use crate::refusal::{Refusal, Stream, failed};
 use clap::ArgMatches;
-use rq_file::{Patient, Replaces, expect_replaceable, name_one_file, put_over};
+use rq_file::{Names, Patient, Replaces, put_over};
 use rq_front::header_of;
 use rq_journal::{CARRIED_AT, Fault, Plan, audit_carried};
 use rq_record::{LogBytes, Version};
-use rq_restart::ending_of;
+use rq_restart::Ending;
 use rq_tool::{Open, OverRead, OverWrite, Work, through};
 use std::fs::File;
 use std::io::{self, Read};
@@ -187,7 +187,7 @@ where
         return closed_carried(rt, alloc, log, plan, drops);
     }
     let bytes = log.bytes;
-    let ending = ending_of(rt, alloc, &bytes, plan)?;
+    let ending = Ending::of(rt, alloc, &bytes, plan)?;
     let left = expect_end(
         alloc,
         LastBytes::all(&bytes),
@@ -226,11 +226,12 @@ where
     R: Files<File = File> + Eprint + AllocGlobal + Threads + Sync,
 {
     let out = words.get_str("OUT").unwrap_or("-");
-    if name_one_file(rt, path, out) {
+    if Names::name_one_file(rt, path, out) {
         return close_in_place(rt, out, plan, words.get_flag("drop"));
     }
     let rule = replaced_by(words);
-    expect_replaceable(rt, out, &rule).map_err(|error| failed(Stream::Out, error))?;
+    rule.expect_replaceable(rt, out)
+        .map_err(|error| failed(Stream::Out, error))?;
     let log = log_from(rt, opened(rt, path, Stream::Log)?)?;
     let (made, left) = closed_of(rt, log, plan, true)?;
     put_over(rt, out, &[&made], &rule).map_err(|error| failed(Stream::Out, error))?;

@@ -3,8 +3,8 @@
 ghost use Rattle.std.specs.Prelude.{◌≤◌, length, IfOk};
 
 use crate::refusal::Refusal;
-use rq_behind::{Scan, behind, first_record};
-use rq_journal::{Damage, Ending, Why, damage_behind};
+use rq_behind::{Found, Scan};
+use rq_journal::{Damage, Ending, Why};
 use rq_record::Version;
 use rq_report::why_word;
 use std::alloc::Global;
@@ -138,7 +138,7 @@ fn moved(damage: Damage, before: usize) -> Damage {
 // beginning of a frame.
 fn bad_end(alloc: Global, last: LastBytes<'_>, end: EndOfFront) -> Result<Option<BadEnd>, Refusal> {
     let place = place_in(last.bytes, last.before, end)?;
-    let damage = damage_behind(alloc, end.version, last.bytes, place, end.why)?;
+    let damage = Damage::left_behind(alloc, end.version, last.bytes, place, end.why)?;
     if damage.is_none() && matches!(end.why, Why::Whole | Why::Cut) {
         return Ok(None);
     }
@@ -159,8 +159,8 @@ fn right_frames(
     requires after { 32 ≤ place }
     requires within { place ≤ length bytes.now }
 {
-    let found = behind(alloc, version, bytes, place)?;
-    if found.spans.is_empty() && matches!(first_record(version, bytes, place), Scan::At(_)) {
+    let found = Found::of(alloc, version, bytes, place)?;
+    if found.spans.is_empty() && matches!(Scan::of(version, bytes, place), Scan::At(_)) {
         return Ok(1);
     }
     Ok(found.spans.len())

@@ -1,6 +1,6 @@
 //! What is expected where a line is none of a script.
 
-use rq_record::Name;
+use rq_record::{CheckBytes, Name, Payload};
 use rq_writer::decimal_number;
 use std::fmt;
 
@@ -92,8 +92,8 @@ impl ScriptField {
                 text,
             ),
             ScriptField::Priority => is_number(255, text),
-            ScriptField::Payload => is_hex(65_535, text),
-            ScriptField::State => is_hex(268_435_455, text),
+            ScriptField::Payload => is_hex(Payload::LIMIT, text),
+            ScriptField::State => is_hex(CheckBytes::LIMIT, text),
             ScriptField::Kind | ScriptField::End | ScriptField::TagOfNobody => false,
         }
     }

@@ -4,13 +4,10 @@ use crate::damage::{EndOfFront, LINK_LEN, LastBytes, LeftOut, expect_end};
 use crate::inputs::{LentLog, ReadLog, begins_carried, feed_file, last_of_log, rest_of_log};
 use crate::refusal::Refusal;
 use byteorder::{BigEndian, ByteOrder};
-use rq_journal::{
-    CARRIED_AT, Fault, Opened, Plan, TORN_LEN, Why, open, open_carried, opened_behind,
-    opened_redone,
-};
+use rq_journal::{CARRIED_AT, Fault, Opened, Plan, Why, open, open_carried};
 use rq_judged::GrowingFront;
 use rq_record::Version;
-use rq_restart::{RedoneFront, redone_front, redone_front_at};
+use rq_restart::RedoneFront;
 use std::alloc::Global;
 use std::fs::File;
 use std::thread::Threads;
@@ -131,7 +128,7 @@ fn telling(why: Why, drops: bool) -> usize {
     if drops || matches!(why, Why::Cut) {
         usize::MAX
     } else {
-        TORN_LEN + 1
+        Why::TORN_LEN + 1
     }
 }
 
@@ -143,7 +140,7 @@ where
     let mut front = GrowingFront::new(rt.alloc());
     let read = feed_file(rt, file, &mut front, plan)?;
     let judged = front.judged(rt, rt.alloc(), plan)?;
-    Ok(open_at(rt.alloc(), opened_behind(judged), read, 0))
+    Ok(open_at(rt.alloc(), Opened::of(judged), read, 0))
 }
 
 /// Where the front of the log in an open file ends, behind which records may follow, or do if what
@@ -185,9 +182,9 @@ fn redone_in<R: Threads + Sync>(
     plan: &Plan,
 ) -> Result<RedoneFront, Fault> {
     if log.is_carried {
-        redone_front_at(rt, alloc, &log.bytes, CARRIED_AT as u64, plan)
+        RedoneFront::redone_at(rt, alloc, &log.bytes, CARRIED_AT as u64, plan)
     } else {
-        redone_front(rt, alloc, &log.bytes, plan)
+        RedoneFront::of(rt, alloc, &log.bytes, plan)
     }
 }
 
@@ -201,7 +198,7 @@ pub(crate) fn redone_log<R: Threads + Sync>(
 ) -> Result<(OpenLog, RedoneFront), Refusal> {
     let front = redone_in(rt, alloc, log, plan)?;
     let bytes = log.bytes.as_slice();
-    let opened = opened_redone(alloc, &front)?;
+    let opened = Opened::of_redone(alloc, &front)?;
     let before = numbered_before(bytes, log.is_carried);
     let mut open = open_at(alloc, opened, bytes.len(), before);
     open.expect_end(alloc, LastBytes::all(bytes), drops)?;

@@ -5,6 +5,7 @@ ghost use Rattle.rq_judged.specs.GrowingFronts.{GoesAlong};
 
 use crate::refusal::{Refusal, Stream, failed};
 use rq_file::{LIMIT, read_limited};
+use rq_front::HEADER_LEN;
 use rq_journal::{Fault, Plan, is_carried, read_as_log};
 use rq_judged::GrowingFront;
 use rq_record::LogBytes;
@@ -13,9 +14,6 @@ use std::fs::{self, File, Files};
 use std::io::{self, Chain, Cursor, ErrorKind, Read, Seek, SeekFrom};
 use std::os::unix::fs::FileExt;
 use std::thread::Threads;
-
-// So many bytes tell a carried file from a log: those of their headers.
-const BEGINNING: usize = 40;
 
 // So many bytes of a log are read at a time.
 const PIECE: usize = 1_048_576;
@@ -85,13 +83,13 @@ pub(crate) fn last_of_log<A: AllocGlobal>(
     bytes_from(rt, (&*file).take(most as u64))
 }
 
-/// Whether an open file or pipe is a carried file, and all its bytes as they are read, to be read.
+/// Whether an open file or pipe is a carried file, which its header tells, and all its bytes as they are read, to be read.
 pub(crate) fn begun_log<A: AllocGlobal>(
     rt: &A,
     file: File,
 ) -> Result<(bool, Chain<Cursor<Vec<u8>>, File>), Refusal> {
     let mut beginning = Vec::new(rt.alloc());
-    match (&file).take(BEGINNING as u64).read_to_end(&mut beginning) {
+    match (&file).take(HEADER_LEN as u64).read_to_end(&mut beginning) {
         Ok(_) => {
             let is_carried = read_as_log(&mut beginning).is_some();
             Ok((is_carried, Cursor::new(beginning).chain(file)))
@@ -102,9 +100,9 @@ pub(crate) fn begun_log<A: AllocGlobal>(
 
 /// Whether an open file is a carried file.
 pub(crate) fn begins_carried(file: &File) -> bool {
-    let mut beginning = [0; BEGINNING];
+    let mut beginning = [0; HEADER_LEN];
     match file.read_at(&mut beginning, 0) {
-        Ok(count) => count == BEGINNING && is_carried(&beginning),
+        Ok(count) => count == HEADER_LEN && is_carried(&beginning),
         Err(_) => false,
     }
 }

@@ -4,8 +4,8 @@ use crate::expected::{Misfit, field_missed};
 use crate::fronts::OpenLog;
 use crate::refusal::Refusal;
 use rq_journal::{NotTaken, Rule};
-use rq_record::{Fault, KeptRecord, Record, Version};
-use rq_writer::{ScriptLine, line_at, read_line};
+use rq_record::{Fault, Record, Version};
+use rq_writer::{ScriptLine, line_at};
 use std::alloc::{AllocError, Global};
 use std::fmt;
 
@@ -124,30 +124,20 @@ fn told(alloc: Global, text: &[u8]) -> Result<String, AllocError> {
     }
 }
 
-// Which rule a record breaks that is not lawful.
-fn rule_of(alloc: Global, log: &OpenLog, record: &Record) -> Reason {
-    match KeptRecord::of(alloc, record) {
-        Ok(record) => match log.opened.appender.broken(&record) {
-            Some(rule) => Reason::Breaks(rule),
-            None => Reason::NoLine,
-        },
-        Err(_) => Reason::Memory,
-    }
-}
-
-// Why a line is not appended that the log's version does not have.
-fn reason_unread(alloc: Global, log: &OpenLog, text: &[u8]) -> Reason {
-    match read_line(alloc, Version::Two, text) {
-        Ok(ScriptLine::Told(record)) => rule_of(alloc, log, &record),
+// Why a line is not appended that the log's version does not have: of all records, version 1 lacks
+// KILL alone.
+fn reason_unread(alloc: Global, text: &[u8]) -> Reason {
+    match ScriptLine::of(alloc, Version::Two, text) {
+        Ok(ScriptLine::Told(_)) => Reason::Breaks(Rule::NoKill),
         Err(Fault::Resources) => Reason::Memory,
         _ => Reason::Misfit(field_missed(text)),
     }
 }
 
 // Why the record is not taken.
-fn reason_of(alloc: Global, log: &OpenLog, record: &Record, why: NotTaken) -> Reason {
+fn reason_of(why: NotTaken) -> Reason {
     match why {
-        NotTaken::Unlawful => rule_of(alloc, log, record),
+        NotTaken::Unlawful(rule) => Reason::Breaks(rule),
         NotTaken::Full => Reason::Full,
         NotTaken::Resources => Reason::Memory,
     }
@@ -163,17 +153,17 @@ fn append_record(alloc: Global, log: &mut OpenLog, record: &Record) -> Result<()
             log.next = log.next.saturating_add(1);
             Ok(())
         }
-        Err(why) => Err(reason_of(alloc, log, record, why)),
+        Err(why) => Err(reason_of(why)),
     }
 }
 
 // Appends the frame of a line's record.
 fn append_line(alloc: Global, log: &mut OpenLog, text: &[u8]) -> Result<(), Reason> {
-    match read_line(alloc, log.version(), text) {
+    match ScriptLine::of(alloc, log.version(), text) {
         Ok(ScriptLine::Told(record)) => append_record(alloc, log, &record),
         Ok(ScriptLine::Spelled) => Err(Reason::Checkpoint),
         Err(Fault::Resources) => Err(Reason::Memory),
-        Err(_) => Err(reason_unread(alloc, log, text)),
+        Err(_) => Err(reason_unread(alloc, text)),
     }
 }
 

@@ -2,12 +2,10 @@
 
 use crate::damage::LeftOut;
 use rq_journal::{CARRIED_AT, MadeWhole, Truth};
+use rq_state::State;
 use std::alloc::{AllocError, Global};
 use std::fmt::Write;
 use std::io;
-
-// A state that is spelled numbers at most so many records.
-const NUMBERS: u64 = 4_294_967_295;
 
 // No log has more records: each has 37 bytes at least.
 const OF_FULL_LOG: u64 = 116_080_196;
@@ -98,7 +96,7 @@ pub(crate) fn audit_text(alloc: Global, found: &[(usize, Truth)]) -> Result<Stri
 /// Says how many records may still be numbered, if a log that is carried on could need more before
 /// it is full.
 pub(crate) fn warn_of_end<R: Eprint>(rt: &R, next: u64) {
-    let left = NUMBERS.saturating_sub(next);
+    let left = State::RECORDS.saturating_sub(next);
     if left < OF_FULL_LOG {
         let _ = eprintln!(rt;
             "rqlog: {left} records more, and numbers end: begin a new log before"

@@ -7,7 +7,7 @@ use crate::messages::{tell_left_out, tell_recovered};
 use crate::new_log::put_new;
 use crate::refusal::{Refusal, Stream, failed};
 use rq_file::{NamedFile, folder_within};
-use rq_journal::{CARRIED_AT, MadeWhole, NotRecovered, Plan, recovered, recovered_at};
+use rq_journal::{CARRIED_AT, MadeWhole, NotRecovered, Plan};
 use std::alloc::{AllocError, Global};
 use std::fs::{File, Files, OpenFile, OpenOptions};
 use std::io;
@@ -20,9 +20,9 @@ where
 {
     let (alloc, bytes) = (rt.alloc(), &log.bytes);
     let made = if log.is_carried {
-        recovered_at(rt, alloc, bytes, CARRIED_AT as u64, plan, drops)
+        MadeWhole::made_at(rt, alloc, bytes, CARRIED_AT as u64, plan, drops)
     } else {
-        recovered(rt, alloc, bytes, plan, drops)
+        MadeWhole::of(rt, alloc, bytes, plan, drops)
     };
     match made {
         Ok(made) => Ok(made),

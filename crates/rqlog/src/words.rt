@@ -3,18 +3,18 @@
 use WordForm::{Flag, Value, ValueOr};
 use clap::Command;
 use rq_file::VERSION;
-use rq_words::{SMALL, Subcommand, TEXT, WORKERS, Word, WordForm};
+use rq_words::{Subcommand, Word, WordForm};
 use std::alloc::{AllocError, Global};
 
 const LOG: Word = Word(
     "LOG",
-    Value(TEXT),
+    Value(Word::TEXT),
     "The file of the log, plain or carried on",
 );
 
 const NEW: Word = Word(
     "NEW",
-    Value(TEXT),
+    Value(Word::TEXT),
     "The file of the new log, which is not there yet",
 );
 
@@ -28,7 +28,7 @@ const DROP: Word = Word(
 
 const COUNT: Word = Word(
     "WORKERS",
-    ValueOr(SMALL, "4"),
+    ValueOr(Word::SMALL, "4"),
     "How many threads work, 1 to 64",
 );
 
@@ -45,7 +45,7 @@ static COMMANDS: [Subcommand; 8] = [
             LOG,
             Word(
                 "SCRIPT",
-                ValueOr(TEXT, "-"),
+                ValueOr(Word::TEXT, "-"),
                 "The file of the script, or - for standard input",
             ),
             Word(
@@ -55,13 +55,13 @@ static COMMANDS: [Subcommand; 8] = [
             ),
             DROP,
             JSON,
-            WORKERS,
+            Word::WORKERS,
         ],
     },
     Subcommand {
         name: "recover",
         about: "Makes a log whole that a crash left: keeps what it cuts off, and aborts open units",
-        words: &[LOG, DROP, JSON, WORKERS],
+        words: &[LOG, DROP, JSON, Word::WORKERS],
     },
     Subcommand {
         name: "checkpoint",
@@ -71,13 +71,13 @@ static COMMANDS: [Subcommand; 8] = [
             Word("close", Flag, "Ends each open unit before, by an ABORT"),
             DROP,
             JSON,
-            WORKERS,
+            Word::WORKERS,
         ],
     },
     Subcommand {
         name: "carry",
         about: "Makes a new log that goes on where a log ends, with its state alone",
-        words: &[LOG, NEW, DROP, JSON, WORKERS],
+        words: &[LOG, NEW, DROP, JSON, Word::WORKERS],
     },
     Subcommand {
         name: "restart",
@@ -87,7 +87,7 @@ static COMMANDS: [Subcommand; 8] = [
             COUNT,
             Word(
                 "GRAIN",
-                ValueOr(SMALL, "1000"),
+                ValueOr(Word::SMALL, "1000"),
                 "How many frames a worker checks at once, 1 to 1000000",
             ),
         ],
@@ -99,7 +99,7 @@ static COMMANDS: [Subcommand; 8] = [
             LOG,
             Word(
                 "OUT",
-                Value(TEXT),
+                Value(Word::TEXT),
                 "The file of the closed log, which may be LOG",
             ),
             Word("force", Flag, "Replaces OUT if it is there"),
@@ -123,5 +123,5 @@ fn subcommands() -> &'static [Subcommand] {
 /// The program's command.
 pub(crate) fn program<'a>(alloc: Global) -> Result<Command<'a>, AllocError> {
     let about = "Appends to the log of a recoverable queue manager, marks it and carries it on";
-    rq_words::program_command(alloc, "rqlog", about, VERSION, subcommands())
+    Subcommand::program_command(alloc, "rqlog", about, VERSION, subcommands())
 }

@@ -11,10 +11,7 @@ use crate::narrow_lines::Narrow;
 use crate::progress::{Watch, Watched};
 use crate::words::{columns_asked, records_asked, subject_asked};
 use clap::ArgMatches;
-use rq_found::{
-    Diagnosis, Fault, Output, OverWrite, Plan, Seen, ShownLog, Trouble, begins_at, put_diagnosis,
-    write_bytes,
-};
+use rq_found::{Diagnosis, Fault, Output, OverWrite, Plan, Seen, ShownLog, Trouble, write_bytes};
 use rq_look::Findings;
 use std::alloc::{AllocError, Global};
 use std::io::{self, ErrorKind};
@@ -46,7 +43,7 @@ fn verdict_line(alloc: Global, file: &str, diagnosis: Diagnosis) -> Result<Strin
     let seen = Seen(typed_name(file));
     let name = format!(in alloc; "{seen}")?;
     let mut line = String::new(alloc);
-    put_diagnosis(&mut line, diagnosis, name.as_str())?;
+    diagnosis.put_verdict(&mut line, name.as_str())?;
     line.push_str("\n")?;
     Ok(line)
 }
@@ -84,8 +81,8 @@ pub(crate) fn found_of<R: AllocGlobal + Threads + Sync>(
     rt: &R,
     log: &ShownLog<'_>,
 ) -> Result<Findings, Trouble> {
-    match rq_look::check(rt, rt.alloc(), log) {
-        Err(trouble) if is_frontless(log, &trouble) => { rq_look::check_frontless(rt.alloc(), log) }
+    match Findings::of(rt, rt.alloc(), log) {
+        Err(trouble) if is_frontless(log, &trouble) => { Findings::of_frontless(rt.alloc(), log) }
         found => found,
     }
 }
@@ -241,7 +238,7 @@ where
     }
     let mut bytes = read_log_file(rt, file_of(words), watch)?;
     watch.begins(rt, &bytes);
-    let at = begins_at(&mut bytes);
+    let at = ShownLog::begins_at(&mut bytes);
     let log = ShownLog {
         bytes: &bytes,
         at,

@@ -2,7 +2,7 @@
 
 use WordForm::{Flag, Letter, Several, Value, With, WithName, WithOr};
 use clap::builder::ValueParser;
-use rq_words::{SMALL, Subcommand, TEXT, WORKERS, Word, WordForm};
+use rq_words::{Subcommand, Word, WordForm};
 
 // What the value of a word has to be: a number that 64 bits hold.
 const NUMBER: ValueParser<'static> = ValueParser::Unsigned(0, u64::MAX);
@@ -26,13 +26,13 @@ const ORDER: ValueParser<'static> = ValueParser::Names(&["depth", "number", "nam
 
 const LOG: Word = Word(
     "LOG",
-    Value(TEXT),
+    Value(Word::TEXT),
     "The file of the log, or - for standard input",
 );
 
 const WIDTH: Word = Word(
     "width",
-    With("COLUMNS", SMALL),
+    With("COLUMNS", Word::SMALL),
     "Cuts lines to so many columns, 0 for none; those of the terminal if the output is one",
 );
 
@@ -62,7 +62,7 @@ static COMMANDS: [Subcommand; 10] = [
             Word("unit", With("UNIT", NUMBER), "Only records of this unit"),
             Word(
                 "queue",
-                With("QUEUE", SMALL),
+                With("QUEUE", Word::SMALL),
                 "Only records that define or name this queue",
             ),
             Word(
@@ -80,7 +80,7 @@ static COMMANDS: [Subcommand; 10] = [
                 "Shows the right frames behind the front too, each marked so",
             ),
             WIDTH,
-            WORKERS,
+            Word::WORKERS,
         ],
     },
     Subcommand {
@@ -91,7 +91,7 @@ static COMMANDS: [Subcommand; 10] = [
             LOG,
             Word("quiet", Letter('q'), "Says nothing"),
             WIDTH,
-            WORKERS,
+            Word::WORKERS,
         ],
     },
     Subcommand {
@@ -99,17 +99,17 @@ static COMMANDS: [Subcommand; 10] = [
         about: "Shows the report of the log's restart",
         words: &[
             LOG,
-            Word("queue", With("QUEUE", SMALL), "Only this queue"),
+            Word("queue", With("QUEUE", Word::SMALL), "Only this queue"),
             Word("json", Flag, "Shows the report as JSON"),
             WIDTH,
-            WORKERS,
+            Word::WORKERS,
         ],
     },
     Subcommand {
         name: "script",
         about: "Shows the script from which rq make, or rq make2 for a log of version 2, makes the \
                 log again",
-        words: &[LOG, WORKERS],
+        words: &[LOG, Word::WORKERS],
     },
     Subcommand {
         name: "salvage",
@@ -119,11 +119,11 @@ static COMMANDS: [Subcommand; 10] = [
             LOG,
             Word(
                 "OUT",
-                Value(TEXT),
+                Value(Word::TEXT),
                 "The file of the script, or - for standard output",
             ),
             FORCE,
-            WORKERS,
+            Word::WORKERS,
         ],
     },
     Subcommand {
@@ -133,10 +133,10 @@ static COMMANDS: [Subcommand; 10] = [
             LOG,
             Word(
                 "OUT",
-                Value(TEXT),
+                Value(Word::TEXT),
                 "The file of the mended log, where none may be yet, or - for standard output",
             ),
-            WORKERS,
+            Word::WORKERS,
         ],
     },
     Subcommand {
@@ -151,7 +151,7 @@ static COMMANDS: [Subcommand; 10] = [
                 "Tells on standard error how long a megabyte of the log took",
             ),
             WIDTH,
-            WORKERS,
+            Word::WORKERS,
         ],
     },
     Subcommand {
@@ -165,7 +165,7 @@ static COMMANDS: [Subcommand; 10] = [
                 "The number of the record that put it in",
             ),
             WIDTH,
-            WORKERS,
+            Word::WORKERS,
         ],
     },
     Subcommand {
@@ -175,7 +175,7 @@ static COMMANDS: [Subcommand; 10] = [
             LOG,
             Word("UNIT", Value(NUMBER), "The number of the unit"),
             WIDTH,
-            WORKERS,
+            Word::WORKERS,
         ],
     },
     Subcommand {
@@ -185,7 +185,7 @@ static COMMANDS: [Subcommand; 10] = [
             LOG,
             Word(
                 "OUT",
-                Value(TEXT),
+                Value(Word::TEXT),
                 "The file of the page, or - for standard output",
             ),
             Word(
@@ -204,7 +204,7 @@ static COMMANDS: [Subcommand; 10] = [
                 "Shows what this unit did also if the log is long; may be given several times",
             ),
             FORCE,
-            WORKERS,
+            Word::WORKERS,
         ],
     },
 ];

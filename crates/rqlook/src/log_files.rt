@@ -2,7 +2,7 @@
 
 use crate::failures::{Failure, FileTrouble, of_file};
 use crate::progress::{Watch, Watched};
-use rq_file::{name_one_file, read_limited};
+use rq_file::{Names, read_limited};
 use rq_found::{Fault, Trouble};
 use std::fs;
 use std::io::{self, ErrorKind};
@@ -52,5 +52,5 @@ pub(crate) fn is_over_log<R: Files>(rt: &R, file: &str, to: &str) -> bool {
         return false;
     }
     let log = if file == "-" { "/dev/stdin" } else { file };
-    name_one_file(rt, log, to)
+    Names::name_one_file(rt, log, to)
 }

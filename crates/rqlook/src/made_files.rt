@@ -6,7 +6,7 @@ use crate::acts::{Request, is_frontless};
 use crate::failures::{Failure, FileTrouble, of_file};
 use crate::log_files::{is_over_log, shown_name, typed_name};
 use crate::words::{numbers_asked, order_asked};
-use rq_file::{Replaces, VERSION, expect_replaceable, put_over};
+use rq_file::{Replaces, VERSION, put_over};
 use rq_found::{Fault, Output, OverWrite, Trouble};
 use rq_look::REMARK;
 use rq_page::{Asked, BEGINNING};
@@ -98,7 +98,8 @@ where
     if to == "-" {
         return Ok(());
     }
-    expect_replaceable(rt, to, rule).map_err(|error| not_made(rt, to, error))
+    rule.expect_replaceable(rt, to)
+        .map_err(|error| not_made(rt, to, error))
 }
 
 /// Writes what was made, in pieces, to the file of this name, or to standard output for `-`.

@@ -5,9 +5,9 @@ use crate::failures::{Failure, FileTrouble, of_file};
 use crate::log_files::read_log_file;
 use crate::made_files::{expect_place, write_made};
 use crate::progress::Watch;
-use rq_behind::mend;
+use rq_behind::Mended;
 use rq_file::Replaces;
-use rq_found::{Plan, ShownLog, Trouble, begins_at};
+use rq_found::{Plan, ShownLog, Trouble};
 use rq_judged::grain_of;
 use rq_look::{Findings, mended_text};
 use std::os::fd::AsFd;
@@ -29,7 +29,7 @@ where
     R::File: AsFd,
 {
     let header = Vec::from_slice(rt.alloc(), bytes.get(..HEADER_LEN).unwrap_or(&[]))?;
-    let at = begins_at(bytes);
+    let at = ShownLog::begins_at(bytes);
     let log = ShownLog { bytes, at, plan };
     let rest = log.bytes.get(header.len()..).unwrap_or(&[]);
     let (found, written) = join(
@@ -62,7 +62,7 @@ where
     R: Files + Print + Eprint + AllocGlobal + Threads + Sync,
     R::File: AsFd,
 {
-    let mut mended = match mend(rt, rt.alloc(), bytes, grain_of(plan)) {
+    let mut mended = match Mended::of(rt, rt.alloc(), bytes, grain_of(plan)) {
         Ok(mended) => mended,
         Err(fault) => return Err(refused(rt, file, Trouble::Log(fault))),
     };

@@ -6,12 +6,13 @@ use rq_file::VERSION;
 use rq_found::Subject;
 use rq_look::Wanted;
 use rq_page::Order;
+use rq_words::Subcommand;
 use std::alloc::{AllocError, Global};
 
 /// The program's command.
 pub(crate) fn program<'a>(alloc: Global) -> Result<Command<'a>, AllocError> {
     let about = "Shows what is in the log of a recoverable queue manager";
-    let program = rq_words::program_command(alloc, "rqlook", about, VERSION, subcommands())?;
+    let program = Subcommand::program_command(alloc, "rqlook", about, VERSION, subcommands())?;
     Ok(program.arg_required_else_help(true))
 }
 

@@ -2,11 +2,10 @@
 
 use super::{ONE_ELEMENT, log_of, records_of};
 use rq_journal::{
-    Appender, NotTaken, Opened, carried, frames_behind, is_carried, marked, open, read_as_log,
+    Appender, NotTaken, Opened, Rule, carried, frames_behind, is_carried, marked, open, read_as_log,
 };
-use rq_record::{KeptRecord, LogBytes, QueueNo, Record, UnitNo, Version};
-use rq_restart::{Fault, Open, Plan, Restarted, Why, audit, redone_front, restart, restart_at};
-use sha2::{Digest, Sha256};
+use rq_record::{LogBytes, QueueNo, Record, UnitNo, Version};
+use rq_restart::{Fault, Open, Plan, RedoneFront, Restarted, Why, audit, restart, restart_at};
 use std::alloc::Global;
 use std::test::Fail;
 use std::thread::Threads;
@@ -31,13 +30,14 @@ const TAKEN: &[u8] = b"define jobs 0 -\n\
 fn takes(alloc: Global, opened: Opened, frames: &[u8]) -> bool {
     let mut appender = opened.appender;
     let mut out = Vec::new(alloc);
-    let is_first = appender.version() == Version::One
-        && appender
-            .broken(&KeptRecord::Begin { unit: UnitNo(2) })
-            .is_none();
+    let is_first = appender.version() == Version::One;
     let each = appender.append_each(alloc, &TAKING, &mut out);
     let again = appender.append(alloc, &TAKING[2], &mut out);
-    is_first && each == (3, None) && again == Err(NotTaken::Unlawful) && out.as_slice() == frames
+    let rule = Rule::NotOpen(UnitNo(2));
+    is_first
+        && each == (3, None)
+        && again == Err(NotTaken::Unlawful(rule))
+        && out.as_slice() == frames
 }
 
 // Whether the log is opened at its end, and takes the records.
@@ -76,8 +76,7 @@ fn records_are_appended_behind_a_front(rt: HostRuntime) -> Result<(), Fail> {
 fn records_are_appended_behind_a_header(rt: HostRuntime) -> Result<(), Fail> {
     let log = log_of(&rt, ONE_ELEMENT)?;
     let records = records_of(rt.alloc(), Version::One, &log)?;
-    let last = Sha256::digest(b"RQLOG\0\0\x01");
-    let mut appender = Appender::new(rt.alloc(), Version::One, last);
+    let mut appender = Appender::new(rt.alloc(), Version::One);
     let mut frames = Vec::new(rt.alloc());
     let each = appender.append_each(rt.alloc(), &records, &mut frames);
     assert!(rt; each == (4, None));
@@ -118,7 +117,7 @@ fn goes_on_from<R: Threads + Sync + AllocGlobal>(rt: &R, log: &[u8], at: u64, pl
 fn a_log_is_marked_and_carried_on(rt: HostRuntime) -> Result<(), Fail> {
     let plan = Plan::new(1, 1).ok_or("plan")?;
     let log = log_of(&rt, ONE_ELEMENT)?;
-    let front = redone_front(&rt, rt.alloc(), &LogBytes::borrowed(&log), &plan)?;
+    let front = RedoneFront::of(&rt, rt.alloc(), &LogBytes::borrowed(&log), &plan)?;
     let mut new = carried(rt.alloc(), &front)?;
     assert!(rt; is_carried(&new) && !is_carried(&log));
     assert!(rt; is_no_log(restart(&rt, rt.alloc(), &new, &plan, &Open)));

@@ -1,14 +1,9 @@
-//! A keeper that goes along with a log, piece by piece.
-
-ghost use Rattle.rq_model.specs.Records as model;
-ghost use Rattle.rq_model.specs.States as states;
-ghost use Rattle.rq_standing.specs.Stands.{Stands};
+//! A machine that goes along with a log, piece by piece.
 
 use super::{CHECKPOINT, ONE_ELEMENT, RETURN_AND_ARRIVAL, log_in, log_of, records_of, spelled};
 use rq_record::{ElemId, KeptRecord, QueueNo, UnitNo, Version, kept_records};
-use rq_restart::{Fault, Keeper, Plan, front_state, go_on};
-use rq_standing::Standing;
-use rq_state::{State, read_in};
+use rq_restart::{Fault, Plan, front_state, go_on};
+use rq_standing::Machine;
 use std::alloc::Global;
 use std::test::Fail;
 use std::thread::Threads;
@@ -23,16 +18,16 @@ const IN_SOME: &[usize] = &[2, 7, 8, 8, 11, 20];
 
 const AT_ONCE: &[usize] = &[20];
 
-// The records of a log of a version, as a keeper takes them.
+// The records of a log of a version, as a machine takes them.
 fn records_in(alloc: Global, version: Version, log: &[u8]) -> Result<Vec<KeptRecord>, Fail> {
     let records = records_of(alloc, version, log)?;
     Ok(kept_records(alloc, &records)?)
 }
 
-// Whether the keeper takes all records, in pieces that end at these places.
+// Whether the machine takes all records, in pieces that end at these places.
 fn takes_all<R: Threads + Sync + AllocGlobal>(
     rt: &R,
-    keeper: &mut Keeper,
+    machine: &mut Machine,
     records: &[KeptRecord],
     ends: &[usize],
     plan: &Plan,
@@ -43,18 +38,12 @@ fn takes_all<R: Threads + Sync + AllocGlobal>(
         let Some(piece) = records.get(start..end) else {
             return false;
         };
-        if keeper.take(rt, rt.alloc(), piece, plan) != Ok(piece.len()) {
+        if go_on(rt, rt.alloc(), Version::One, machine, piece, plan) != Ok(piece.len()) {
             return false;
         }
         start = end;
     }
     start == records.len()
-}
-
-// What the state of a keeper spells.
-fn kept_spelling(alloc: Global, keeper: &Keeper) -> Result<Vec<u8>, Fault> {
-    let state = keeper.state(alloc)?;
-    spelled(alloc, &state)
 }
 
 // What the state after the log's front spells.
@@ -67,39 +56,39 @@ fn front_spelling<R: Threads + Sync + AllocGlobal>(
     spelled(rt.alloc(), &state)
 }
 
-// Whether the keeper stands where the front of the log ends.
+// Whether the machine stands where the front of the log ends.
 fn stands_behind<R: Threads + Sync + AllocGlobal>(
     rt: &R,
-    keeper: &Keeper,
+    machine: &Machine,
     log: &[u8],
     plan: &Plan,
 ) -> Result<bool, Fault> {
-    let kept = kept_spelling(rt.alloc(), keeper)?;
-    Ok(kept == front_spelling(rt, log, plan)?)
+    let spelled = machine.spell(rt.alloc())?;
+    Ok(spelled == front_spelling(rt, log, plan)?)
 }
 
-// Whether a keeper that starts in this state takes all records in pieces, and stands where the front
+// Whether a machine that starts in this state takes all records in pieces, and stands where the front
 // of the log ends then.
 fn goes_along<R: Threads + Sync + AllocGlobal>(
     rt: &R,
     log: &[u8],
-    start: State,
+    start: &[u8],
     records: &[KeptRecord],
     ends: &[usize],
     plan: &Plan,
 ) -> Result<bool, Fault> {
-    let mut keeper = Keeper::new(Version::One, start);
-    let taken = takes_all(rt, &mut keeper, records, ends, plan);
-    Ok(taken && stands_behind(rt, &keeper, log, plan)?)
+    let mut machine = Machine::read(rt.alloc(), Version::One, start)?;
+    let taken = takes_all(rt, &mut machine, records, ends, plan);
+    Ok(taken && stands_behind(rt, &machine, log, plan)?)
 }
 
-// Whether a new keeper does, whatever the pieces are.
+// Whether a new machine does, whatever the pieces are.
 fn goes_along_by_all<R: Threads + Sync + AllocGlobal>(rt: &R, script: &[u8]) -> Result<bool, Fail> {
     let log = log_of(rt, script)?;
     let records = records_in(rt.alloc(), Version::One, &log)?;
     for (ends, workers) in [(SINGLY, 1), (IN_SOME, 7), (AT_ONCE, 64)] {
         let plan = Plan::new(workers, 1).ok_or("plan")?;
-        if !goes_along(rt, &log, State::empty(rt.alloc()), &records, ends, &plan)? {
+        if !goes_along(rt, &log, &[0; 52], &records, ends, &plan)? {
             return Ok(false);
         }
     }
@@ -107,7 +96,7 @@ fn goes_along_by_all<R: Threads + Sync + AllocGlobal>(rt: &R, script: &[u8]) -> 
 }
 
 #[test]
-fn a_keeper_stands_where_the_front_of_the_log_ends(rt: HostRuntime) -> Result<(), Fail> {
+fn a_machine_stands_where_the_front_of_the_log_ends(rt: HostRuntime) -> Result<(), Fail> {
     for script in [RETURN_AND_ARRIVAL, CHECKPOINT] {
         assert!(rt; goes_along_by_all(&rt, script)?, "{} bytes", script.len());
     }
@@ -119,7 +108,7 @@ const ENDS: [usize; 15] = [
     40, 87, 134, 178, 223, 283, 343, 388, 433, 491, 549, 594, 639, 700, 745,
 ];
 
-// Whether a keeper that starts behind this beginning of the log goes on to its end by these records.
+// Whether a machine that starts behind this beginning of the log goes on to its end by these records.
 fn goes_on_behind<R: Threads + Sync + AllocGlobal>(
     rt: &R,
     log: &[u8],
@@ -127,13 +116,12 @@ fn goes_on_behind<R: Threads + Sync + AllocGlobal>(
     rest: &[KeptRecord],
 ) -> Result<bool, Fail> {
     let plan = Plan::new(2, 1).ok_or("plan")?;
-    let spelled = front_spelling(rt, begins, &plan)?;
-    let start = read_in(rt.alloc(), Version::One, &spelled)?;
-    Ok(goes_along(rt, log, start, rest, &[rest.len()], &plan)?)
+    let start = front_spelling(rt, begins, &plan)?;
+    Ok(goes_along(rt, log, &start, rest, &[rest.len()], &plan)?)
 }
 
 #[test]
-fn a_keeper_goes_on_from_a_checkpoint(rt: HostRuntime) -> Result<(), Fail> {
+fn a_machine_goes_on_from_a_checkpoint(rt: HostRuntime) -> Result<(), Fail> {
     let log = log_of(&rt, RETURN_AND_ARRIVAL)?;
     let records = records_in(rt.alloc(), Version::One, &log)?;
     for (count, end) in ENDS.iter().enumerate() {
@@ -155,62 +143,43 @@ fn add_two(records: &mut Vec<KeptRecord>, ended: u64, begun: u64) -> Result<(), 
     Ok(())
 }
 
-// How many of two pieces a keeper takes, one after the other, and the numbers that it has then: the
-// one that it gives the next record, how many elements there are, and how many units are open.
-type Told = (
-    Result<usize, Fault>,
-    Result<usize, Fault>,
-    Option<(u64, usize, usize)>,
-);
+// How many of two pieces a new machine takes, one after the other, by the rules of the version, and
+// the numbers that it has then: the one that it gives the next record, how many elements there are,
+// and how many units are open.
+type Told = (usize, usize, (u64, usize, usize));
 
-// What a keeper that starts in this state says so, under the rules of the version.
 fn told<R: Threads + Sync + AllocGlobal>(
     rt: &R,
     version: Version,
-    start: State,
     first: &[KeptRecord],
     second: &[KeptRecord],
 ) -> Result<Told, Fail> {
     let plan = Plan::new(2, 1).ok_or("plan")?;
-    let mut keeper = Keeper::new(version, start);
-    let first = keeper.take(rt, rt.alloc(), first, &plan);
-    let second = keeper.take(rt, rt.alloc(), second, &plan);
-    let numbers = match keeper.state(rt.alloc()) {
-        Ok(state) => Some((state.next(), state.element_count(), state.unit_count())),
-        Err(_) => None,
-    };
-    Ok((first, second, numbers))
-}
-
-// Whether a new keeper takes four of the records, and stands where the log's front ends then.
-fn takes_four<R: Threads + Sync + AllocGlobal>(
-    rt: &R,
-    log: &[u8],
-    records: &[KeptRecord],
-) -> Result<bool, Fail> {
-    let plan = Plan::new(2, 1).ok_or("plan")?;
-    let mut keeper = Keeper::new(Version::One, State::empty(rt.alloc()));
-    let four = keeper.take(rt, rt.alloc(), records, &plan) == Ok(4);
-    Ok(four && stands_behind(rt, &keeper, log, &plan)?)
+    let mut machine = Machine::empty(rt.alloc());
+    let first = go_on(rt, rt.alloc(), version, &mut machine, first, &plan)?;
+    let second = go_on(rt, rt.alloc(), version, &mut machine, second, &plan)?;
+    let state = machine.state(rt.alloc())?;
+    Ok((
+        first,
+        second,
+        (state.next(), state.element_count(), state.unit_count()),
+    ))
 }
 
 // The record behind the first four is not lawful, and the last one is.
 #[test]
-fn a_keeper_stops_before_an_unlawful_record(rt: HostRuntime) -> Result<(), Fail> {
+fn a_machine_stops_before_an_unlawful_record(rt: HostRuntime) -> Result<(), Fail> {
     let log = log_of(&rt, ONE_ELEMENT)?;
     let mut records = records_in(rt.alloc(), Version::One, &log)?;
     add_two(&mut records, 1, 2)?;
-    assert!(rt; takes_four(&rt, &log, &records)?);
-    let start = State::empty(rt.alloc());
     let last = records.get(5..).ok_or("last")?;
-    let told = told(&rt, Version::One, start, &records, last)?;
-    assert!(rt; told == (Ok(4), Ok(1), Some((5, 1, 1))));
+    assert!(rt; told(&rt, Version::One, &records, last)? == (4, 1, (5, 1, 1)));
     Ok(())
 }
 
 // There is a KILL in version 2, and none in version 1.
 #[test]
-fn a_keeper_goes_by_the_rules_of_its_version(rt: HostRuntime) -> Result<(), Fail> {
+fn a_machine_goes_by_the_rules_of_the_version(rt: HostRuntime) -> Result<(), Fail> {
     let kill = [KeptRecord::Kill {
         queue: QueueNo(0),
         element: ElemId(2),
@@ -218,21 +187,8 @@ fn a_keeper_goes_by_the_rules_of_its_version(rt: HostRuntime) -> Result<(), Fail
     for (version, killed, numbers) in [(Version::One, 0, (4, 1, 0)), (Version::Two, 1, (5, 0, 0))] {
         let log = log_in(&rt, version, ONE_ELEMENT)?;
         let records = records_in(rt.alloc(), version, &log)?;
-        let told = told(&rt, version, State::empty(rt.alloc()), &records, &kill)?;
-        assert!(rt; told == (Ok(4), Ok(killed), Some(numbers)));
+        assert!(rt; told(&rt, version, &records, &kill)? == (4, killed, numbers));
     }
-    Ok(())
-}
-
-// A keeper before the last record but one takes one BEGIN, and then no record more.
-#[test]
-fn a_keeper_takes_no_record_too_many(rt: HostRuntime) -> Result<(), Fail> {
-    let mut bytes = [0u8; 52];
-    bytes[..8].copy_from_slice(&4_294_967_294u64.to_be_bytes());
-    let start = read_in(rt.alloc(), Version::One, &bytes)?;
-    let begin = [KeptRecord::Begin { unit: UnitNo(1) }];
-    let told = told(&rt, Version::One, start, &begin, &begin)?;
-    assert!(rt; told == (Ok(1), Err(Fault::TooLong), Some((4_294_967_295, 0, 1))));
     Ok(())
 }
 
@@ -250,7 +206,7 @@ fn many_records<R: Threads + Sync + AllocGlobal>(rt: &R) -> Result<Vec<KeptRecor
 // Small pieces, one that is large beside the state that it finds, and small ones again.
 const BY_TURNS: &[usize] = &[3, 7, 14, 16, 120, 121, 123, 128];
 
-// What the state of a new keeper spells after it took the records in pieces, by a plan of this
+// What the state of a new machine spells after it took the records in pieces, by a plan of this
 // grain.
 fn spelled_in_pieces<R: Threads + Sync + AllocGlobal>(
     rt: &R,
@@ -259,25 +215,11 @@ fn spelled_in_pieces<R: Threads + Sync + AllocGlobal>(
     grain: u32,
 ) -> Result<Vec<u8>, Fail> {
     let plan = Plan::new(3, grain).ok_or("plan")?;
-    let mut keeper = Keeper::new(Version::One, State::empty(rt.alloc()));
-    if !takes_all(rt, &mut keeper, records, ends, &plan) {
+    let mut machine = Machine::empty(rt.alloc());
+    if !takes_all(rt, &mut machine, records, ends, &plan) {
         return Err("it takes fewer".into());
     }
-    Ok(kept_spelling(rt.alloc(), &keeper)?)
-}
-
-// How many of the records the machine takes, and what the state spells that it comes to by them.
-fn spelled_by_machine<R: Threads + Sync + AllocGlobal>(
-    rt: &R,
-    standing: &mut Standing,
-    records: &[KeptRecord],
-    plan: &Plan,
-) -> Result<(usize, Vec<u8>), Fault>
-    requires { (version : model.Version) × (s : states.State) × Stands version standing.old s }
-{
-    let count = go_on(rt, rt.alloc(), standing, records, plan)?;
-    let state = standing.state(rt.alloc())?;
-    Ok((count, spelled(rt.alloc(), &state)?))
+    Ok(machine.spell(rt.alloc())?)
 }
 
 // Whether a new machine takes 128 of the records, and its state spells this then.
@@ -289,9 +231,9 @@ fn goes_on<R: Threads + Sync + AllocGlobal>(
     want: &[u8],
 ) -> Result<bool, Fail> {
     let plan = Plan::new(workers, grain).ok_or("plan")?;
-    let mut standing = Standing::new(rt.alloc(), Version::One);
-    let (count, told) = spelled_by_machine(rt, &mut standing, records, &plan)?;
-    Ok(count == 128 && told.as_slice() == want)
+    let mut machine = Machine::empty(rt.alloc());
+    let count = go_on(rt, rt.alloc(), Version::One, &mut machine, records, &plan)?;
+    Ok(count == 128 && machine.spell(rt.alloc())?.as_slice() == want)
 }
 
 // On the workers, one record after the other, and by turns. A grain of 200 is more than all records;

@@ -29,7 +29,7 @@ pub(crate) fn is_definition(number: usize, definition: &Definition) -> bool
 {
     (definition.limit == 0 && definition.error == QueueNo::NONE)
         || (1 <= definition.limit
-            && definition.limit <= 1000
+            && definition.limit <= Definition::LIMIT
             && (definition.error.0 as usize) < number)
 }
 

@@ -12,10 +12,9 @@ use crate::kept_element::KeptElement;
 use crate::kept_registrant::KeptRegistrant;
 use crate::members::{Definition, Last, Mark, Note};
 use crate::writers::output::{put_id, put_kind, put_name, put_payload};
-use crate::writers::sizes::{
-    SHORTEST_DEFINITION, SHORTEST_ELEMENT, SHORTEST_NOTE, SHORTEST_REGISTRANT, last_size, mark_size,
-};
+use crate::writers::sizes::{mark_size, registrant_size};
 use rq_bytes::{put_u8, put_u16, put_u32, put_u64};
+use rq_record::{KeptName, QueueNo};
 use std::alloc::AllocError;
 
 fn put_mark(out: &mut Vec<u8>, mark: Mark) -> Result<(), AllocError>
@@ -100,8 +99,26 @@ fn put_note_end(out: &mut Vec<u8>, note: &Note) -> Result<(), AllocError>
     put_done(out, &note.last)
 }
 
+/// A registrant of this queue, with its name and the last operation, if there is one.
+pub fn put_registrant(
+    out: &mut Vec<u8>,
+    queue: QueueNo,
+    name: &KeptName,
+    last: Option<&Last>,
+) -> Result<(), AllocError>
+    ensures { PutsSpelling out.old.items out.new.items (registrant_bytes (record {
+      queue = queue.0;
+      name = name.now;
+      last = option_map (λ l. l.now) last.entry;
+    })) result }
+{
+    put_u32(out, queue.0)?;
+    put_name(out, &name.name())?;
+    put_last(out, last)
+}
+
 /// A member of one of a state's lists, and how it is spelled.
-pub(crate) trait Spell: Drop {
+pub trait Spell: Drop {
     ghost spelling: { Self → List ℕ };
 
     /// Appends its spelling.
@@ -123,7 +140,7 @@ impl Spell for Definition {
     }
 
     fn size(&self) -> u32 {
-        SHORTEST_DEFINITION + self.name.bytes().len() as u32
+        Definition::SHORTEST + self.name.bytes().len() as u32
     }
 }
 
@@ -131,13 +148,11 @@ impl Spell for KeptRegistrant {
     ghost spelling = { registrant_bytes };
 
     fn put(&self, out: &mut Vec<u8>) -> Result<(), AllocError> {
-        put_u32(out, self.queue().0)?;
-        put_name(out, &self.name().name())?;
-        put_last(out, self.last())
+        put_registrant(out, self.queue(), self.name(), self.last())
     }
 
     fn size(&self) -> u32 {
-        SHORTEST_REGISTRANT - 1 + self.name().bytes().len() as u32 + last_size(self.last())
+        registrant_size(self.name(), self.last())
     }
 }
 
@@ -152,7 +167,7 @@ impl Spell for KeptElement {
     }
 
     fn size(&self) -> u32 {
-        SHORTEST_ELEMENT - 1 + mark_size(self.mark) + self.payload.bytes().len() as u32
+        KeptElement::SHORTEST - 1 + mark_size(self.mark) + self.payload.bytes().len() as u32
     }
 }
 
@@ -167,6 +182,6 @@ impl Spell for Note {
     }
 
     fn size(&self) -> u32 {
-        SHORTEST_NOTE + self.name.bytes().len() as u32
+        Note::SHORTEST + self.name.bytes().len() as u32
     }
 }

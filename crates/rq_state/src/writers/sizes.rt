@@ -1,33 +1,50 @@
 //! How long a spelling is, known before its first byte is written.
 
-ghost use Rattle.std.specs.Prelude.{◌≡◌, ◌≤◌, ◌*◌, length, map, option_map};
+ghost use Rattle.std.specs.Prelude.{◌≡◌, ◌≤◌, ◌*◌, ℕ, length, map, option_map};
 ghost use Rattle.std.specs.List.{flat_map};
 ghost use Rattle.std.specs.Int.{w64, to_be_bytes};
-ghost use Rattle.rq_model.specs.StateSpelling.{last_bytes, mark_bytes, state_bytes};
-ghost use Rattle.rq_state.specs.Inside.{state_of};
+ghost use Rattle.rq_model.specs.StateSpelling.{last_bytes, mark_bytes, registrant_bytes, state_bytes};
 ghost use Rattle.rq_state.specs.Views.{mark_of, unit_of};
+ghost use Rattle.rq_state.specs.Writing.{text_of};
 
-use crate::fields::KeptFields;
-use crate::members::{Last, Mark};
+use crate::kept_element::KeptElement;
+use crate::kept_registrant::KeptRegistrant;
+use crate::lent_state::LentState;
+use crate::members::{Definition, Last, Mark, Note};
 use crate::state::State;
 use crate::writers::members::Spell;
-use rq_record::UnitNo;
+use rq_record::{KeptName, UnitNo};
 
-/// The bytes of a definition without a name, the fewest that one takes.
-pub const SHORTEST_DEFINITION: u32 = 7;
-/// The bytes of an open unit.
-pub const SHORTEST_UNIT: u32 = 8;
-/// The bytes of a registrant who has no name and did nothing, the fewest that one takes.
-pub const SHORTEST_REGISTRANT: u32 = 6;
-/// The bytes of a Free element without a payload, the fewest that one takes.
-pub const SHORTEST_ELEMENT: u32 = 28;
-/// The bytes of a note without a name, the fewest that one takes.
-pub const SHORTEST_NOTE: u32 = 38;
-/// The bytes of a state without members: four numbers of 8 bytes and five counts of 4.
-pub const SHORTEST_STATE: u32 = 52;
+impl Definition {
+    /// The bytes of one without a name, the fewest that one takes.
+    pub const SHORTEST: u32 = 7;
+}
 
-/// How many bytes spell what a registrant did last.
-pub(crate) fn last_size(last: Option<&Last>) -> u32
+impl KeptRegistrant {
+    /// The bytes of one who has no name and did nothing, the fewest that one takes.
+    pub const SHORTEST: u32 = 6;
+}
+
+impl KeptElement {
+    /// The bytes of a Free one without a payload, the fewest that one takes.
+    pub const SHORTEST: u32 = 28;
+}
+
+impl Note {
+    /// The bytes of one without a name, the fewest that one takes.
+    pub const SHORTEST: u32 = 38;
+}
+
+impl State {
+    /// The bytes of one without members: four numbers of 8 bytes and five counts of 4.
+    pub const SHORTEST: u32 = 52;
+
+    /// The bytes of an open unit.
+    pub const UNIT: u32 = 8;
+}
+
+// How many bytes spell what a registrant did last.
+fn last_size(last: Option<&Last>) -> u32
     ensures size { result ≡ length (last_bytes (option_map (λ l. l.now) last.entry)) }
     ensures small { result ≤ 25 }
 {
@@ -35,6 +52,18 @@ pub(crate) fn last_size(last: Option<&Last>) -> u32
         None => 1,
         Some(_) => 25,
     }
+}
+
+/// How many bytes spell a registrant of a name of so many bytes, with the last operation, if there
+/// is one.
+pub fn registrant_size(name: &KeptName, last: Option<&Last>) -> u32
+    ensures { (queue : ℕ) → result ≡ length (registrant_bytes (record {
+      queue = queue;
+      name = name.now;
+      last = option_map (λ l. l.now) last.entry;
+    })) }
+{
+    KeptRegistrant::SHORTEST - 1 + name.bytes().len() as u32 + last_size(last)
 }
 
 /// How many bytes spell a mark.
@@ -63,7 +92,7 @@ fn units_size(members: &[UnitNo]) -> u128
     ensures size { result ≡ length (flat_map (to_be_bytes w64) (map unit_of members.now)) }
     ensures small { result ≤ 8 * length members.now }
 {
-    SHORTEST_UNIT as u128 * members.len() as u128
+    State::UNIT as u128 * members.len() as u128
 }
 
 /// The number of bytes that spell a state, also if they are more than a checkpoint holds. It takes
@@ -71,17 +100,17 @@ fn units_size(members: &[UnitNo]) -> u128
 pub fn spelled_len(state: &State) -> u128
     ensures { result ≡ length (state_bytes state.now) }
 {
-    fields_len(state.fields())
+    lent_len(&state.fields().lent())
 }
 
-/// The same for fields whose lists are in order.
-pub(crate) fn fields_len(fields: &KeptFields) -> u128
-    ensures { result ≡ length (state_bytes (state_of fields.now)) }
+/// The same of a state whose lists are lent.
+pub(crate) fn lent_len<R: Spell, E: Spell, N: Spell>(state: &LentState<'_, R, E, N>) -> u128
+    ensures { result ≡ length (text_of R.spelling E.spelling N.spelling state.now) }
 {
-    SHORTEST_STATE as u128
-        + size_of_all(&fields.definitions)
-        + units_size(&fields.units)
-        + size_of_all(&fields.registrants)
-        + size_of_all(&fields.elements)
-        + size_of_all(&fields.notes)
+    State::SHORTEST as u128
+        + size_of_all(state.definitions)
+        + units_size(state.units)
+        + size_of_all(state.registrants)
+        + size_of_all(state.elements)
+        + size_of_all(state.notes)
 }

@@ -1,5 +1,6 @@
-use Rattle.rq_restart.proofs.Keepers.{HasTaken}
+use Rattle.rq_record.specs.Views.{version_of}
+use Rattle.rq_restart.proofs.Taking.{HasTaken}
 use Rattle.rq_restart.proofs.pieces.take_each.Given as goal
 
 abbrev pub invariant-loop-place : goal.invariant-loop-place
-invariant-loop-place l = HasTaken l.fn.standing l.records l.place l.standing
+invariant-loop-place l = HasTaken (version_of l.version) l.fn.machine l.records l.place l.machine

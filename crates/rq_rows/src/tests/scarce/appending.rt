@@ -1,8 +1,8 @@
 //! What appends to a vector: all of it, or the vector is as before.
 
 use super::{Call, is_right};
-use rq_front::{frame, header};
-use rq_record::{Payload, QueueNo, Record, UnitNo, encode};
+use rq_front::{Framer, frame, header};
+use rq_record::{Payload, QueueNo, Record, UnitNo, Version, encode};
 use rq_tool::Fault;
 use std::alloc::Global;
 use std::test::Fail;
@@ -13,10 +13,11 @@ use std::thread::Threads;
 pub enum What {
     Header,
     Frame,
+    Framed,
     Body,
 }
 
-/// The header, a frame, or the record's body.
+/// The header, a frame, that of a framer, or the record's body.
 #[derive(Drop)]
 pub struct Appending {
     what: What,
@@ -28,6 +29,7 @@ impl Appending {
         match self.what {
             What::Header => header(lent),
             What::Frame => frame(&[7; 32], &[5; 600], lent),
+            What::Framed => Framer::new(Version::One).put(&[5; 600], lent),
             What::Body => encode(&self.record, lent),
         }
     }
@@ -64,7 +66,12 @@ fn appends<R: Threads + Sync + AllocGlobal>(
 
 #[test]
 fn bytes_are_appended_or_refused(rt: HostRuntime) -> Result<(), Fail> {
-    for (what, bytes) in [(What::Header, 40), (What::Frame, 636), (What::Body, 523)] {
+    for (what, bytes) in [
+        (What::Header, 40),
+        (What::Frame, 636),
+        (What::Framed, 636),
+        (What::Body, 523),
+    ] {
         assert!(rt; appends(&rt, what, bytes)?, "{what:?}");
     }
     Ok(())

@@ -1,4 +1,4 @@
-use Rattle.std.proofs.Common.{List, map, subst}
+use Rattle.std.proofs.Common.{map, subst}
 use Rattle.rq_model.specs.Fronts.{Restarted}
 use Rattle.rq_model.specs.States.{Definition}
 use Rattle.rq_exchange.specs.Courses.{StartsByLast}

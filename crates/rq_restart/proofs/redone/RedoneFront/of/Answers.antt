@@ -1,0 +1,10 @@
+use Rattle.rq_restart.proofs.RedoneFronts.{redoes}
+use Rattle.rq_restart.proofs.redone.RedoneFront.of.Goals as goal
+
+pub state_behind-requires-clause-front : goal.state_behind-requires-clause-front
+state_behind-requires-clause-front g c κs within = (40, c.in_ok-from.ensures.found)
+
+pub returns : goal.returns
+returns g c =
+    redoes c.args.bytes.now c.in_ok-from.from c.in_ok-from.ensures c.state_behind.result c.state_behind.ensures.behind
+    c.state_behind.ensures.refused
