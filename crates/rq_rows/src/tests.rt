@@ -14,6 +14,7 @@ ghost use Rattle.std.specs.Prelude.{◌≤◌, IfOk, length};
 
 use rq_front::walk;
 use rq_record::{Record, Version, decode_in};
+use rq_standing::Machine;
 use rq_state::{State, spell};
 use rq_tool::{Command, Fault, Gate, OverRead, OverWrite, Plan, act};
 use rq_writer::{make, make_in};
@@ -97,6 +98,14 @@ fn spelled(alloc: Global, state: &State) -> Result<Vec<u8>, Fault>
         return Err(Fault::TooLong);
     }
     spell(alloc, state)
+}
+
+// What a machine spells that has taken no more records than a log can have.
+fn machine_spelled(alloc: Global, machine: &Machine) -> Result<Vec<u8>, Fault> {
+    if machine.next() > 4_294_967_295 {
+        return Err(Fault::TooLong);
+    }
+    machine.spell(alloc)
 }
 
 // How a command ends that reads these bytes, at this gate, and what is written then behind this.

@@ -1,6 +1,7 @@
 //! A machine that goes along with a log, piece by piece.
 
-use super::{CHECKPOINT, ONE_ELEMENT, RETURN_AND_ARRIVAL, log_in, log_of, records_of, spelled};
+use super::{CHECKPOINT, ONE_ELEMENT, RETURN_AND_ARRIVAL};
+use super::{log_in, log_of, machine_spelled, records_of, spelled};
 use rq_record::{ElemId, KeptRecord, QueueNo, UnitNo, Version, kept_records};
 use rq_restart::{Fault, Plan, front_state, go_on};
 use rq_standing::Machine;
@@ -63,8 +64,7 @@ fn stands_behind<R: Threads + Sync + AllocGlobal>(
     log: &[u8],
     plan: &Plan,
 ) -> Result<bool, Fault> {
-    let spelled = machine.spell(rt.alloc())?;
-    Ok(spelled == front_spelling(rt, log, plan)?)
+    Ok(machine_spelled(rt.alloc(), machine)? == front_spelling(rt, log, plan)?)
 }
 
 // Whether a machine that starts in this state takes all records in pieces, and stands where the front
@@ -219,7 +219,7 @@ fn spelled_in_pieces<R: Threads + Sync + AllocGlobal>(
     if !takes_all(rt, &mut machine, records, ends, &plan) {
         return Err("it takes fewer".into());
     }
-    Ok(machine.spell(rt.alloc())?)
+    Ok(machine_spelled(rt.alloc(), &machine)?)
 }
 
 // Whether a new machine takes 128 of the records, and its state spells this then.
@@ -233,7 +233,7 @@ fn goes_on<R: Threads + Sync + AllocGlobal>(
     let plan = Plan::new(workers, grain).ok_or("plan")?;
     let mut machine = Machine::empty(rt.alloc());
     let count = go_on(rt, rt.alloc(), Version::One, &mut machine, records, &plan)?;
-    Ok(count == 128 && machine.spell(rt.alloc())?.as_slice() == want)
+    Ok(count == 128 && machine_spelled(rt.alloc(), &machine)?.as_slice() == want)
 }
 
 // On the workers, one record after the other, and by turns. A grain of 200 is more than all records;

@@ -80,8 +80,11 @@ fn are(told: &[(ElemId, Fate)], wanted: &[Told]) -> bool {
 fn tells(alloc: Global, machine: &mut Machine, case: &Case) -> Result<bool, Fail> {
     let record = KeptRecord::of(alloc, &record_of(alloc, &case.0)?)?;
     let told = machine.ends(alloc, &record)?;
-    let taken = machine.take(alloc, Version::Two, &record)?;
-    Ok(matches!(taken, Taken::Done(_)) && are(&told, case.1))
+    match machine.take(alloc, Version::Two, &record) {
+        Ok(Taken::Done(_)) => Ok(are(&told, case.1)),
+        Ok(Taken::Unlawful(_)) => Ok(false),
+        Err(e) => Err(e.into()),
+    }
 }
 
 // How many elements of a queue are free, if there is the queue.

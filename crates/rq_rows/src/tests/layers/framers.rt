@@ -15,7 +15,7 @@ fn by_hand(alloc: Global, magic: &[u8; 8], bodies: &[&[u8]]) -> Result<Vec<u8>, 
     log.extend_from_slice(&Sha256::digest(magic))?;
     for body in bodies {
         let from = log.len().saturating_sub(32);
-        log.extend_from_slice(&[0, 0, 0, body.len() as u8])?;
+        log.extend_from_slice(&[0, 0, 0, u8::try_from(body.len()).unwrap_or(0)])?;
         log.extend_from_slice(body)?;
         let digest = Sha256::digest(log.get(from..).unwrap_or(&[]));
         log.extend_from_slice(&digest)?;
@@ -32,14 +32,21 @@ fn puts(framer: &mut Framer, body: &[u8], out: &mut Vec<u8>) -> Result<bool, Fau
     Ok(true)
 }
 
+// Whether it puts all of these.
+fn puts_all(framer: &mut Framer, bodies: &[&[u8]], out: &mut Vec<u8>) -> Result<bool, Fault> {
+    for body in bodies {
+        if !puts(framer, body, out)? {
+            return Ok(false);
+        }
+    }
+    Ok(true)
+}
+
 // The log of these bodies, by a framer.
 fn framed(alloc: Global, version: Version, bodies: &[&[u8]]) -> Result<Vec<u8>, Fault> {
     let mut log = Vec::new(alloc);
     header_of(version, &mut log)?;
-    let mut framer = Framer::new(version);
-    for body in bodies {
-        puts(&mut framer, body, &mut log)?;
-    }
+    puts_all(&mut Framer::new(version), bodies, &mut log)?;
     Ok(log)
 }
 
@@ -73,10 +80,8 @@ fn bodies_are_framed_behind_others(rt: HostRuntime) -> Result<(), Fail> {
     let want = by_hand(rt.alloc(), b"RQLOG\0\0\x01", &BODIES)?;
     let mut log = framed(rt.alloc(), Version::One, BODIES.get(..1).unwrap_or(&[]))?;
     let mut framer = Framer::after(last_of(&log), log.len());
-    for body in BODIES.get(1..).unwrap_or(&[]) {
-        assert!(rt; puts(&mut framer, body, &mut log)?);
-    }
-    assert!(rt; log == want);
+    let rest = BODIES.get(1..).unwrap_or(&[]);
+    assert!(rt; puts_all(&mut framer, rest, &mut log)? && log == want);
     Ok(())
 }
 

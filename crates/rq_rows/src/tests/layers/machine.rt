@@ -4,7 +4,7 @@ ghost use Rattle.std.specs.Prelude.{◌≤◌, ◌<◌, length};
 
 use super::courses::state_after;
 use super::plain::{NO_QUEUE, Plain, Who, named, record_of};
-use crate::tests::spelled;
+use crate::tests::{machine_spelled, spelled};
 use Plain::{
     Abort, Begin, Checkpoint, Commit, Define, Dequeue, Deregister, Enqueue, Kill, Register,
 };
@@ -211,14 +211,6 @@ fn is_spelled_by_these_alone(alloc: Global, machine: &Machine, bytes: &[u8]) -> 
         }
     }
     Ok(machine.is_spelled_by(alloc, bytes)?)
-}
-
-// What a machine spells that has taken no more records than a log can have.
-fn machine_spelled(alloc: Global, machine: &Machine) -> Result<Vec<u8>, Fault> {
-    if machine.next() > 4_294_967_295 {
-        return Err(Fault::TooLong);
-    }
-    machine.spell(alloc)
 }
 
 // Whether the machine spells these bytes, and so does one that is read from them. From fewer none
