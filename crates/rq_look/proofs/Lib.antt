@@ -1,3 +1,4 @@
 pub mod FrontEnds
 pub mod Puts
 pub mod Scripts
+pub mod Words

@@ -1,4 +1,6 @@
+pub mod Entries
 pub mod Findings
+pub mod Lines
 pub mod Looks
 pub mod Mendings
 pub mod Scripts

@@ -1,9 +1,11 @@
 //! A record that is shown, of the front of a log or behind it, and its frame.
 
-ghost use Rattle.std.specs.Prelude.{◌≡◌, IfErr};
-ghost use Rattle.rq_record.specs.Views.{record_of};
+ghost use Rattle.std.specs.Prelude.{◌≡◌, IfErr, IfOk, Some, None, option_map};
+ghost use Rattle.rq_record.specs.Views.{record_of, version_of};
 ghost use Rattle.rq_record.specs.declared.fault.Fault.TheVariants.{Resources};
+ghost use Rattle.rq_record.specs.declared.version.Version.TheVariants.{Two};
 ghost use Rattle.rq_found.specs.Records.{unit_shown};
+ghost use Rattle.rq_look.specs.Entries.{FindsRecord, entry_at, shown_entry, registrant_named};
 ghost use Rattle.rq_look.specs.Scripts.{by_in};
 
 use rq_found::{Numbered, Placed, queue_named, unit_of};
@@ -58,8 +60,10 @@ pub(crate) fn by_of(r: &KeptRecord) -> Option<By>
 }
 
 /// The registrant that a record names.
-pub(crate) fn registrant_of(record: &KeptRecord) -> Option<&str> {
-    match record {
+pub(crate) fn registrant_of(r: &KeptRecord) -> Option<&str>
+    ensures { option_map (λ name. name.now) result ≡ registrant_named (record_of r.now) }
+{
+    match r {
         KeptRecord::Register { name, .. } | KeptRecord::Deregister { name, .. } => Some(
             name.text(),
         ),
@@ -88,7 +92,12 @@ pub(crate) struct ShownFrame<'a> {
 impl<'a> ShownFrame<'a> {
     /// One of the front, before which so many queues are defined. What has a record in version 1 has
     /// it in version 2 too.
-    pub(crate) fn of(placed: Placed<'a>, queues: u32) -> ShownFrame<'a> {
+    pub(crate) fn of(placed: Placed<'a>, queues: u32) -> ShownFrame<'a>
+        ensures version { result.version ≡ Two }
+        ensures offset { result.offset ≡ placed.entry.offset }
+        ensures body { result.body.now ≡ placed.entry.body.now }
+        ensures place { result.place ≡ Some (placed.entry.number, queues) }
+    {
         ShownFrame {
             version: Version::Two,
             offset: placed.offset,
@@ -98,7 +107,9 @@ impl<'a> ShownFrame<'a> {
     }
 
     /// The one at a span behind the front.
-    pub(crate) fn behind(bytes: &'a [u8], span: Span) -> ShownFrame<'a> {
+    pub(crate) fn behind(bytes: &'a [u8], span: Span) -> ShownFrame<'a>
+        ensures place { result.place ≡ None }
+    {
         let body = match bytes.get(span.start..span.start.saturating_add(span.len)) {
             Some(body) => body,
             None => &[],
@@ -113,7 +124,8 @@ impl<'a> ShownFrame<'a> {
 
     /// The record that the body spells; none if it spells none.
     pub(crate) fn record(&self, alloc: Global) -> Result<Option<KeptRecord>, Fault>
-        ensures { IfErr result (λ e. e ≡ Resources) }
+        ensures record { IfOk result (FindsRecord (version_of self.now.version) self.now.body.now) }
+        ensures refused { IfErr result (λ e. e ≡ Resources) }
     {
         match decode_kept(alloc, self.version, self.body) {
             Ok(record) => Ok(Some(record)),
@@ -123,15 +135,17 @@ impl<'a> ShownFrame<'a> {
     }
 
     /// Its record as it is shown.
-    pub(crate) fn shown<'b>(&self, record: &'b KeptRecord) -> ShownRecord<'b> {
+    pub(crate) fn shown<'b>(&self, r: &'b KeptRecord) -> ShownRecord<'b>
+        ensures { shown_entry result ≡ entry_at self.now.offset self.now.place (record_of r.now) }
+    {
         ShownRecord {
             offset: self.offset,
             number: self.place.map(|place| place.0),
-            queue: match (record, self.place) {
+            queue: match (r, self.place) {
                 (KeptRecord::Define { .. }, Some((_, queues))) => Some(QueueNo(queues)),
-                _ => queue_named(record),
+                _ => queue_named(r),
             },
-            record,
+            record: r,
         }
     }
 }

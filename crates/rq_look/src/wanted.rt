@@ -1,8 +1,12 @@
 //! Which records are wanted, and how.
 
-use crate::shown_records::{ShownRecord, registrant_of};
-use rq_found::{kind_of, unit_of};
-use rq_record::{QueueNo, UnitNo};
+ghost use Rattle.std.specs.Prelude.{◌≡◌};
+ghost use Rattle.rq_look.specs.Entries as entries;
+ghost use Rattle.rq_look.specs.Entries.{shown_entry, fits, fits_none};
+
+use crate::shown_records::{ShownRecord, registrant_of, unit_number};
+use rq_found::kind_of;
+use rq_record::QueueNo;
 
 /// Which records of a front are to be shown, and how. What is none asks for nothing.
 #[derive(Clone, Copy)]
@@ -28,21 +32,27 @@ pub struct Wanted<'a> {
 }
 
 // Whether what was found is what was asked for, if anything was.
-fn is_asked<T: PartialEq + Drop>(asked: Option<T>, found: Option<T>) -> bool {
+fn is_asked<T: PartialEq + Drop>(asked: Option<T>, found: Option<T>) -> bool
+    ensures { result ≡ entries.is_asked T.eq asked found }
+{
     asked.is_none() || asked == found
 }
 
 impl Wanted<'_> {
-    /// Whether the record is wanted.
-    pub(crate) fn wants(&self, it: &ShownRecord<'_>) -> bool {
-        is_asked(self.unit.map(UnitNo), unit_of(it.record))
-            && is_asked(self.queue.map(QueueNo), it.queue)
+    /// Whether the record is all that is asked for.
+    pub(crate) fn wants(&self, it: &ShownRecord<'_>) -> bool
+        ensures { result ≡ fits self.now (shown_entry it.now) }
+    {
+        is_asked(self.unit, unit_number(it.record))
+            && is_asked(self.queue, it.queue.map(|queue| queue.0))
             && is_asked(self.registrant, registrant_of(it.record))
             && is_asked(self.kind, Some(kind_of(it.record)))
     }
 
     /// Whether what is no record is wanted: if no record is asked for.
-    pub(crate) fn wants_no_record(&self) -> bool {
+    pub(crate) fn wants_no_record(&self) -> bool
+        ensures { result ≡ fits_none self.now }
+    {
         self.unit.is_none()
             && self.queue.is_none()
             && self.registrant.is_none()
