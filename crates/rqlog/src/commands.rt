@@ -13,7 +13,7 @@ use crate::new_log::{expect_free, put_new};
 use crate::recovery::recover;
 use crate::refusal::{Refusal, Stream, failed};
 use clap::ArgMatches;
-use rq_file::{Names, Patient, Replaces, put_over};
+use rq_file::{Names, Patient, Replaces};
 use rq_front::header_of;
 use rq_journal::{CARRIED_AT, Fault, Plan, audit_carried};
 use rq_record::{LogBytes, Version};
@@ -234,7 +234,8 @@ where
         .map_err(|error| failed(Stream::Out, error))?;
     let log = log_from(rt, opened(rt, path, Stream::Log)?)?;
     let (made, left) = closed_of(rt, log, plan, true)?;
-    put_over(rt, out, &[&made], &rule).map_err(|error| failed(Stream::Out, error))?;
+    rule.put_over(rt, out, &[&made])
+        .map_err(|error| failed(Stream::Out, error))?;
     tell_left_out(rt, left);
     Ok(())
 }
