@@ -4,7 +4,7 @@ ghost use Rattle.std.specs.Prelude.{◌≡◌, ◌++◌, ◌-◌, OnOk, string_b
 ghost use Rattle.rq_judged.specs.Views.{why_of};
 ghost use Rattle.rq_found.specs.Diagnoses as spec;
 
-use crate::ends::{End, is_whole};
+use crate::ends::End;
 use crate::pieces::Put;
 use rq_restart::Why;
 use std::fmt::Write;
@@ -38,10 +38,10 @@ impl Diagnosis {
         ensures { result ≡ spec.diagnosis_of (why_of end.now.why) (end.now.total - end.now.used) has_right
             is_sound }
     {
-        if is_whole(end.why) && is_sound {
+        if end.is_whole() && is_sound {
             return Diagnosis::Whole;
         }
-        if is_whole(end.why) {
+        if end.is_whole() {
             return Diagnosis::Untrue;
         }
         let rest = end.total.saturating_sub(end.used);

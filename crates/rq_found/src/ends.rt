@@ -47,16 +47,6 @@ pub struct End {
     pub reason: String,
 }
 
-/// Whether nothing follows the front.
-pub fn is_whole(why: Why) -> bool
-    ensures { result ≡ ends.is_whole (why_of why) }
-{
-    match why {
-        Why::Whole => true,
-        Why::Cut | Why::Length | Why::Chain | Why::Form | Why::Law => false,
-    }
-}
-
 fn cut_reason(alloc: Global, rest: &[u8]) -> Result<String, AllocError> {
     let count = rest.len();
     match stated_length(rest) {
@@ -180,6 +170,16 @@ fn ruled_end<R: Threads + Sync>(
 }
 
 impl End {
+    /// Whether nothing follows the front.
+    pub fn is_whole(&self) -> bool
+        ensures { result ≡ ends.is_whole (why_of self.now.why) }
+    {
+        match self.why {
+            Why::Whole => true,
+            Why::Cut | Why::Length | Why::Chain | Why::Form | Why::Law => false,
+        }
+    }
+
     /// Where the front ends of which the restart is known. Refuses with `Resources` where memory is
     /// refused.
     pub fn after_restart<R: Threads + Sync>(

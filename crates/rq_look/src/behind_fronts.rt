@@ -8,7 +8,7 @@ ghost use Rattle.rq_look.specs.Findings as spec;
 ghost use Rattle.rq_look.specs.Findings.{count_text, frames_text, given_up_text};
 
 use rq_behind::Found;
-use rq_found::{End, Put, is_whole};
+use rq_found::{End, Put};
 use rq_front::{Span, version};
 use rq_record::Fault;
 use std::alloc::Global;
@@ -90,7 +90,7 @@ pub(crate) fn put_rest(text: &mut String, end: &End, found: &Found) -> Put
     ensures { OnOk result (string_bytes text.new ≡ string_bytes text.old
         ++ behind_finding (why_of end.now.why) found.now end.now.total) }
 {
-    if is_whole(end.why) {
+    if end.is_whole() {
         return Ok(());
     }
     put_behind(text, found, end.total)

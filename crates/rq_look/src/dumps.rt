@@ -17,9 +17,7 @@ use crate::sheet::{relieve, write_out};
 use crate::shown_records::{ShownFrame, ShownRecord};
 use crate::wanted::Wanted;
 use rq_behind::Found;
-use rq_found::{
-    End, Output, PlacedFrames, Put, ShownLog, Trouble, form_reason, queues_behind, queues_of,
-};
+use rq_found::{End, Output, PlacedFrames, Put, ShownLog, Trouble, form_reason, queues_of};
 use rq_front::Span;
 use rq_record::{Fault, KeptRecord};
 use rq_state::State;
@@ -142,7 +140,7 @@ fn put_records<W: Output>(
         if put_entry(alloc, wanted, &frame, text, output)? {
             left -= 1;
         }
-        queues = queues_behind(queues, placed.body);
+        queues = placed.queues_behind(queues);
     }
     Ok(left)
 }

@@ -26,9 +26,7 @@ ghost use Rattle.rq_look.specs.Scripts.{script_line};
 
 use crate::sheet::{relieve, write_out};
 use crate::shown_records::by_of;
-use rq_found::{
-    End, Numbered, Output, Placed, PlacedFrames, Put, ShownLog, Trouble, is_whole, put_digits,
-};
+use rq_found::{End, Numbered, Output, Placed, PlacedFrames, Put, ShownLog, TextPiece, Trouble};
 use rq_record::{KeptBy, KeptName, KeptRecord, QueueNo, UnitNo};
 use rq_report::put_error;
 use rq_state::State;
@@ -44,7 +42,7 @@ fn put_hex(alloc: Global, text: &mut String, bytes: &[u8]) -> Put
     if bytes.is_empty() {
         return text.push_str("-");
     }
-    put_digits(alloc, text, bytes, bytes.len())?;
+    TextPiece::put_digits(alloc, text, bytes, bytes.len())?;
     Ok(())
 }
 
@@ -289,5 +287,5 @@ pub fn script<R: Threads + Sync, W: Output>(
     ensures faults { CountsFaults (W.faults output.old) (W.faults output.new) result }
 {
     let end = put_front_script(rt, alloc, log, output)?;
-    Ok(is_whole(end.why))
+    Ok(end.is_whole())
 }

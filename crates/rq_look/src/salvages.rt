@@ -15,7 +15,7 @@ use crate::log_script::{is_untold, put_front_script, put_line};
 use crate::sheet::{relieve, write_out};
 use crate::shown_records::ShownFrame;
 use rq_behind::Found;
-use rq_found::{End, Output, Put, ShownLog, Trouble, form_reason, is_whole};
+use rq_found::{End, Output, Put, ShownLog, Trouble, form_reason};
 use rq_record::Fault;
 use std::alloc::{AllocError, Global};
 use std::fmt::Write;
@@ -135,7 +135,7 @@ fn put_rest<W: Output>(
     ensures refused { IfErr result IsBroken }
     ensures faults { CountsFaults (W.faults output.old) (W.faults output.new) result }
 {
-    if is_whole(end.why) {
+    if end.is_whole() {
         return Ok(());
     }
     let found = standing_behind(alloc, bytes, end)?;

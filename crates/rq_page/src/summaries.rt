@@ -5,7 +5,7 @@ use crate::markup::Html::{Count, Number, Tag, Text};
 use crate::markup::{Html, put_html, put_optional};
 use crate::pages::Asked;
 use rq_behind::Found;
-use rq_found::{Diagnosis, End, Put, is_whole};
+use rq_found::{Diagnosis, End, Put};
 use rq_look::put_behind;
 use rq_report::why_word;
 use rq_restart::Restarted;
@@ -46,7 +46,7 @@ const WRONG: &str = ", <span class=\"bad\">of which {} do not spell the state be
 
 // Puts what stands behind the front.
 fn put_reason(text: &mut String, end: &End) -> Put {
-    let class = if is_whole(end.why) { "whole" } else { "bad" };
+    let class = if end.is_whole() { "whole" } else { "bad" };
     let (why, reason) = (Text(why_word(end.why)), Text(end.reason.as_str()));
     put_html(text, BEHIND, &[Tag(class), why, reason])
 }
@@ -66,7 +66,7 @@ fn put_digest(alloc: Global, text: &mut String, bytes: &[u8], end: &End) -> Put 
 
 // Puts what stands behind the front, if something does.
 fn put_found(alloc: Global, text: &mut String, end: &End, found: &Found) -> Put {
-    if is_whole(end.why) {
+    if end.is_whole() {
         return Ok(());
     }
     let mut lines = String::new(alloc);
@@ -170,7 +170,7 @@ pub(crate) fn put_header(
 ) -> Put {
     put_html(text, NAME, &[Text(asked.name)])?;
     put_diagnosed(alloc, text, asked.typed, diagnosis)?;
-    let badge = if is_whole(end.why) {
+    let badge = if end.is_whole() {
         "good\">whole"
     } else {
         "wrong\">not whole"
