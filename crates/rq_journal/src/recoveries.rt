@@ -75,7 +75,13 @@ fn recovered_behind(
     requires within { ending.end.used ≤ length bytes.now }
     ensures { RecoversFrom bytes.now ending drops result }
 {
-    match Damage::left_behind(alloc, ending.version, bytes, ending.end.used, ending.end.why) {
+    match Damage::left_behind(
+        alloc,
+        ending.version,
+        bytes,
+        ending.end.used,
+        ending.end.why,
+    ) {
         Ok(None) => cut_off(alloc, bytes, ending, None),
         Ok(Some(damage)) => {
             if drops {
