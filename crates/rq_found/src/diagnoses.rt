@@ -35,7 +35,7 @@ impl Diagnosis {
     /// The verdict on a log, of which is known where its front ends, whether a frame behind that may be
     /// right in itself, and whether each of its checkpoints is true.
     pub fn of(end: &End, has_right: bool, is_sound: bool) -> Diagnosis
-        ensures { result ≡ spec.diagnosis_of (why_of end.now.why) (end.now.total - end.now.used) has_right
+        ensures { result ≡ spec.diagnosis_of (why_of end.now.front.why) (end.now.front.total - end.now.front.used) has_right
             is_sound }
     {
         if end.is_whole() && is_sound {
@@ -44,8 +44,8 @@ impl Diagnosis {
         if end.is_whole() {
             return Diagnosis::Untrue;
         }
-        let rest = end.total.saturating_sub(end.used);
-        if may_be_torn(end.why) && !has_right && rest <= Why::TORN_LEN as u64 {
+        let rest = end.front.total.saturating_sub(end.front.used);
+        if may_be_torn(end.front.why) && !has_right && rest <= Why::TORN_LEN as u64 {
             return Diagnosis::Torn;
         }
         Diagnosis::Damaged

@@ -39,7 +39,7 @@ fn are_true(found: &[(u64, bool)]) -> bool
 }
 
 fn is_fine(end: &End, checkpoints: &[(u64, bool)]) -> bool
-    ensures { result ≡ all_fine (why_of end.now.why) checkpoints.now }
+    ensures { result ≡ all_fine (why_of end.now.front.why) checkpoints.now }
 {
     end.is_whole() && are_true(checkpoints)
 }
@@ -61,7 +61,7 @@ fn put_checkpoint(text: &mut String, offset: u64, truth: bool) -> Put
 // follows it.
 fn front_text(alloc: Global, at: Option<u64>, end: &End) -> Result<String, AllocError>
     ensures { IfOk result (λ text. string_bytes text ≡ beginning_text at
-        ++ end_finding end.now.records end.now.used end.now.total (why_of end.now.why)
+        ++ end_finding end.now.front.next end.now.front.used end.now.front.total (why_of end.now.front.why)
         (string_bytes end.now.reason)) }
 {
     let mut text = String::new(alloc);
@@ -82,12 +82,12 @@ fn findings_of(
     checkpoints: &[(u64, bool)],
 ) -> Result<Findings, AllocError>
     ensures fine { IfOk result
-        (λ found. found.fine ≡ all_fine (why_of end.now.why) checkpoints.now) }
+        (λ found. found.fine ≡ all_fine (why_of end.now.front.why) checkpoints.now) }
     ensures text { IfOk result (λ found. string_bytes found.text
-        ≡ findings_text at end.now.records end.now.used end.now.total (why_of end.now.why)
+        ≡ findings_text at end.now.front.next end.now.front.used end.now.front.total (why_of end.now.front.why)
         (string_bytes end.now.reason) behind.now checkpoints.now) }
-    ensures diagnosis { IfOk result (λ found. found.diagnosis ≡ diagnoses.diagnosis_of (why_of end.now.why)
-        (end.now.total - end.now.used) (may_have_right behind.now)
+    ensures diagnosis { IfOk result (λ found. found.diagnosis ≡ diagnoses.diagnosis_of (why_of end.now.front.why)
+        (end.now.front.total - end.now.front.used) (may_have_right behind.now)
         (list_all (λ x. x.1) checkpoints.now)) }
 {
     let mut text = front_text(alloc, at, end)?;

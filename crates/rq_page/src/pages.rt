@@ -134,7 +134,7 @@ fn contents_of(
 fn begun(contents: &Contents) -> Linked<'_> {
     let found = &contents.found;
     let (elements, units) = (contents.elements.as_slice(), contents.units.as_slice());
-    let count = found.end.records.saturating_sub(contents.first.next());
+    let count = found.end.front.next.saturating_sub(contents.first.next());
     Linked::of(
         found.restarted.state().definitions(),
         elements,

@@ -7,7 +7,6 @@ use crate::pages::Asked;
 use rq_behind::Found;
 use rq_found::{Diagnosis, End, Put};
 use rq_look::put_behind;
-use rq_report::why_word;
 use rq_restart::Restarted;
 use std::alloc::Global;
 
@@ -47,16 +46,16 @@ const WRONG: &str = ", <span class=\"bad\">of which {} do not spell the state be
 // Puts what stands behind the front.
 fn put_reason(text: &mut String, end: &End) -> Put {
     let class = if end.is_whole() { "whole" } else { "bad" };
-    let (why, reason) = (Text(why_word(end.why)), Text(end.reason.as_str()));
+    let (why, reason) = (Text(end.front.why.word()), Text(end.reason.as_str()));
     put_html(text, BEHIND, &[Tag(class), why, reason])
 }
 
 // Puts the digest of the front's last frame, by which a log is known; of a front without records it
 // is what the header has in its place.
 fn put_digest(alloc: Global, text: &mut String, bytes: &[u8], end: &End) -> Put {
-    let to = bytes.len().min(end.used as usize);
+    let to = bytes.len().min(end.front.used as usize);
     let digest = hex::encode(alloc, &bytes[to.saturating_sub(32)..to])?;
-    let head = if end.records > 0 {
+    let head = if end.front.next > 0 {
         "digest of its last frame"
     } else {
         "end of its header"
@@ -70,7 +69,7 @@ fn put_found(alloc: Global, text: &mut String, end: &End, found: &Found) -> Put 
         return Ok(());
     }
     let mut lines = String::new(alloc);
-    put_behind(&mut lines, found, end.total)?;
+    put_behind(&mut lines, found, end.front.total)?;
     text.push_str("<tr><th scope=\"row\">found there</th><td>")?;
     for line in lines.lines() {
         put_html(text, "<small>{}</small>", &[Text(line)])?;
@@ -114,7 +113,11 @@ pub(crate) fn put_summary(
 ) -> Put {
     text.push_str(TOP)?;
     put_optional(text, CARRIED, end.at.map(|at| Number(at)))?;
-    let front = [Count(end.records), Count(end.used), Count(end.total)];
+    let front = [
+        Count(end.front.next),
+        Count(end.front.used),
+        Count(end.front.total),
+    ];
     put_html(text, FRONT, &front)?;
     put_reason(text, end)?;
     put_found(alloc, text, end, found)?;
@@ -182,8 +185,8 @@ pub(crate) fn put_header(
         &[
             Tag(badge),
             Text(asked.version),
-            Count(end.total),
-            Count(end.records),
+            Count(end.front.total),
+            Count(end.front.next),
             queues,
             elements,
             registrants,

@@ -92,7 +92,7 @@ impl HeldLog {
         R: Files<File = File>,
     {
         self.expect_as_read(rt, log.read)?;
-        let used = log.opened.used;
+        let used = log.opened.end.used;
         match write_behind(self.place.file_mut(), log.read, used, &log.frames) {
             Ok(()) => Ok(()),
             Err(error) => {
@@ -109,7 +109,7 @@ impl HeldLog {
         R: Files<File = File>,
     {
         self.expect_as_read(rt, read)?;
-        match write_behind(self.place.file_mut(), read, ending.used, &ending.tail) {
+        match write_behind(self.place.file_mut(), read, ending.end.used, &ending.tail) {
             Ok(()) => Ok(()),
             Err(error) => Err(Refusal::Failed(Stream::LogToRecover, error)),
         }
