@@ -63,7 +63,7 @@ pub struct Placed<'a> {
 impl Placed<'_> {
     /// How many queues are defined behind its record, of which so many are before it.
     pub fn queues_behind(&self, queues: u32) -> u32
-        ensures { result ≡ records.queues_behind queues self.now.entry.body.now }
+        ensures { result ≡ records.queues_behind queues self.now.body.now }
     {
         match self.body {
             [1, ..] => queues.saturating_add(1),
