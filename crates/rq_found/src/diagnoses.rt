@@ -35,7 +35,8 @@ impl Diagnosis {
     /// The verdict on a log, of which is known where its front ends, whether a frame behind that may be
     /// right in itself, and whether each of its checkpoints is true.
     pub fn of(end: &End, has_right: bool, is_sound: bool) -> Diagnosis
-        ensures { result ≡ spec.diagnosis_of (why_of end.now.front.why) (end.now.front.total - end.now.front.used) has_right
+        ensures { result ≡ spec.diagnosis_of (why_of end.now.front.why)
+            (end.now.front.total - end.now.front.used) has_right
             is_sound }
     {
         if end.is_whole() && is_sound {

@@ -217,7 +217,8 @@ impl End {
     pub fn without_front(alloc: Global, log: &ShownLog<'_>) -> Result<End, AllocError>
         ensures beginning { IfOk result (λ end. end.at ≡ log.now.at) }
         ensures none { IfOk result (λ end. end.front.next ≡ 0) }
-        ensures used { IfOk result (λ end. end.front.used ≡ min carried_at (length log.now.bytes.now)) }
+        ensures used { IfOk result
+            (λ end. end.front.used ≡ min carried_at (length log.now.bytes.now)) }
         ensures total { IfOk result (λ end. end.front.total ≡ length log.now.bytes.now) }
     {
         let used = CARRIED_AT.min(log.bytes.len());
@@ -261,8 +262,8 @@ impl End {
     /// Puts where the front ends, as a line.
     pub fn put_end(text: &mut String, end: &End) -> Put
         ensures { OnOk result (string_bytes text.new ≡ string_bytes text.old
-            ++ end_text end.now.front.next end.now.front.used end.now.front.total (why_of end.now.front.why)
-            (string_bytes end.now.reason)) }
+            ++ end_text end.now.front.next end.now.front.used end.now.front.total
+            (why_of end.now.front.why) (string_bytes end.now.reason)) }
     {
         let (records, used, total) = (end.front.next, end.front.used, end.front.total);
         let (why, reason) = (end.front.why.word(), end.reason.as_str());

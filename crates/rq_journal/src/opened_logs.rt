@@ -22,8 +22,8 @@ use std::thread::Threads;
 pub struct Opened {
     /// Stands there.
     pub appender: Appender,
-    /// Where the front ends, and why. What stands behind it has to go before anything is written there.
-    /// Only `Whole` and `Cut` are ends of a log to which records were being appended.
+    /// Where the front ends, and why. What stands behind it has to go before anything is written
+    /// there. Only `Whole` and `Cut` are ends of a log to which records were being appended.
     pub end: Edge,
 }
 

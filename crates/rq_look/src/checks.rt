@@ -61,8 +61,8 @@ fn put_checkpoint(text: &mut String, offset: u64, truth: bool) -> Put
 // follows it.
 fn front_text(alloc: Global, at: Option<u64>, end: &End) -> Result<String, AllocError>
     ensures { IfOk result (λ text. string_bytes text ≡ beginning_text at
-        ++ end_finding end.now.front.next end.now.front.used end.now.front.total (why_of end.now.front.why)
-        (string_bytes end.now.reason)) }
+        ++ end_finding end.now.front.next end.now.front.used end.now.front.total
+        (why_of end.now.front.why) (string_bytes end.now.reason)) }
 {
     let mut text = String::new(alloc);
     End::put_beginning(&mut text, at)?;
@@ -84,9 +84,10 @@ fn findings_of(
     ensures fine { IfOk result
         (λ found. found.fine ≡ all_fine (why_of end.now.front.why) checkpoints.now) }
     ensures text { IfOk result (λ found. string_bytes found.text
-        ≡ findings_text at end.now.front.next end.now.front.used end.now.front.total (why_of end.now.front.why)
-        (string_bytes end.now.reason) behind.now checkpoints.now) }
-    ensures diagnosis { IfOk result (λ found. found.diagnosis ≡ diagnoses.diagnosis_of (why_of end.now.front.why)
+        ≡ findings_text at end.now.front.next end.now.front.used end.now.front.total
+        (why_of end.now.front.why) (string_bytes end.now.reason) behind.now checkpoints.now) }
+    ensures diagnosis { IfOk result (λ found. found.diagnosis
+        ≡ diagnoses.diagnosis_of (why_of end.now.front.why)
         (end.now.front.total - end.now.front.used) (may_have_right behind.now)
         (list_all (λ x. x.1) checkpoints.now)) }
 {

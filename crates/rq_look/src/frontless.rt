@@ -46,8 +46,8 @@ fn finding_text(
     found: &Found,
 ) -> Result<String, AllocError>
     ensures { IfOk result (λ text. string_bytes text ≡ beginning_text log.now.at
-        ++ end_text end.now.front.next end.now.front.used end.now.front.total (why_of end.now.front.why)
-        (string_bytes end.now.reason)
+        ++ end_text end.now.front.next end.now.front.used end.now.front.total
+        (why_of end.now.front.why) (string_bytes end.now.reason)
         ++ behind_finding (why_of end.now.front.why) found.now end.now.front.total) }
 {
     let mut text = String::new(alloc);

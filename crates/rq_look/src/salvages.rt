@@ -130,7 +130,8 @@ fn put_rest<W: Output>(
 ) -> Result<(), Trouble>
     requires within { EndsWithin bytes.now end.now }
     requires faults { W.faults output.old < 18446744073709551615 }
-    ensures choice { OnOk result ((put : List ℕ) × IsChoice (ends.is_whole (why_of end.now.front.why)) put
+    ensures choice { OnOk result ((put : List ℕ)
+        × IsChoice (ends.is_whole (why_of end.now.front.why)) put
         × Appends (W.contents output.old) (W.contents output.new) put) }
     ensures refused { IfErr result IsBroken }
     ensures faults { CountsFaults (W.faults output.old) (W.faults output.new) result }
