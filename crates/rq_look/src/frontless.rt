@@ -23,9 +23,9 @@ use std::alloc::{AllocError, Global};
 
 // Where the front would begin, and the right frames from there on. A carried log has a header.
 fn standing(alloc: Global, log: &ShownLog<'_>) -> Result<(End, Found), Fault>
-    ensures end { IfOk result (λ x. (x.0.records ≡ 0)
-        × (x.0.used ≡ min carried_at (length log.now.bytes.now))
-        × (x.0.total ≡ length log.now.bytes.now)) }
+    ensures end { IfOk result (λ x. (x.0.front.next ≡ 0)
+        × (x.0.front.used ≡ min carried_at (length log.now.bytes.now))
+        × (x.0.front.total ≡ length log.now.bytes.now)) }
     ensures behind { IfOk result (λ x.
         IsBehind log.now.bytes.now (min carried_at (length log.now.bytes.now)) x.1) }
     ensures refused { IfErr result (λ e. (e ≡ NotALog) ⊎ (e ≡ Resources)) }

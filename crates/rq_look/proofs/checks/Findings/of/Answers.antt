@@ -28,7 +28,7 @@ returns-clause-checked g c =
       subst (λ (used : ℕ). IsBehind b used behind) end.2.used c.in_ok-behind.ensures.found,
       is.fine ∙ (λ i. all_fine (end.2.why i) (all i)),
       is.text
-          ∙ (λ i. findings_text at (end.2.records i) (end.2.used i) (end.2.total i) (end.2.why i) reason behind (all i)),
+          ∙ (λ i. findings_text at (end.2.next i) (end.2.used i) (end.2.total i) (end.2.why i) reason behind (all i)),
     )
 
 pub returns-clause-diagnosis : goal.returns-clause-diagnosis
