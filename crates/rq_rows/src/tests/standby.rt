@@ -1,7 +1,9 @@
 //! A machine that goes along with a log, piece by piece.
 
-use super::{CHECKPOINT, ONE_ELEMENT, RETURN_AND_ARRIVAL};
-use super::{log_in, log_of, machine_spelled, records_of, spelled};
+use super::{
+    CHECKPOINT, ONE_ELEMENT, RETURN_AND_ARRIVAL, log_in, log_of, machine_spelled, records_of,
+    spelled,
+};
 use rq_record::{ElemId, KeptRecord, QueueNo, UnitNo, Version, kept_records};
 use rq_restart::{Fault, Plan, front_state, go_on};
 use rq_standing::Machine;
