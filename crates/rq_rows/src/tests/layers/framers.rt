@@ -8,6 +8,10 @@ use std::test::Fail;
 
 const BODIES: [&[u8]; 3] = [b"a", b"bc", b"d"];
 
+const FIRST: [&[u8]; 1] = [b"a"];
+
+const OTHERS: [&[u8]; 2] = [b"bc", b"d"];
+
 // A log by hand: a header, and behind it for each body its length, the body, and the digest of the 32
 // bytes before these with them.
 fn by_hand(alloc: Global, magic: &[u8; 8], bodies: &[&[u8]]) -> Result<Vec<u8>, AllocError> {
@@ -78,10 +82,9 @@ fn last_of(bytes: &[u8]) -> [u8; 32] {
 #[test]
 fn bodies_are_framed_behind_others(rt: HostRuntime) -> Result<(), Fail> {
     let want = by_hand(rt.alloc(), b"RQLOG\0\0\x01", &BODIES)?;
-    let mut log = framed(rt.alloc(), Version::One, BODIES.get(..1).unwrap_or(&[]))?;
+    let mut log = framed(rt.alloc(), Version::One, &FIRST)?;
     let mut framer = Framer::after(last_of(&log), log.len());
-    let rest = BODIES.get(1..).unwrap_or(&[]);
-    assert!(rt; puts_all(&mut framer, rest, &mut log)? && log == want);
+    assert!(rt; puts_all(&mut framer, &OTHERS, &mut log)? && log == want);
     Ok(())
 }
 
