@@ -1,0 +1,64 @@
+//! Where a manager goes on behind what a crash left.
+
+ghost use Rattle.std.specs.Prelude.{IfErr, IfOk, length};
+ghost use Rattle.rq_live.specs.Kernels.{StandsWithin};
+ghost use Rattle.rq_reopen.specs.Openings.{Finds, GoesOnAt, IsExactlyFound};
+ghost use Rattle.rq_reopen.specs.Reopenings.{IsNoMishap};
+
+use rq_front::Framer;
+use rq_live::Kernel;
+use rq_plan::Plan;
+use rq_record::{Fault, LogBytes, Version};
+use rq_restart::{Why, redone_front};
+use rq_standing::Machine;
+use std::alloc::Global;
+use std::marker::Sync;
+use std::thread::Threads;
+
+/// What a crash left of a log, to go on from.
+#[derive(Drop)]
+pub struct FoundLog {
+    /// The version of the log.
+    pub version: Version,
+    /// How many of the bytes are its front.
+    pub used: usize,
+    /// How many records the front has.
+    pub records: usize,
+    /// Why it ends.
+    pub why: Why,
+    /// The queues as they stand behind the front, with the units that were open there.
+    pub kernel: Kernel,
+}
+
+/// The queues behind the front of what a crash left of a log. Whatever manager wrote it, they go on
+/// from all that was safe; and if the crash left a beginning of what was written, they stand behind
+/// the first records that were done, and no others.
+///
+/// Refuses with `TooLong` more than 4,294,967,295 bytes, with `NotALog` bytes that begin with no
+/// version's header, which those of a safe log never are, and with `Resources` where memory is
+/// refused.
+pub fn find<R: Threads + Sync>(
+    rt: &R,
+    alloc: Global,
+    left: &LogBytes<'_>,
+    plan: &Plan,
+) -> Result<FoundLog, Fault>
+    ensures finds { Finds left.now result }
+    ensures within { IfOk result (λ l. StandsWithin l.kernel (length left.now)) }
+    ensures survives { IfOk result (GoesOnAt left.now) }
+    ensures headed { IfErr result (IsNoMishap left.now) }
+    ensures exact { IfOk result (IsExactlyFound left.now) }
+{
+    rq_left::crash_leaves();
+    rq_model::one_front();
+    let front = redone_front(rt, alloc, left, plan)?;
+    let machine = Machine::of(alloc, &front.state)?;
+    let framer = Framer::after(front.last, front.used);
+    Ok(FoundLog {
+        version: front.version,
+        used: front.used,
+        records: front.records,
+        why: front.why,
+        kernel: Kernel::standing(alloc, front.version, machine, framer),
+    })
+}
