@@ -1,6 +1,7 @@
 -- A manager that does a record, and one that settles.
 use Rattle.std.proofs.Common.{◌≡◌, ℕ, Bool, true, false, List, [], ◌∷◌, ◌++◌, Option, Some, None, sym, ap, subst, map, take, append_assoc}
-use Rattle.std.proofs.Common.{◌∙◌, ◌+◌, ◌-◌, ◌*◌, ◌<◌, ◌≤◌, length, arith}
+use Rattle.std.proofs.Common.{◌∙◌, ◌+◌, ◌-◌, ◌*◌, ◌<◌, ◌≤◌, length, inl, inr, arith}
+use Rattle.std.specs.List.{AllByRecursion}
 use Rattle.std.proofs.lemmas.Bool.{and_parts, eqb-true, false≢true, lt-ltb}
 use Rattle.std.specs.Prelude.{Result, Ok, Err, OnOk, IfErr, ◌==◌, ◌&&◌}
 use Rattle.std.specs.Global.{Vec}
@@ -13,14 +14,16 @@ use Rattle.rq_model.specs.Frames.{log_limit, log_of, header}
 use Rattle.rq_model.specs.States.{State, Element, empty, is_free}
 use Rattle.rq_model.specs.WellFormed.{IsWellFormed, IsElement, IsIn}
 use Rattle.rq_model.specs.Laws.{EmptyIsWellFormed, RunsAreWellFormed}
+use Rattle.rq_model.specs.Queues.{elements_at}
 use Rattle.rq_model.specs.Reports.{IsListing}
-use Rattle.rq_model.proofs.Texts.{all_in}
 use Rattle.rq_model.specs.Machine.{aborts, is_free_at, run}
 use Rattle.rq_model.specs.Fronts.{IsFront}
 use Rattle.rq_model.specs.LogLaws.{FrontStops}
 use Rattle.rq_model.specs.Checkpoints.{TrueAt}
 use Rattle.rq_model.specs.Appending.{AppendedIsFront, CheckpointIsTrue, FitsCheckpoint}
 use Rattle.rq_record.specs.declared.record.ElemId.{ElemId}
+use Rattle.rq_queue.specs.Firsts.{AreFirst}
+use Rattle.rq_standing.proofs.Looks.{listing_of}
 use Rattle.rq_device.specs.Devices.{AreStored, IsAllSynced, cut_known}
 use Rattle.rq_live.specs.declared.kernel.Kernel.{Kernel}
 use Rattle.rq_live.specs.declared.kernel.NotDone.{NotDone}
@@ -268,6 +271,12 @@ no_room_for_ends k long version rs w h room = omega (
   ap (λ (s : State). length s.units) h.state,
 )
 
+-- what holds of all elements holds of one that is there
+element_there : (s : State) (e : Element) (es : List Element) → AllByRecursion (IsElement s) es → IsIn e es → IsElement s e
+element_there s e [] all here = absurd here
+element_there s e (f ∷ fs) all (inl is) = subst (IsElement s) (sym is) all.0
+element_there s e (f ∷ fs) all (inr later) = element_there s e fs all.1 later
+
 -- a queue that is not there has no element
 pub no_listing : (s : State) (queue : ℕ) → IsWellFormed s → length s.definitions ≤ queue → IsListing queue s.elements []
 no_listing s queue well beyond = record {
@@ -277,15 +286,19 @@ no_listing s queue well beyond = record {
   where
     apart : (e : Element) → IsIn e s.elements × (is_free_at queue e ≡ true) → ⊥
     apart e there =
-        let home = (all_in (IsElement s) e s.elements well.elements there.0).home in
+        let home = (element_there s e s.elements well.elements there.0).home in
         let same = eqb-true e.home queue (and_parts (is_free e.mark) (e.home == queue) there.1).1 in
         omega (arith, home, same, beyond)
 
--- the first ones of a listing
-pub first_free : (m : Stand) (queue most : ℕ) (all es : List Element)
-    → ((version : Version) (rs : List Record) → IsManaged version rs m → IsListing queue (run empty rs).elements all)
-    → es ≡ take most all → AreFirstFree m queue most es
-first_free m queue most all es listed is version rs managed = (all, listed version rs managed, is)
+-- the first ones that the part of the queue lists
+pub first_free : (m : Stand) (queue most : ℕ) (es : List Element)
+    → AreFirst most queue (elements_at queue m.kernel.machine.elements) es → AreFirstFree m queue most es
+first_free m queue most es first version rs managed = (
+  first.0,
+  subst (λ (s : State). IsListing queue s.elements first.0) managed.at.state
+      (listing_of queue m.kernel.machine.elements first.0 first.1),
+  first.2,
+)
 
 -- no element is free in a queue that is not there
 pub none_free : EmptyIsWellFormed → RunsAreWellFormed → (m : Stand) (queue most : ℕ)

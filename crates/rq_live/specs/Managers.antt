@@ -1,5 +1,5 @@
 -- How a manager stands over its device, and what a call does.
-use Rattle.std.specs.Prelude.{◌≡◌, ◌≤◌, ◌+◌, length, ℕ, Bool, true, false, List, [], ◌∷◌, ◌++◌, Option, option_map, take}
+use Rattle.std.specs.Prelude.{◌≡◌, ◌≤◌, ◌+◌, length, ℕ, Bool, true, false, List, [], ◌∷◌, ◌++◌, Option, option_map}
 use Rattle.std.specs.List.{find}
 use Rattle.rq_model.specs.Records.{By, Record, Begin, Dequeue, Commit, Version}
 use Rattle.rq_model.specs.Frames.{log_of}
@@ -7,9 +7,9 @@ use Rattle.rq_model.specs.States.{Element, Last, Definition, empty, is_registran
 use Rattle.rq_model.specs.Machine.{is_lawful, aborts, best, run}
 use Rattle.rq_model.specs.Appending.{FitsCheckpoint, with_checkpoint}
 use Rattle.rq_model.specs.Checkpoints.{TrueAt}
-use Rattle.rq_model.specs.Reports.{IsListing}
 use Rattle.rq_record.specs.declared.record.ElemId.{ElemId}
 use Rattle.rq_state.specs.Views.{id_of}
+use Rattle.rq_queue.specs.Firsts.{AreFirst}
 use Rattle.rq_standing.specs.Stands.{taken}
 use Rattle.rq_device.specs.Devices.{AreStored, AreUnsynced, IsAllSynced, KeepsSynced}
 use Rattle.rq_live.specs.declared.kernel.Kernel.{Kernel}
@@ -206,4 +206,4 @@ AreDefined m definitions = (version : Version) (rs : List Record) → IsManaged 
 -- as there are and no more than so many
 abbrev pub AreFirstFree : Stand → ℕ → ℕ → List Element → Type 0
 AreFirstFree m queue most es = (version : Version) (rs : List Record) → IsManaged version rs m
-    → (all : List Element) × IsListing queue (run empty rs).elements all × (es ≡ take most all)
+    → AreFirst most queue (run empty rs).elements es

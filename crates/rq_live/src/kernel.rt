@@ -17,14 +17,11 @@ use rq_front::{FRAME_LEN, Framer, LOG_LIMIT, header_of};
 use rq_lawful::Rule;
 use rq_record::{CheckBytes, ElemId, Fault, KeptRecord, QueueNo, Record, Version, encode};
 use rq_standing::{Machine, Taken};
-use rq_state::KeptElement;
+use rq_state::{KeptElement, State};
 use std::alloc::Global;
 
 /// The bytes of the frame of a COMMIT or an ABORT.
 const END_LEN: usize = 45;
-
-// A state that is spelled numbers at most so many records.
-const NUMBERS: u64 = 4_294_967_295;
 
 /// Why an operation was not done.
 #[derive(Clone, Copy)]
@@ -202,7 +199,7 @@ impl Kernel {
         ensures fits { OnOk result (FitsCheckpoint self.now.machine) }
         ensures refused { IfErr result (KernelStopsMark self.now self.now) }
     {
-        if self.machine.next() > NUMBERS {
+        if self.machine.next() > State::RECORDS {
             return Err(NotDone::Ended);
         }
         let bytes = match self.machine.spell(alloc) {

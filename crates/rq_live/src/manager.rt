@@ -135,9 +135,8 @@ impl<D: Device + Drop> Manager<D> {
         if queue.0 as usize >= self.kernel.machine.definitions().len() {
             return Ok(Vec::new(alloc));
         }
-        let mut free = self.kernel.machine.listing(alloc, queue)?;
-        free.truncate(most);
-        Ok(free)
+        let first = self.kernel.machine.part(queue).first_elements(alloc, most)?;
+        Ok(first)
     }
 
     // Writes and syncs all that is pending.

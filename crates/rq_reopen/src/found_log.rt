@@ -9,7 +9,7 @@ use rq_front::Framer;
 use rq_live::Kernel;
 use rq_plan::Plan;
 use rq_record::{Fault, LogBytes, Version};
-use rq_restart::{Why, redone_front};
+use rq_restart::{RedoneFront, Why};
 use rq_standing::Machine;
 use std::alloc::Global;
 use std::marker::Sync;
@@ -51,7 +51,7 @@ pub fn find<R: Threads + Sync>(
 {
     rq_left::crash_leaves();
     rq_model::one_front();
-    let front = redone_front(rt, alloc, left, plan)?;
+    let front = RedoneFront::of(rt, alloc, left, plan)?;
     let machine = Machine::of(alloc, &front.state)?;
     let framer = Framer::after(front.last, front.used);
     Ok(FoundLog {

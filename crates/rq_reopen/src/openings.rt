@@ -6,7 +6,7 @@ ghost use Rattle.rq_live.specs.Kernels.{StandsWithin};
 ghost use Rattle.rq_reopen.specs.Openings.{CutsBehind, GoesOnAt, OpensLog, OpensBehind};
 
 use crate::found_log::{FoundLog, find};
-use rq_journal::{Damage, damage_behind};
+use rq_journal::Damage;
 use rq_plan::Plan;
 use rq_record::{Fault, LogBytes};
 use std::alloc::Global;
@@ -72,7 +72,7 @@ fn opened_behind(
     requires within { found.used ≤ length bytes.now }
     ensures { OpensBehind bytes.now found drops result }
 {
-    match damage_behind(alloc, found.version, bytes, found.used, found.why) {
+    match Damage::left_behind(alloc, found.version, bytes, found.used, found.why) {
         Ok(None) => cut_behind(alloc, bytes, found, None),
         Ok(Some(damage)) => {
             if drops {
