@@ -24,7 +24,7 @@ use std::alloc::Global;
 const END_LEN: usize = 45;
 
 /// Why an operation was not done.
-#[derive(Clone, Copy)]
+#[derive(Clone, Copy, PartialEq, Eq, Debug)]
 pub enum NotDone {
     /// It is not lawful: it breaks this rule. Nothing was done or written.
     Unlawful(Rule),

@@ -30,35 +30,37 @@ pub struct FoundLog {
     pub kernel: Kernel,
 }
 
-/// The queues behind the front of what a crash left of a log. Whatever manager wrote it, they go on
-/// from all that was safe; and if the crash left a beginning of what was written, they stand behind
-/// the first records that were done, and no others.
-///
-/// Refuses with `TooLong` more than 4,294,967,295 bytes, with `NotALog` bytes that begin with no
-/// version's header, which those of a safe log never are, and with `Resources` where memory is
-/// refused.
-pub fn find<R: Threads + Sync>(
-    rt: &R,
-    alloc: Global,
-    left: &LogBytes<'_>,
-    plan: &Plan,
-) -> Result<FoundLog, Fault>
-    ensures finds { Finds left.now result }
-    ensures within { IfOk result (λ l. StandsWithin l.kernel (length left.now)) }
-    ensures survives { IfOk result (GoesOnAt left.now) }
-    ensures headed { IfErr result (IsNoMishap left.now) }
-    ensures exact { IfOk result (IsExactlyFound left.now) }
-{
-    rq_left::crash_leaves();
-    rq_model::one_front();
-    let front = RedoneFront::of(rt, alloc, left, plan)?;
-    let machine = Machine::of(alloc, &front.state)?;
-    let framer = Framer::after(front.last, front.used);
-    Ok(FoundLog {
-        version: front.version,
-        used: front.used,
-        records: front.records,
-        why: front.why,
-        kernel: Kernel::standing(alloc, front.version, machine, framer),
-    })
+impl FoundLog {
+    /// The queues behind the front of what a crash left of a log. Whatever manager wrote it, they go on
+    /// from all that was safe; and if the crash left a beginning of what was written, they stand behind
+    /// the first records that were done, and no others.
+    ///
+    /// Refuses with `TooLong` more than 4,294,967,295 bytes, with `NotALog` bytes that begin with no
+    /// version's header, which those of a safe log never are, and with `Resources` where memory is
+    /// refused.
+    pub fn of<R: Threads + Sync>(
+        rt: &R,
+        alloc: Global,
+        left: &LogBytes<'_>,
+        plan: &Plan,
+    ) -> Result<FoundLog, Fault>
+        ensures finds { Finds left.now result }
+        ensures within { IfOk result (λ l. StandsWithin l.kernel (length left.now)) }
+        ensures survives { IfOk result (GoesOnAt left.now) }
+        ensures headed { IfErr result (IsNoMishap left.now) }
+        ensures exact { IfOk result (IsExactlyFound left.now) }
+    {
+        rq_left::crash_leaves();
+        rq_model::one_front();
+        let front = RedoneFront::of(rt, alloc, left, plan)?;
+        let machine = Machine::of(alloc, &front.state)?;
+        let framer = Framer::after(front.last, front.used);
+        Ok(FoundLog {
+            version: front.version,
+            used: front.used,
+            records: front.records,
+            why: front.why,
+            kernel: Kernel::standing(alloc, front.version, machine, framer),
+        })
+    }
 }

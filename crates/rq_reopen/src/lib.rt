@@ -5,6 +5,6 @@ mod found_log;
 mod openings;
 mod reopened;
 
-pub use found_log::{FoundLog, find};
-pub use openings::{NotOpened, Opening, opening};
+pub use found_log::FoundLog;
+pub use openings::{NotOpened, Opening};
 pub use reopened::reopen;

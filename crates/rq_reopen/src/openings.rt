@@ -5,7 +5,7 @@ ghost use Rattle.rq_record.specs.declared.fault.Fault.TheVariants.{Resources};
 ghost use Rattle.rq_live.specs.Kernels.{StandsWithin};
 ghost use Rattle.rq_reopen.specs.Openings.{CutsBehind, GoesOnAt, OpensLog, OpensBehind};
 
-use crate::found_log::{FoundLog, find};
+use crate::found_log::FoundLog;
 use rq_journal::Damage;
 use rq_plan::Plan;
 use rq_record::{Fault, LogBytes};
@@ -60,7 +60,7 @@ fn cut_behind(
     }
 }
 
-// OpensLog a log behind its front, unless damage stands there that is not to be dropped.
+// Opens a log behind its front, unless damage stands there that is not to be dropped.
 #[tactic(auto, using(crate::proofs::Opened::opens_behind))]
 fn opened_behind(
     alloc: Global,
@@ -85,25 +85,28 @@ fn opened_behind(
     }
 }
 
-/// How a manager goes on behind what a crash left of a log. What stands behind the front is handed
-/// back: nothing, the beginning of a frame, or at most 1,048,576 bytes among which no frame is right. If
-/// it is something else, it is cut only if it is to be dropped. `Manager::over` the device of these
-/// bytes and the kernel, and its `resume`, do the rest.
-///
-/// Refuses damage that is not to be dropped with `Damaged`, and with `Log` what `find` refuses.
-pub fn opening<R: Threads + Sync>(
-    rt: &R,
-    alloc: Global,
-    left: &LogBytes<'_>,
-    plan: &Plan,
-    drops: bool,
-) -> Result<Opening, NotOpened>
-    ensures opens { OpensLog left.now drops result }
-    ensures within { IfOk result (λ o. StandsWithin o.found.kernel (length left.now)) }
-    ensures survives { IfOk result (λ o. GoesOnAt left.now o.found) }
-{
-    match find(rt, alloc, left, plan) {
-        Ok(found) => opened_behind(alloc, left.as_slice(), found, drops),
-        Err(fault) => Err(NotOpened::Log(fault)),
+impl Opening {
+    /// How a manager goes on behind what a crash left of a log. What stands behind the front is
+    /// handed back: nothing, the beginning of a frame, or at most 1,048,576 bytes among which no
+    /// frame is right. If it is something else, it is cut only if it is to be dropped.
+    /// `Manager::over` the device of these bytes and the kernel, and its `resume`, do the rest.
+    ///
+    /// Refuses damage that is not to be dropped with `Damaged`, and with `Log` what `FoundLog::of`
+    /// refuses.
+    pub fn of<R: Threads + Sync>(
+        rt: &R,
+        alloc: Global,
+        left: &LogBytes<'_>,
+        plan: &Plan,
+        drops: bool,
+    ) -> Result<Opening, NotOpened>
+        ensures opens { OpensLog left.now drops result }
+        ensures within { IfOk result (λ o. StandsWithin o.found.kernel (length left.now)) }
+        ensures survives { IfOk result (λ o. GoesOnAt left.now o.found) }
+    {
+        match FoundLog::of(rt, alloc, left, plan) {
+            Ok(found) => opened_behind(alloc, left.as_slice(), found, drops),
+            Err(fault) => Err(NotOpened::Log(fault)),
+        }
     }
 }

@@ -4,6 +4,7 @@ mod appending;
 mod fronts;
 mod gates;
 mod layers;
+mod live;
 mod program;
 mod scarce;
 mod standby;

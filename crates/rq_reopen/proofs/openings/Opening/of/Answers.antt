@@ -3,7 +3,7 @@ use Rattle.rq_live.specs.Kernels.{StandsWithin}
 use Rattle.rq_reopen.specs.declared.found_log.FoundLog.{FoundLog}
 use Rattle.rq_reopen.specs.Openings.{GoesOnAt}
 use Rattle.rq_reopen.proofs.Opened.{found_within, opened_so, opens_there}
-use Rattle.rq_reopen.proofs.openings.opening.Goals as goal
+use Rattle.rq_reopen.proofs.openings.Opening.of.Goals as goal
 
 pub opened_behind-requires-clause-after : goal.opened_behind-requires-clause-after
 opened_behind-requires-clause-after g c = (found_within c.args.left.now c.in-Ok.found c.in-Ok.ensures.finds).0

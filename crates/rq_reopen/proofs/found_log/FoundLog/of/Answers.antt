@@ -6,7 +6,7 @@ use Rattle.rq_record.specs.declared.fault.Fault.TheVariants.{Resources}
 use Rattle.rq_reopen.specs.Reopenings.{IsNoMishap}
 use Rattle.rq_reopen.proofs.Found.{mishap}
 use Rattle.rq_reopen.proofs.Behind.{is_found, goes_on_at, is_exactly_found, stands_within}
-use Rattle.rq_reopen.proofs.found_log.find.Goals as goal
+use Rattle.rq_reopen.proofs.found_log.FoundLog.of.Goals as goal
 
 pub returns-clause-finds : goal.returns-clause-finds
 returns-clause-finds g c =
