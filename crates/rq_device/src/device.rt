@@ -1,6 +1,7 @@
 //! What a log is kept on.
 
-ghost use Rattle.std.specs.Prelude.{◌≡◌, ℕ, ◌<◌, ◌≤◌, List, Option, None, Bool, false, take, length};
+ghost use Rattle.std.specs.Prelude.{◌≡◌, ℕ, ◌<◌, ◌≤◌, List, Option, None, Bool, false, take};
+ghost use Rattle.std.specs.Prelude.{length};
 ghost use Rattle.std.specs.Prelude.{IfOk, IfErr, OnOk, is_err};
 ghost use Rattle.std.specs.Io.KnownBytes.{append_known};
 ghost use Rattle.rq_record.specs.declared.fault.Fault.TheVariants.{WriteFailed};
@@ -20,8 +21,8 @@ pub trait Device {
     // So many of them survive a crash.
     ghost synced: { Self → ℕ } = { λ _. 0 };
 
-    // Bytes that somebody else wrote stand there, and a sync need not reach them: if one failed before,
-    // the system may take them for synced.
+    // Bytes that somebody else wrote stand there, and a sync need not reach them: if one failed
+    // before, the system may take them for synced.
     ghost doubted: { Self → Bool } = { λ _. false };
 
     // A call failed.
@@ -37,13 +38,14 @@ pub trait Device {
             (λ n. written self.new ≡ append_known (written self.old) (take n piece.now)) }
         ensures longer { IsLonger (length piece.now) (written self.old) (written self.new) }
         ensures counts { synced self.old ≤ synced self.new }
-        ensures keeps { KeepsSynced (written self.old) (synced self.old) (written self.new) (synced self.new) }
+        ensures keeps { KeepsSynced (written self.old) (synced self.old)
+            (written self.new) (synced self.new) }
         ensures doubts { doubted self.new ≡ doubted self.old }
         ensures fails { failed self.new ≡ is_err result }
         ensures refused { IfErr result (λ e. e ≡ WriteFailed) };
 
-    /// Makes all that was written survive a crash, if no bytes are doubted. Refused with `WriteFailed`
-    /// alone.
+    /// Makes all that was written survive a crash, if no bytes are doubted. Refused with
+    /// `WriteFailed` alone.
     fn sync(&mut self) -> Result<(), Fault>
         requires { failed self.old ≡ false }
         ensures same { OnOk result (written self.new ≡ written self.old) }
@@ -51,7 +53,8 @@ pub trait Device {
             → IsAllSynced (written self.new) (synced self.new)) }
         ensures longer { IsLonger 0 (written self.old) (written self.new) }
         ensures counts { synced self.old ≤ synced self.new }
-        ensures keeps { KeepsSynced (written self.old) (synced self.old) (written self.new) (synced self.new) }
+        ensures keeps { KeepsSynced (written self.old) (synced self.old)
+            (written self.new) (synced self.new) }
         ensures doubts { doubted self.new ≡ doubted self.old }
         ensures fails { failed self.new ≡ is_err result }
         ensures refused { IfErr result (λ e. e ≡ WriteFailed) };
@@ -67,12 +70,13 @@ pub trait Device {
             → doubted self.new ≡ false) }
         ensures longer { IsLonger 0 (written self.old) (written self.new) }
         ensures counts { synced self.old ≤ synced self.new }
-        ensures keeps { KeepsSynced (written self.old) (synced self.old) (written self.new) (synced self.new) }
+        ensures keeps { KeepsSynced (written self.old) (synced self.old)
+            (written self.new) (synced self.new) }
         ensures fails { failed self.new ≡ is_err result }
         ensures refused { IfErr result (λ e. e ≡ WriteFailed) };
 
-    /// Takes away all bytes from an offset on. Those before it survive a crash if they did. Refused with
-    /// `WriteFailed` alone.
+    /// Takes away all bytes from an offset on. Those before it survive a crash if they did. Refused
+    /// with `WriteFailed` alone.
     fn cut(&mut self, len: usize) -> Result<(), Fault>
         requires { failed self.old ≡ false }
         ensures cut { OnOk result (written self.new ≡ cut_known len (written self.old)) }

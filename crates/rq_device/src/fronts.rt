@@ -2,15 +2,16 @@
 
 ghost use Rattle.std.specs.Prelude.{◌≡◌, ◌≤◌, ℕ, false, OnOk, IfErr, is_err};
 ghost use Rattle.rq_record.specs.declared.fault.Fault.TheVariants.{WriteFailed};
-ghost use Rattle.rq_device.specs.Devices.{AreUnsynced, HasLength, IsAllSynced, KeepsSynced, cut_known};
+ghost use Rattle.rq_device.specs.Devices.{AreUnsynced, HasLength, IsAllSynced, KeepsSynced};
+ghost use Rattle.rq_device.specs.Devices.{cut_known};
 
 use crate::device::Device;
 use crate::windows::WINDOW;
 use rq_record::Fault;
 
-/// Cuts off what stands behind the first bytes, of so many, and makes these survive a crash. It writes
-/// the last 1,048,576 of them again: the process that wrote them may have been killed before a sync, or
-/// after one that failed. Refused with `WriteFailed` alone.
+/// Cuts off what stands behind the first bytes, of so many, and makes these survive a crash. It
+/// writes the last 1,048,576 of them again: the process that wrote them may have been killed before
+/// a sync, or after one that failed. Refused with `WriteFailed` alone.
 pub fn keep_front<D: Device>(device: &mut D, used: usize, stands: usize) -> Result<(), Fault>
     requires works { D.failed device.old ≡ false }
     requires within { used ≤ stands }

@@ -33,8 +33,8 @@ impl Memory {
         }
     }
 
-    /// What a crash left, of which so many bytes were synced: at most as many as there are. The others
-    /// are doubted, whatever a sync answers.
+    /// What a crash left, of which so many bytes were synced: at most as many as there are. The
+    /// others are doubted, whatever a sync answers.
     pub fn left_by_crash(bytes: Vec<u8>, synced: usize) -> Memory
         ensures bytes { result.bytes.items ≡ bytes.items }
         ensures synced { synced ≤ length bytes.items → result.synced ≡ synced }

@@ -14,7 +14,8 @@ pub const WINDOW: usize = 1_048_576;
 // Writes all of the bytes, however few a call takes.
 fn write_fully<D: Device>(device: &mut D, bytes: &[u8]) -> Result<(), Fault>
     requires { D.failed device.old ≡ false }
-    ensures bytes { OnOk result (D.written device.new ≡ append_known (D.written device.old) bytes.now) }
+    ensures bytes { OnOk result (D.written device.new
+        ≡ append_known (D.written device.old) bytes.now) }
     ensures longer { IsLonger (length bytes.now) (D.written device.old) (D.written device.new) }
     ensures counts { D.synced device.old ≤ D.synced device.new }
     ensures keeps { KeepsSynced (D.written device.old) (D.synced device.old)
@@ -37,7 +38,8 @@ fn settle_piece<D: Device>(device: &mut D, piece: &[u8]) -> Result<(), Fault>
     requires sure { D.doubted device.old ≡ false }
     requires all { IsAllSynced (D.written device.old) (D.synced device.old) }
     requires few { length piece.now ≤ 1048576 }
-    ensures bytes { OnOk result (D.written device.new ≡ append_known (D.written device.old) piece.now) }
+    ensures bytes { OnOk result (D.written device.new
+        ≡ append_known (D.written device.old) piece.now) }
     ensures synced { OnOk result (IsAllSynced (D.written device.new) (D.synced device.new)) }
     ensures window { AreUnsynced 1048576 (D.written device.new) (D.synced device.new) }
     ensures keeps { KeepsSynced (D.written device.old) (D.synced device.old)
@@ -51,13 +53,14 @@ fn settle_piece<D: Device>(device: &mut D, piece: &[u8]) -> Result<(), Fault>
     Ok(())
 }
 
-/// Writes all of the bytes, and syncs them, in pieces: at most 1,048,576 bytes are ever written that
-/// are not synced, also if it is refused. Refused with `WriteFailed` alone.
+/// Writes all of the bytes, and syncs them, in pieces: at most 1,048,576 bytes are ever written
+/// that are not synced, also if it is refused. Refused with `WriteFailed` alone.
 pub fn settle<D: Device>(device: &mut D, bytes: &[u8]) -> Result<(), Fault>
     requires works { D.failed device.old ≡ false }
     requires sure { D.doubted device.old ≡ false }
     requires all { IsAllSynced (D.written device.old) (D.synced device.old) }
-    ensures bytes { OnOk result (D.written device.new ≡ append_known (D.written device.old) bytes.now) }
+    ensures bytes { OnOk result (D.written device.new
+        ≡ append_known (D.written device.old) bytes.now) }
     ensures synced { OnOk result (IsAllSynced (D.written device.new) (D.synced device.new)) }
     ensures window { AreUnsynced 1048576 (D.written device.new) (D.synced device.new) }
     ensures keeps { KeepsSynced (D.written device.old) (D.synced device.old)

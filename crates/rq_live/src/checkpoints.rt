@@ -16,9 +16,11 @@ impl<D: Device + Drop> Manager<D> {
         ensures window { KeepsWindow (stand_of D.written D.synced D.doubted D.failed self.new) }
         ensures spent { self.old.spent ≡ true
             → (self.new ≡ self.old) × (result ≡ Err NotDone.Spent) }
-        ensures marked { IfOk result (MarksState (stand_of D.written D.synced D.doubted D.failed self.old)
+        ensures marked { IfOk result (MarksState
+            (stand_of D.written D.synced D.doubted D.failed self.old)
             (stand_of D.written D.synced D.doubted D.failed self.new)) }
-        ensures refused { IfErr result (StopsMark (stand_of D.written D.synced D.doubted D.failed self.old)
+        ensures refused { IfErr result (StopsMark
+            (stand_of D.written D.synced D.doubted D.failed self.old)
             (stand_of D.written D.synced D.doubted D.failed self.new)) }
         ensures few { IfErr result (λ why. self.new.spent ≡ false
             → (self.old.spent ≡ false) × (self.new.kernel.pending ≡ self.old.kernel.pending)) }
@@ -47,9 +49,11 @@ impl<D: Device + Drop> Manager<D> {
         ensures order { IsInOrder (stand_of D.written D.synced D.doubted D.failed self.new) }
         ensures spent { self.old.spent ≡ true
             → (self.new ≡ self.old) × (result ≡ Err NotDone.Spent) }
-        ensures marked { IfOk result (MarksSafely (stand_of D.written D.synced D.doubted D.failed self.old)
+        ensures marked { IfOk result (MarksSafely
+            (stand_of D.written D.synced D.doubted D.failed self.old)
             (stand_of D.written D.synced D.doubted D.failed self.new)) }
-        ensures refused { IfErr result (StopsMark (stand_of D.written D.synced D.doubted D.failed self.old)
+        ensures refused { IfErr result (StopsMark
+            (stand_of D.written D.synced D.doubted D.failed self.old)
             (stand_of D.written D.synced D.doubted D.failed self.new)) }
         ensures keeps { KeepsSafe (stand_of D.written D.synced D.doubted D.failed self.old)
             (stand_of D.written D.synced D.doubted D.failed self.new) }

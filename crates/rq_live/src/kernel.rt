@@ -1,6 +1,7 @@
 //! The queues as they stand, and the frames of what was done to them.
 
-ghost use Rattle.std.specs.Prelude.{◌≡◌, ◌≢◌, ◌<◌, ◌≤◌, ◌+◌, ◌*◌, ℕ, List, [], length, nat_le, IfOk, IfErr, OnOk};
+ghost use Rattle.std.specs.Prelude.{◌≡◌, ◌≢◌, ◌<◌, ◌≤◌, ◌+◌, ◌*◌, ℕ, List, [], length, nat_le};
+ghost use Rattle.std.specs.Prelude.{IfOk, IfErr, OnOk};
 ghost use Rattle.rq_model.specs.Records as model;
 ghost use Rattle.rq_model.specs.Appending.{MayFollow, FitsCheckpoint};
 ghost use Rattle.rq_model.specs.Frames.{IsBodyLength, log_limit, log_of};
@@ -10,7 +11,8 @@ ghost use Rattle.rq_model.specs.Machine.{best, run};
 ghost use Rattle.rq_record.specs.Views.{record_of, version_of};
 ghost use Rattle.rq_record.specs.declared.fault.Fault.TheVariants.{Resources};
 ghost use Rattle.rq_front.specs.Framers.{IsFramerAt, behind_header};
-ghost use Rattle.rq_live.specs.Kernels.{IsKernelBehind, IsBodyOf, KernelTakes, KernelStops, KernelStays};
+ghost use Rattle.rq_live.specs.Kernels.{IsKernelBehind, IsBodyOf, KernelTakes, KernelStops};
+ghost use Rattle.rq_live.specs.Kernels.{KernelStays};
 ghost use Rattle.rq_live.specs.Kernels.{KernelMarks, KernelStopsMark, KernelRefuses, open_behind};
 
 use rq_front::{FRAME_LEN, Framer, LOG_LIMIT, header_of};
@@ -31,17 +33,18 @@ pub enum NotDone {
     /// With it, and with the end of each unit that would be open then, the log would have more than
     /// 4,294,967,295 bytes. Nothing was done or written.
     Full,
-    /// The spelling of the state has more than the 268,435,455 bytes that a checkpoint holds. Nothing
-    /// was done or written.
+    /// The spelling of the state has more than the 268,435,455 bytes that a checkpoint holds.
+    /// Nothing was done or written.
     Large,
-    /// The numbers are at their end: of the units, if one was to begin; of the records, if a checkpoint
-    /// was to be taken. Nothing was done or written.
+    /// The numbers are at their end: of the units, if one was to begin; of the records, if a
+    /// checkpoint was to be taken. Nothing was done or written.
     Ended,
     /// Memory was refused, or a write or a sync failed, now or earlier. Open the log anew.
     Spent,
 }
 
-/// The queues as they stand, and the frames of the records that were done since some were given out.
+/// The queues as they stand, and the frames of the records that were done since some were given
+/// out.
 #[derive(Drop)]
 pub struct Kernel {
     pub(crate) version: Version,
@@ -114,7 +117,8 @@ impl Kernel {
 
     /// Whether the log has room for the end of each unit that is open.
     pub(crate) fn has_room_for_ends(&self) -> bool
-        ensures { result ≡ nat_le (self.now.framer.len + 45 * length self.now.machine.units) log_limit }
+        ensures { result
+            ≡ nat_le (self.now.framer.len + 45 * length self.now.machine.units) log_limit }
     {
         let count = self.machine.open_count();
         if count > LOG_LIMIT {
@@ -124,8 +128,8 @@ impl Kernel {
         len <= LOG_LIMIT && END_LEN * count <= LOG_LIMIT - len
     }
 
-    // Whether the log has room for the record whose body was spelled, and for the end of each unit that
-    // is open behind it.
+    // Whether the log has room for the record whose body was spelled, and for the end of each unit
+    // that is open behind it.
     #[tactic(auto, using(crate::proofs::Taking::open_many))]
     fn has_room(&self, kept: &KeptRecord) -> bool
         requires { IsBodyLength (length self.now.body.items) }
@@ -140,8 +144,8 @@ impl Kernel {
         FRAME_LEN + self.body.len() + ends <= LOG_LIMIT.saturating_sub(self.framer.len())
     }
 
-    // Why the record is not taken for which there is no room: that it is not lawful is told first, so a
-    // COMMIT or an ABORT is never refused for want of room.
+    // Why the record is not taken for which there is no room: that it is not lawful is told first,
+    // so a COMMIT or an ABORT is never refused for want of room.
     fn without_room(&self, kept: &KeptRecord) -> NotDone
         requires long { log_limit < self.now.framer.len + (36 + length self.now.body.items)
             + 45 * open_behind (length self.now.machine.units) (record_of kept.now) }
@@ -154,13 +158,14 @@ impl Kernel {
         }
     }
 
-    /// Does a record, if it is lawful and the log has room for it, and adds its frame to those that are
-    /// pending. The id of the element that it takes, if it takes one. Refused with `Unlawful` and
-    /// `Full` it stands where it stood; with `Spent` nothing is known of it from then on.
+    /// Does a record, if it is lawful and the log has room for it, and adds its frame to those that
+    /// are pending. The id of the element that it takes, if it takes one. Refused with `Unlawful`
+    /// and `Full` it stands where it stood; with `Spent` nothing is known of it from then on.
     pub(crate) fn take(&mut self, alloc: Global, next: &Record) -> Result<Option<ElemId>, NotDone>
         ensures taken { IfOk result (KernelTakes self.old self.new (record_of next.now)) }
         ensures refused { IfErr result (KernelStops self.old self.new (record_of next.now)) }
-        ensures few { IfErr result (λ why. why ≢ NotDone.Spent → self.new.pending ≡ self.old.pending) }
+        ensures few { IfErr result
+            (λ why. why ≢ NotDone.Spent → self.new.pending ≡ self.old.pending) }
     {
         rq_model::one_spelling();
         self.body.clear();
@@ -178,7 +183,8 @@ impl Kernel {
         requires { IsBodyOf (record_of kept.now) self.old.body.items }
         ensures taken { IfOk result (KernelTakes self.old self.new (record_of kept.now)) }
         ensures refused { IfErr result (KernelStops self.old self.new (record_of kept.now)) }
-        ensures few { IfErr result (λ why. why ≢ NotDone.Spent → self.new.pending ≡ self.old.pending) }
+        ensures few { IfErr result
+            (λ why. why ≢ NotDone.Spent → self.new.pending ≡ self.old.pending) }
     {
         if !self.has_room(kept) {
             return Err(self.without_room(kept));
@@ -210,12 +216,13 @@ impl Kernel {
         CheckBytes::new(bytes).ok_or(NotDone::Large)
     }
 
-    /// Adds the frame of a checkpoint of the state. Refused with `Full`, `Large` and `Ended` it stands
-    /// where it stood; with `Spent` nothing is known of it from then on.
+    /// Adds the frame of a checkpoint of the state. Refused with `Full`, `Large` and `Ended` it
+    /// stands where it stood; with `Spent` nothing is known of it from then on.
     pub(crate) fn mark(&mut self, alloc: Global) -> Result<(), NotDone>
         ensures marked { OnOk result (KernelMarks self.old self.new) }
         ensures refused { IfErr result (KernelStopsMark self.old self.new) }
-        ensures few { IfErr result (λ why. why ≢ NotDone.Spent → self.new.pending ≡ self.old.pending) }
+        ensures few { IfErr result
+            (λ why. why ≢ NotDone.Spent → self.new.pending ≡ self.old.pending) }
     {
         let bytes = self.spelled(alloc)?;
         match self.take(alloc, &Record::Checkpoint { bytes }) {

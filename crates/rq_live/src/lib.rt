@@ -1,5 +1,5 @@
-//! A queue manager that appends what it does to a log, and says when it is safe. It does one operation
-//! at a time, and starts no thread.
+//! A queue manager that appends what it does to a log, and says when it is safe. It does one
+//! operation at a time, and starts no thread.
 #![tactic(auto)]
 
 mod checkpoints;

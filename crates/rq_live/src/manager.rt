@@ -1,13 +1,16 @@
 //! A queue manager over a device.
 
-ghost use Rattle.std.specs.Prelude.{◌≡◌, ◌⊎◌, ◌≤◌, [], ℕ, List, Err, true, false, OnOk, IfOk, IfErr, map, option_map};
+ghost use Rattle.std.specs.Prelude.{◌≡◌, ◌⊎◌, ◌≤◌, [], ℕ, List, Err, true, false, OnOk, IfOk};
+ghost use Rattle.std.specs.Prelude.{IfErr, map, option_map};
 ghost use Rattle.std.specs.Prelude.{length};
 ghost use Rattle.rq_record.specs.Views.{record_of, version_of};
 ghost use Rattle.rq_record.specs.declared.fault.Fault.TheVariants.{Resources};
 ghost use Rattle.rq_state.specs.Views.{unit_of};
 ghost use Rattle.rq_device.specs.Devices.{AreStored, IsAllSynced};
-ghost use Rattle.rq_live.specs.Managers.{IsManaged, IsInOrder, KeepsWindow, stand_of, DoesTaking, ManagerStops};
-ghost use Rattle.rq_live.specs.Managers.{Settles, KeepsSafe, IsLength, IsLastOf, AreOpen, AreDefined, AreFirstFree};
+ghost use Rattle.rq_live.specs.Managers.{IsManaged, IsInOrder, KeepsWindow, stand_of, DoesTaking};
+ghost use Rattle.rq_live.specs.Managers.{ManagerStops};
+ghost use Rattle.rq_live.specs.Managers.{Settles, KeepsSafe, IsLength, IsLastOf, AreOpen};
+ghost use Rattle.rq_live.specs.Managers.{AreDefined, AreFirstFree};
 
 use crate::kernel::{Kernel, NotDone};
 use rq_device::{Device, WINDOW};
@@ -15,13 +18,13 @@ use rq_record::{ElemId, Fault, KeptName, QueueNo, Record, UnitNo, Version};
 use rq_state::{Definition, KeptElement, Last};
 use std::alloc::Global;
 
-/// A queue manager over a device. It does one operation at a time, and says of each what it did. Its
-/// records are pending until `commit`, `checkpoint` or `settle` writes and syncs them, or until more
-/// than 1,048,576 bytes are pending: what was not committed then may be lost in a crash, and is aborted
-/// by it anyway.
+/// A queue manager over a device. It does one operation at a time, and says of each what it did.
+/// Its records are pending until `commit`, `checkpoint` or `settle` writes and syncs them, or until
+/// more than 1,048,576 bytes are pending: what was not committed then may be lost in a crash, and
+/// is aborted by it anyway.
 ///
-/// Once memory was refused, or the device failed, it is spent: each call then says so, and the device
-/// is not called again. What was synced stays.
+/// Once memory was refused, or the device failed, it is spent: each call then says so, and the
+/// device is not called again. What was synced stays.
 #[derive(Drop)]
 pub struct Manager<D> {
     pub(crate) device: D,
@@ -80,7 +83,8 @@ impl<D: Device + Drop> Manager<D> {
 
     /// The last operation of who is registered with a queue by the name, lent; none if nobody is.
     pub fn last(&self, queue: QueueNo, name: &KeptName) -> Result<Option<Option<&Last>>, NotDone>
-        ensures last { IfOk result (λ l. IsLastOf (stand_of D.written D.synced D.doubted D.failed self.now)
+        ensures last { IfOk result (λ l. IsLastOf
+            (stand_of D.written D.synced D.doubted D.failed self.now)
             queue.0 name.now (option_map (λ x. option_map (λ y. y.now) x) l)) }
         ensures spent { self.now.spent ≡ true → result ≡ Err NotDone.Spent }
         ensures refused { IfErr result (λ why. (why ≡ NotDone.Spent) × (self.now.spent ≡ true)) }
@@ -93,7 +97,8 @@ impl<D: Device + Drop> Manager<D> {
 
     /// The queues, by number; lent.
     pub fn definitions(&self) -> Result<&[Definition], NotDone>
-        ensures definitions { IfOk result (λ ds. AreDefined (stand_of D.written D.synced D.doubted D.failed self.now) ds.now) }
+        ensures definitions { IfOk result (λ ds. AreDefined
+            (stand_of D.written D.synced D.doubted D.failed self.now) ds.now) }
         ensures spent { self.now.spent ≡ true → result ≡ Err NotDone.Spent }
         ensures refused { IfErr result (λ why. (why ≡ NotDone.Spent) × (self.now.spent ≡ true)) }
     {
@@ -105,7 +110,8 @@ impl<D: Device + Drop> Manager<D> {
 
     /// The units that are open, rising. Refused with `Resources`, also if it is spent.
     pub fn open_units(&self, alloc: Global) -> Result<Vec<UnitNo>, Fault>
-        ensures units { IfOk result (λ v. AreOpen (stand_of D.written D.synced D.doubted D.failed self.now)
+        ensures units { IfOk result (λ v. AreOpen
+            (stand_of D.written D.synced D.doubted D.failed self.now)
             (map unit_of v.items)) }
         ensures refused { IfErr result (λ e. e ≡ Resources) }
     {
@@ -115,16 +121,17 @@ impl<D: Device + Drop> Manager<D> {
         self.kernel.machine.open_units(alloc)
     }
 
-    /// The first free elements of a queue, in the order in which they would be taken; lent. As many as
-    /// there are, and no more than `most`; a queue that is not there has none. Refused with `Resources`,
-    /// also if it is spent.
+    /// The first free elements of a queue, in the order in which they would be taken; lent. As many
+    /// as there are, and no more than `most`; a queue that is not there has none. Refused with
+    /// `Resources`, also if it is spent.
     pub fn first_elements(
         &self,
         alloc: Global,
         queue: QueueNo,
         most: usize,
     ) -> Result<Vec<&KeptElement>, Fault>
-        ensures elements { IfOk result (λ v. AreFirstFree (stand_of D.written D.synced D.doubted D.failed self.now)
+        ensures elements { IfOk result (λ v. AreFirstFree
+            (stand_of D.written D.synced D.doubted D.failed self.now)
             queue.0 most (map (λ e. e.now) v.items)) }
         ensures refused { IfErr result (λ e. e ≡ Resources) }
     {
@@ -146,7 +153,8 @@ impl<D: Device + Drop> Manager<D> {
         ensures few { OnOk result (self.new.kernel.pending.items ≡ []) }
         ensures spent { self.old.spent ≡ true
             → (self.new ≡ self.old) × (result ≡ Err NotDone.Spent) }
-        ensures safe { OnOk result (Settles (stand_of D.written D.synced D.doubted D.failed self.old)
+        ensures safe { OnOk result (Settles
+            (stand_of D.written D.synced D.doubted D.failed self.old)
             (stand_of D.written D.synced D.doubted D.failed self.new)) }
         ensures keeps { KeepsSafe (stand_of D.written D.synced D.doubted D.failed self.old)
             (stand_of D.written D.synced D.doubted D.failed self.new) }
@@ -175,7 +183,8 @@ impl<D: Device + Drop> Manager<D> {
         ensures order { IsInOrder (stand_of D.written D.synced D.doubted D.failed self.new) }
         ensures spent { self.old.spent ≡ true
             → (self.new ≡ self.old) × (result ≡ Err NotDone.Spent) }
-        ensures safe { OnOk result (Settles (stand_of D.written D.synced D.doubted D.failed self.old)
+        ensures safe { OnOk result (Settles
+            (stand_of D.written D.synced D.doubted D.failed self.old)
             (stand_of D.written D.synced D.doubted D.failed self.new)) }
         ensures keeps { KeepsSafe (stand_of D.written D.synced D.doubted D.failed self.old)
             (stand_of D.written D.synced D.doubted D.failed self.new) }
@@ -192,9 +201,11 @@ impl<D: Device + Drop> Manager<D> {
         ensures window { KeepsWindow (stand_of D.written D.synced D.doubted D.failed self.new) }
         ensures spent { self.old.spent ≡ true
             → (self.new ≡ self.old) × (result ≡ Err NotDone.Spent) }
-        ensures taken { IfOk result (DoesTaking (stand_of D.written D.synced D.doubted D.failed self.old)
+        ensures taken { IfOk result (DoesTaking
+            (stand_of D.written D.synced D.doubted D.failed self.old)
             (stand_of D.written D.synced D.doubted D.failed self.new) (record_of next.now)) }
-        ensures refused { IfErr result (ManagerStops (stand_of D.written D.synced D.doubted D.failed self.old)
+        ensures refused { IfErr result (ManagerStops
+            (stand_of D.written D.synced D.doubted D.failed self.old)
             (stand_of D.written D.synced D.doubted D.failed self.new) (record_of next.now)) }
         ensures few { IfErr result (λ why. self.new.spent ≡ false
             → (self.old.spent ≡ false) × (self.new.kernel.pending ≡ self.old.kernel.pending)) }
@@ -222,9 +233,11 @@ impl<D: Device + Drop> Manager<D> {
         ensures order { IsInOrder (stand_of D.written D.synced D.doubted D.failed self.new) }
         ensures spent { self.old.spent ≡ true
             → (self.new ≡ self.old) × (result ≡ Err NotDone.Spent) }
-        ensures taken { IfOk result (DoesTaking (stand_of D.written D.synced D.doubted D.failed self.old)
+        ensures taken { IfOk result (DoesTaking
+            (stand_of D.written D.synced D.doubted D.failed self.old)
             (stand_of D.written D.synced D.doubted D.failed self.new) (record_of next.now)) }
-        ensures refused { IfErr result (ManagerStops (stand_of D.written D.synced D.doubted D.failed self.old)
+        ensures refused { IfErr result (ManagerStops
+            (stand_of D.written D.synced D.doubted D.failed self.old)
             (stand_of D.written D.synced D.doubted D.failed self.new) (record_of next.now)) }
         ensures keeps { KeepsSafe (stand_of D.written D.synced D.doubted D.failed self.old)
             (stand_of D.written D.synced D.doubted D.failed self.new) }

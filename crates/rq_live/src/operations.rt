@@ -2,7 +2,8 @@
 
 ghost use Rattle.std.specs.Prelude.{◌≡◌, Err, true, OnOk, IfOk, IfErr};
 ghost use Rattle.rq_model.specs.Records as model;
-ghost use Rattle.rq_live.specs.Managers.{IsInOrder, stand_of, Does, Enqueues, Dequeues, ManagerStops};
+ghost use Rattle.rq_live.specs.Managers.{IsInOrder, stand_of, Does, Enqueues, Dequeues};
+ghost use Rattle.rq_live.specs.Managers.{ManagerStops};
 ghost use Rattle.rq_live.specs.Managers.{BeginsUnit, StopsBegin, StopsEnd, Commits, KeepsSafe};
 
 use crate::kernel::NotDone;
@@ -13,8 +14,8 @@ use rq_state::KeptElement;
 use std::alloc::Global;
 
 impl<D: Device + Drop> Manager<D> {
-    /// Defines the next queue: how many failed attempts an element may have, 0 for no limit, and the
-    /// queue that it goes to then.
+    /// Defines the next queue: how many failed attempts an element may have, 0 for no limit, and
+    /// the queue that it goes to then.
     pub fn define(
         &mut self,
         alloc: Global,
@@ -27,9 +28,12 @@ impl<D: Device + Drop> Manager<D> {
         ensures spent { self.old.spent ≡ true
             → (self.new ≡ self.old) × (result ≡ Err NotDone.Spent) }
         ensures done { OnOk result (Does (stand_of D.written D.synced D.doubted D.failed self.old)
-            (stand_of D.written D.synced D.doubted D.failed self.new) (model.Define limit error.0 name)) }
-        ensures refused { IfErr result (ManagerStops (stand_of D.written D.synced D.doubted D.failed self.old)
-            (stand_of D.written D.synced D.doubted D.failed self.new) (model.Define limit error.0 name)) }
+            (stand_of D.written D.synced D.doubted D.failed self.new)
+            (model.Define limit error.0 name)) }
+        ensures refused { IfErr result (ManagerStops
+            (stand_of D.written D.synced D.doubted D.failed self.old)
+            (stand_of D.written D.synced D.doubted D.failed self.new)
+            (model.Define limit error.0 name)) }
         ensures keeps { KeepsSafe (stand_of D.written D.synced D.doubted D.failed self.old)
             (stand_of D.written D.synced D.doubted D.failed self.new) }
     {
@@ -44,9 +48,12 @@ impl<D: Device + Drop> Manager<D> {
         ensures spent { self.old.spent ≡ true
             → (self.new ≡ self.old) × (result ≡ Err NotDone.Spent) }
         ensures done { OnOk result (Does (stand_of D.written D.synced D.doubted D.failed self.old)
-            (stand_of D.written D.synced D.doubted D.failed self.new) (model.Register queue.0 name)) }
-        ensures refused { IfErr result (ManagerStops (stand_of D.written D.synced D.doubted D.failed self.old)
-            (stand_of D.written D.synced D.doubted D.failed self.new) (model.Register queue.0 name)) }
+            (stand_of D.written D.synced D.doubted D.failed self.new)
+            (model.Register queue.0 name)) }
+        ensures refused { IfErr result (ManagerStops
+            (stand_of D.written D.synced D.doubted D.failed self.old)
+            (stand_of D.written D.synced D.doubted D.failed self.new)
+            (model.Register queue.0 name)) }
         ensures keeps { KeepsSafe (stand_of D.written D.synced D.doubted D.failed self.old)
             (stand_of D.written D.synced D.doubted D.failed self.new) }
     {
@@ -61,9 +68,12 @@ impl<D: Device + Drop> Manager<D> {
         ensures spent { self.old.spent ≡ true
             → (self.new ≡ self.old) × (result ≡ Err NotDone.Spent) }
         ensures done { OnOk result (Does (stand_of D.written D.synced D.doubted D.failed self.old)
-            (stand_of D.written D.synced D.doubted D.failed self.new) (model.Deregister queue.0 name)) }
-        ensures refused { IfErr result (ManagerStops (stand_of D.written D.synced D.doubted D.failed self.old)
-            (stand_of D.written D.synced D.doubted D.failed self.new) (model.Deregister queue.0 name)) }
+            (stand_of D.written D.synced D.doubted D.failed self.new)
+            (model.Deregister queue.0 name)) }
+        ensures refused { IfErr result (ManagerStops
+            (stand_of D.written D.synced D.doubted D.failed self.old)
+            (stand_of D.written D.synced D.doubted D.failed self.new)
+            (model.Deregister queue.0 name)) }
         ensures keeps { KeepsSafe (stand_of D.written D.synced D.doubted D.failed self.old)
             (stand_of D.written D.synced D.doubted D.failed self.new) }
     {
@@ -77,9 +87,11 @@ impl<D: Device + Drop> Manager<D> {
         ensures order { IsInOrder (stand_of D.written D.synced D.doubted D.failed self.new) }
         ensures spent { self.old.spent ≡ true
             → (self.new ≡ self.old) × (result ≡ Err NotDone.Spent) }
-        ensures begun { IfOk result (λ unit. BeginsUnit (stand_of D.written D.synced D.doubted D.failed self.old)
+        ensures begun { IfOk result (λ unit. BeginsUnit
+            (stand_of D.written D.synced D.doubted D.failed self.old)
             (stand_of D.written D.synced D.doubted D.failed self.new) unit.0) }
-        ensures refused { IfErr result (StopsBegin (stand_of D.written D.synced D.doubted D.failed self.old)
+        ensures refused { IfErr result (StopsBegin
+            (stand_of D.written D.synced D.doubted D.failed self.old)
             (stand_of D.written D.synced D.doubted D.failed self.new)) }
         ensures keeps { KeepsSafe (stand_of D.written D.synced D.doubted D.failed self.old)
             (stand_of D.written D.synced D.doubted D.failed self.new) }
@@ -112,10 +124,12 @@ impl<D: Device + Drop> Manager<D> {
         ensures order { IsInOrder (stand_of D.written D.synced D.doubted D.failed self.new) }
         ensures spent { self.old.spent ≡ true
             → (self.new ≡ self.old) × (result ≡ Err NotDone.Spent) }
-        ensures done { IfOk result (λ id. Enqueues (stand_of D.written D.synced D.doubted D.failed self.old)
+        ensures done { IfOk result (λ id. Enqueues
+            (stand_of D.written D.synced D.doubted D.failed self.old)
             (stand_of D.written D.synced D.doubted D.failed self.new)
             (model.Enqueue unit.0 queue.0 priority by payload) id.0) }
-        ensures refused { IfErr result (ManagerStops (stand_of D.written D.synced D.doubted D.failed self.old)
+        ensures refused { IfErr result (ManagerStops
+            (stand_of D.written D.synced D.doubted D.failed self.old)
             (stand_of D.written D.synced D.doubted D.failed self.new)
             (model.Enqueue unit.0 queue.0 priority by payload)) }
         ensures keeps { KeepsSafe (stand_of D.written D.synced D.doubted D.failed self.old)
@@ -133,7 +147,8 @@ impl<D: Device + Drop> Manager<D> {
         Ok(id)
     }
 
-    /// Takes the best free element of a queue, to be gone when the unit commits. None if none is free.
+    /// Takes the best free element of a queue, to be gone when the unit commits. None if none is
+    /// free.
     pub fn dequeue(
         &mut self,
         alloc: Global,
@@ -145,10 +160,13 @@ impl<D: Device + Drop> Manager<D> {
         ensures order { IsInOrder (stand_of D.written D.synced D.doubted D.failed self.new) }
         ensures spent { self.old.spent ≡ true
             → (self.new ≡ self.old) × (result ≡ Err NotDone.Spent) }
-        ensures took { IfOk result (λ e. Dequeues (stand_of D.written D.synced D.doubted D.failed self.old)
+        ensures took { IfOk result (λ e. Dequeues
+            (stand_of D.written D.synced D.doubted D.failed self.old)
             (stand_of D.written D.synced D.doubted D.failed self.new) unit.0 queue.0 by e) }
-        ensures refused { IfErr result (ManagerStops (stand_of D.written D.synced D.doubted D.failed self.old)
-            (stand_of D.written D.synced D.doubted D.failed self.new) (model.Dequeue unit.0 queue.0 by)) }
+        ensures refused { IfErr result (ManagerStops
+            (stand_of D.written D.synced D.doubted D.failed self.old)
+            (stand_of D.written D.synced D.doubted D.failed self.new)
+            (model.Dequeue unit.0 queue.0 by)) }
         ensures keeps { KeepsSafe (stand_of D.written D.synced D.doubted D.failed self.old)
             (stand_of D.written D.synced D.doubted D.failed self.new) }
     {
@@ -173,9 +191,12 @@ impl<D: Device + Drop> Manager<D> {
         ensures spent { self.old.spent ≡ true
             → (self.new ≡ self.old) × (result ≡ Err NotDone.Spent) }
         ensures done { OnOk result (Does (stand_of D.written D.synced D.doubted D.failed self.old)
-            (stand_of D.written D.synced D.doubted D.failed self.new) (model.Kill queue.0 element.0)) }
-        ensures refused { IfErr result (ManagerStops (stand_of D.written D.synced D.doubted D.failed self.old)
-            (stand_of D.written D.synced D.doubted D.failed self.new) (model.Kill queue.0 element.0)) }
+            (stand_of D.written D.synced D.doubted D.failed self.new)
+            (model.Kill queue.0 element.0)) }
+        ensures refused { IfErr result (ManagerStops
+            (stand_of D.written D.synced D.doubted D.failed self.old)
+            (stand_of D.written D.synced D.doubted D.failed self.new)
+            (model.Kill queue.0 element.0)) }
         ensures keeps { KeepsSafe (stand_of D.written D.synced D.doubted D.failed self.old)
             (stand_of D.written D.synced D.doubted D.failed self.new) }
     {
@@ -191,7 +212,8 @@ impl<D: Device + Drop> Manager<D> {
             → (self.new ≡ self.old) × (result ≡ Err NotDone.Spent) }
         ensures done { OnOk result (Does (stand_of D.written D.synced D.doubted D.failed self.old)
             (stand_of D.written D.synced D.doubted D.failed self.new) (model.Commit unit.0)) }
-        ensures refused { IfErr result (StopsEnd (stand_of D.written D.synced D.doubted D.failed self.old)
+        ensures refused { IfErr result (StopsEnd
+            (stand_of D.written D.synced D.doubted D.failed self.old)
             (stand_of D.written D.synced D.doubted D.failed self.new) (model.Commit unit.0)) }
         ensures keeps { KeepsSafe (stand_of D.written D.synced D.doubted D.failed self.old)
             (stand_of D.written D.synced D.doubted D.failed self.new) }
@@ -209,9 +231,11 @@ impl<D: Device + Drop> Manager<D> {
         ensures order { IsInOrder (stand_of D.written D.synced D.doubted D.failed self.new) }
         ensures spent { self.old.spent ≡ true
             → (self.new ≡ self.old) × (result ≡ Err NotDone.Spent) }
-        ensures safe { OnOk result (Commits (stand_of D.written D.synced D.doubted D.failed self.old)
+        ensures safe { OnOk result (Commits
+            (stand_of D.written D.synced D.doubted D.failed self.old)
             (stand_of D.written D.synced D.doubted D.failed self.new) unit.0) }
-        ensures refused { IfErr result (StopsEnd (stand_of D.written D.synced D.doubted D.failed self.old)
+        ensures refused { IfErr result (StopsEnd
+            (stand_of D.written D.synced D.doubted D.failed self.old)
             (stand_of D.written D.synced D.doubted D.failed self.new) (model.Commit unit.0)) }
         ensures keeps { KeepsSafe (stand_of D.written D.synced D.doubted D.failed self.old)
             (stand_of D.written D.synced D.doubted D.failed self.new) }
@@ -228,7 +252,8 @@ impl<D: Device + Drop> Manager<D> {
             → (self.new ≡ self.old) × (result ≡ Err NotDone.Spent) }
         ensures done { OnOk result (Does (stand_of D.written D.synced D.doubted D.failed self.old)
             (stand_of D.written D.synced D.doubted D.failed self.new) (model.Abort unit.0)) }
-        ensures refused { IfErr result (StopsEnd (stand_of D.written D.synced D.doubted D.failed self.old)
+        ensures refused { IfErr result (StopsEnd
+            (stand_of D.written D.synced D.doubted D.failed self.old)
             (stand_of D.written D.synced D.doubted D.failed self.new) (model.Abort unit.0)) }
         ensures keeps { KeepsSafe (stand_of D.written D.synced D.doubted D.failed self.old)
             (stand_of D.written D.synced D.doubted D.failed self.new) }

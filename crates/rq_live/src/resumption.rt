@@ -15,10 +15,10 @@ use rq_record::{Record, UnitNo};
 use std::alloc::Global;
 
 impl<D: Device + Drop> Manager<D> {
-    /// Goes on from what a crash left, of which so many bytes stand there, and behind the front of which
-    /// its kernel stands: cuts off what stands behind that, and makes the front survive a crash. Units
-    /// that are open there stay open. What was synced of the front stays meanwhile, whatever a crash
-    /// leaves then.
+    /// Goes on from what a crash left, of which so many bytes stand there, and behind the front of
+    /// which its kernel stands: cuts off what stands behind that, and makes the front survive a
+    /// crash. Units that are open there stay open. What was synced of the front stays meanwhile,
+    /// whatever a crash leaves then.
     ///
     /// Refused with `Full` if there is no room for the ends of the open units: then nothing was
     /// changed. It is spent if it is refused.
@@ -27,14 +27,18 @@ impl<D: Device + Drop> Manager<D> {
         requires works { D.failed self.old.device ≡ false }
         requires within { StandsWithin self.old.kernel stands }
         requires stands { HasLength stands (D.written self.old.device) }
-        requires window { AreUnsynced 1048576 (D.written self.old.device) (D.synced self.old.device) }
+        requires window { AreUnsynced 1048576 (D.written self.old.device)
+            (D.synced self.old.device) }
         ensures order { IsInOrder (stand_of D.written D.synced D.doubted D.failed self.new) }
-        ensures secured { OnOk result (Secures (stand_of D.written D.synced D.doubted D.failed self.old)
+        ensures secured { OnOk result (Secures
+            (stand_of D.written D.synced D.doubted D.failed self.old)
             (stand_of D.written D.synced D.doubted D.failed self.new)) }
-        ensures refused { IfErr result (StopsResume (stand_of D.written D.synced D.doubted D.failed self.old)
+        ensures refused { IfErr result (StopsResume
+            (stand_of D.written D.synced D.doubted D.failed self.old)
             (stand_of D.written D.synced D.doubted D.failed self.new)) }
         ensures keeps { (n : ℕ) → n ≤ self.old.kernel.framer.len → n ≤ D.synced self.old.device
-            → KeepsSynced (D.written self.old.device) n (D.written self.new.device) (D.synced self.new.device) }
+            → KeepsSynced (D.written self.old.device) n (D.written self.new.device)
+            (D.synced self.new.device) }
     {
         if !self.kernel.has_room_for_ends() {
             self.spent = true;
@@ -53,8 +57,10 @@ impl<D: Device + Drop> Manager<D> {
     fn abort_each(&mut self, alloc: Global, units: &[UnitNo]) -> Result<(), NotDone>
         requires { IsInOrder (stand_of D.written D.synced D.doubted D.failed self.old) }
         ensures order { IsInOrder (stand_of D.written D.synced D.doubted D.failed self.new) }
-        ensures done { OnOk result (DoesEach (stand_of D.written D.synced D.doubted D.failed self.old)
-            (stand_of D.written D.synced D.doubted D.failed self.new) (map model.Abort (map unit_of units.now))) }
+        ensures done { OnOk result (DoesEach
+            (stand_of D.written D.synced D.doubted D.failed self.old)
+            (stand_of D.written D.synced D.doubted D.failed self.new)
+            (map model.Abort (map unit_of units.now))) }
         ensures keeps { KeepsSafe (stand_of D.written D.synced D.doubted D.failed self.old)
             (stand_of D.written D.synced D.doubted D.failed self.new) }
     {
@@ -68,7 +74,8 @@ impl<D: Device + Drop> Manager<D> {
     pub fn abort_open(&mut self, alloc: Global) -> Result<(), NotDone>
         requires { IsInOrder (stand_of D.written D.synced D.doubted D.failed self.old) }
         ensures order { IsInOrder (stand_of D.written D.synced D.doubted D.failed self.new) }
-        ensures done { OnOk result (AbortsAll (stand_of D.written D.synced D.doubted D.failed self.old)
+        ensures done { OnOk result (AbortsAll
+            (stand_of D.written D.synced D.doubted D.failed self.old)
             (stand_of D.written D.synced D.doubted D.failed self.new)) }
         ensures refused { IfErr result (λ why. (why ≡ NotDone.Spent) × (self.new.spent ≡ true)) }
         ensures keeps { KeepsSafe (stand_of D.written D.synced D.doubted D.failed self.old)
@@ -96,14 +103,18 @@ impl<D: Device + Drop> Manager<D> {
         requires works { D.failed self.old.device ≡ false }
         requires within { StandsWithin self.old.kernel stands }
         requires stands { HasLength stands (D.written self.old.device) }
-        requires window { AreUnsynced 1048576 (D.written self.old.device) (D.synced self.old.device) }
+        requires window { AreUnsynced 1048576 (D.written self.old.device)
+            (D.synced self.old.device) }
         ensures order { IsInOrder (stand_of D.written D.synced D.doubted D.failed self.new) }
-        ensures resumed { OnOk result (Resumes (stand_of D.written D.synced D.doubted D.failed self.old)
+        ensures resumed { OnOk result (Resumes
+            (stand_of D.written D.synced D.doubted D.failed self.old)
             (stand_of D.written D.synced D.doubted D.failed self.new)) }
-        ensures refused { IfErr result (StopsResume (stand_of D.written D.synced D.doubted D.failed self.old)
+        ensures refused { IfErr result (StopsResume
+            (stand_of D.written D.synced D.doubted D.failed self.old)
             (stand_of D.written D.synced D.doubted D.failed self.new)) }
         ensures keeps { (n : ℕ) → n ≤ self.old.kernel.framer.len → n ≤ D.synced self.old.device
-            → KeepsSynced (D.written self.old.device) n (D.written self.new.device) (D.synced self.new.device) }
+            → KeepsSynced (D.written self.old.device) n (D.written self.new.device)
+            (D.synced self.new.device) }
     {
         self.secure(stands)?;
         self.abort_open(alloc)?;

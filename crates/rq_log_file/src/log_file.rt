@@ -1,6 +1,6 @@
 //! A file to which the bytes of a log are written.
 
-ghost use Rattle.std.specs.Prelude.{◌≡◌, ◌≤◌, None, true, is_some};
+ghost use Rattle.std.specs.Prelude.{◌≡◌, ◌≤◌, None, true, is_some, option_copied};
 ghost use Rattle.rq_record.specs.declared.fault.Fault.TheVariants.{WriteFailed};
 
 use rq_device::Device;
@@ -11,8 +11,8 @@ use std::io::{self, ErrorKind, Read, Seek, SeekFrom, Write};
 // As many bytes are written again at once.
 const PIECE: u64 = 65_536;
 
-/// The file of a log, which was opened to be read and written, and not to append. What a file holds is
-/// known to no contract: that a disk does what a `Device` says is taken for granted.
+/// The file of a log, which was opened to be read and written, and not to append. What a file holds
+/// is known to no contract: that a disk does what a `Device` says is taken for granted.
 #[derive(Drop)]
 pub struct LogFile<F> {
     file: F,
@@ -23,8 +23,8 @@ pub struct LogFile<F> {
 }
 
 impl<F> LogFile<F> {
-    /// Over a file that has so many bytes. Its place is found by the first `rewrite`, or is where the
-    /// file begins if it has none.
+    /// Over a file that has so many bytes. Its place is found by the first `rewrite`, or is where
+    /// the file begins if it has none.
     pub fn new(file: F, len: usize) -> LogFile<F>
         ensures { result.error ≡ None }
     {
@@ -45,7 +45,9 @@ impl<F> LogFile<F> {
     }
 
     /// Why a call failed; none if none did.
-    pub fn error(&self) -> Option<&io::Error> {
+    pub fn error(&self) -> Option<&io::Error>
+        ensures { option_copied result ≡ self.now.error }
+    {
         self.error.as_ref()
     }
 
@@ -58,8 +60,8 @@ impl<F> LogFile<F> {
 }
 
 impl<F: Read + Write + Seek + OpenFile> LogFile<F> {
-    // Says that a call failed. What no sync reached is cut off, as far as the system lets us: a program
-    // that opens the file then finds what was answered.
+    // Says that a call failed. What no sync reached is cut off, as far as the system lets us: a
+    // program that opens the file then finds what was answered.
     fn fail(&mut self, error: io::Error) -> Fault
         ensures failed { is_some self.new.error ≡ true }
         ensures fault { result ≡ WriteFailed }
@@ -83,8 +85,8 @@ impl<F: Read + Write + Seek + OpenFile> LogFile<F> {
         self.file.write_all(bytes)
     }
 
-    // Writes all bytes from an offset on once more, in their place, and tells the disk. The file stands
-    // at its end then.
+    // Writes all bytes from an offset on once more, in their place, and tells the disk. The file
+    // stands at its end then.
     fn write_again(&mut self, from: u64) -> io::Result<()>
         ensures { self.new.error ≡ self.old.error }
     {

@@ -31,13 +31,13 @@ pub struct FoundLog {
 }
 
 impl FoundLog {
-    /// The queues behind the front of what a crash left of a log. Whatever manager wrote it, they go on
-    /// from all that was safe; and if the crash left a beginning of what was written, they stand behind
-    /// the first records that were done, and no others.
+    /// The queues behind the front of what a crash left of a log. Whatever manager wrote it, they
+    /// go on from all that was safe; and if the crash left a beginning of what was written, they
+    /// stand behind the first records that were done, and no others.
     ///
-    /// Refuses with `TooLong` more than 4,294,967,295 bytes, with `NotALog` bytes that begin with no
-    /// version's header, which those of a safe log never are, and with `Resources` where memory is
-    /// refused.
+    /// Refuses with `TooLong` more than 4,294,967,295 bytes, with `NotALog` bytes that begin with
+    /// no version's header, which those of a safe log never are, and with `Resources` where memory
+    /// is refused.
     pub fn of<R: Threads + Sync>(
         rt: &R,
         alloc: Global,

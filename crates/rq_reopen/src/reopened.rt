@@ -13,10 +13,11 @@ use std::thread::Threads;
 
 /// Restarts what a crash left of a log.
 ///
-/// Whatever manager wrote the log, and whatever the crash left behind the bytes that were synced, the
-/// restart goes on from all that was safe: each unit whose commit was answered is committed there. If
-/// the crash left a beginning of what was written, the restart has the first records that were done,
-/// in their order, and no others. Refused as `restart` is; never with `NotALog` if the log was safe.
+/// Whatever manager wrote the log, and whatever the crash left behind the bytes that were synced,
+/// the restart goes on from all that was safe: each unit whose commit was answered is committed
+/// there. If the crash left a beginning of what was written, the restart has the first records that
+/// were done, in their order, and no others. Refused as `restart` is; never with `NotALog` if the
+/// log was safe.
 pub fn reopen<R: Threads + Sync, G: Gate + Sync>(
     rt: &R,
     alloc: Global,
