@@ -1,12 +1,14 @@
 //! A manager over memory: what it answers, what it writes, and where it goes on after a crash.
 
+ghost use Rattle.std.specs.Prelude.{◌≡◌, IfErr, is_err};
+ghost use Rattle.rq_record.specs.declared.fault.Fault.TheVariants.{WriteFailed};
 ghost use Rattle.rq_live.specs.Managers.{IsInOrder, stand_of};
 
 use super::log_in;
 use rq_device::{Device, Memory, WINDOW};
 use rq_lawful::Rule;
 use rq_live::{Manager, NotDone};
-use rq_record::{By, ElemId, KeptName, LogBytes, Name, Payload, QueueNo, UnitNo, Version};
+use rq_record::{By, ElemId, Fault, KeptName, LogBytes, Name, Payload, QueueNo, UnitNo, Version};
 use rq_reopen::Opening;
 use rq_restart::{Plan, closed};
 use std::alloc::Global;
@@ -79,10 +81,7 @@ fn puts_in<D: Device + Drop>(
 }
 
 // Unit 2 takes an element, and is aborted. The element's id.
-fn takes_out<D: Device + Drop>(
-    alloc: Global,
-    m: &mut Manager<D>,
-) -> Result<Option<ElemId>, NotDone>
+fn takes_out<D: Device + Drop>(alloc: Global, m: &mut Manager<D>) -> Result<Option<ElemId>, NotDone>
     requires { IsInOrder (stand_of D.written D.synced D.doubted D.failed m.old) }
     ensures { IsInOrder (stand_of D.written D.synced D.doubted D.failed m.new) }
 {
@@ -241,8 +240,94 @@ fn a_manager_goes_on_before_what_was_torn(rt: HostRuntime) -> Result<(), Fail> {
     for behind in [[165; 50].as_slice(), [0; 200].as_slice()] {
         for len in (40..=log.len()).step_by(23) {
             let left = left_of(rt.alloc(), &log, len, behind)?;
-            assert!(rt; goes_on_from(&rt, &left, &plan)?, "{len} and {}", behind.len());
+            assert!(rt;
+                goes_on_from(&rt, &left, &plan)?,
+                "{len} and {}",
+                behind.len()
+            );
         }
     }
+    Ok(())
+}
+
+// A device that keeps nothing, and whose calls fail once so many were made.
+#[derive(Drop)]
+struct Failing {
+    most: usize,
+    calls: usize,
+    failed: bool,
+}
+
+impl Failing {
+    // Counts a call, and says whether it is done.
+    fn call(&mut self) -> Result<(), Fault>
+        ensures fails { self.new.failed ≡ is_err result }
+        ensures refused { IfErr result (λ e. e ≡ WriteFailed) }
+    {
+        self.failed = self.calls >= self.most;
+        self.calls = self.calls.saturating_add(1);
+        if self.failed {
+            return Err(Fault::WriteFailed);
+        }
+        Ok(())
+    }
+}
+
+impl Device for Failing {
+    ghost failed = { λ it. it.failed };
+
+    fn write(&mut self, piece: &[u8]) -> Result<usize, Fault> {
+        self.call()?;
+        Ok(piece.len())
+    }
+
+    fn sync(&mut self) -> Result<(), Fault> {
+        self.call()
+    }
+
+    fn rewrite(&mut self, _from: usize) -> Result<(), Fault> {
+        self.call()
+    }
+
+    fn cut(&mut self, _len: usize) -> Result<(), Fault> {
+        self.call()
+    }
+}
+
+// How many units are committed of five, each of which is to be written and synced.
+fn committed_of<D: Device + Drop>(alloc: Global, m: &mut Manager<D>) -> usize
+    requires { IsInOrder (stand_of D.written D.synced D.doubted D.failed m.old) }
+{
+    let mut committed = 0usize;
+    for unit in 1u64..=5 {
+        let is_begun = m.begin(alloc).is_ok();
+        if m.commit(alloc, UnitNo(unit)) == Ok(()) && is_begun {
+            committed = committed.saturating_add(1);
+        }
+    }
+    committed
+}
+
+// How many calls are made of a device that fails from one of them on, and how many units are
+// committed.
+fn calls_of(alloc: Global, most: usize) -> Result<(usize, usize), Fault> {
+    let device = Failing {
+        most,
+        calls: 0,
+        failed: false,
+    };
+    let mut m = Manager::new(alloc, Version::One, device)?;
+    let committed = committed_of(alloc, &mut m);
+    Ok((m.device().calls, committed))
+}
+
+// The call that fails is the last, and no later commit is answered.
+#[test]
+fn a_device_that_failed_is_not_called_again(rt: HostRuntime) -> Result<(), Fail> {
+    for most in 0..10 {
+        let calls = calls_of(rt.alloc(), most)?;
+        assert!(rt; calls == (most + 1, most / 2), "{most}");
+    }
+    assert!(rt; calls_of(rt.alloc(), 10)? == (10, 5));
     Ok(())
 }
