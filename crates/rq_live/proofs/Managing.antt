@@ -23,7 +23,7 @@ use Rattle.rq_model.specs.Checkpoints.{TrueAt}
 use Rattle.rq_model.specs.Appending.{AppendedIsFront, CheckpointIsTrue, FitsCheckpoint}
 use Rattle.rq_record.specs.declared.record.ElemId.{ElemId}
 use Rattle.rq_queue.specs.Firsts.{AreFirst}
-use Rattle.rq_standing.proofs.Looks.{listing_of}
+use Rattle.rq_live.proofs.PartListings.{lists_all}
 use Rattle.rq_device.specs.Devices.{AreStored, IsAllSynced, cut_known}
 use Rattle.rq_live.specs.declared.kernel.Kernel.{Kernel}
 use Rattle.rq_live.specs.declared.kernel.NotDone.{NotDone}
@@ -296,7 +296,7 @@ pub first_free : (m : Stand) (queue most : ℕ) (es : List Element)
 first_free m queue most es first version rs managed = (
   first.0,
   subst (λ (s : State). IsListing queue s.elements first.0) managed.at.state
-      (listing_of queue m.kernel.machine.elements first.0 first.1),
+      (lists_all queue m.kernel.machine.elements first.0 first.1),
   first.2,
 )
 
