@@ -3,7 +3,7 @@
 
 ghost use Rattle.std.specs.Prelude.{◌≡◌, IfOk};
 
-use rq_file::{Late, Names, Patient, hold_standard, in_place};
+use rq_file::{Late, Names, Patient, hold_standard};
 use rq_tool::{Command, Fault, Open, OverRead, OverWrite};
 use std::fs::File;
 use std::io::ErrorKind;
@@ -119,7 +119,7 @@ where
 {
     let mut input = open(rt, from)?;
     let Some(names) = Names::of(rt, to).map_err(|error| unmade(&error))? else {
-        let mut output = OverWrite::new(Late::new(rt, to, in_place()));
+        let mut output = OverWrite::new(Late::in_place(rt, to));
         return rq_tool::act(rt, rt.alloc(), command, &mut input, &mut output, &Open);
     };
     let options = names.options(rt);

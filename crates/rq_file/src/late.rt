@@ -6,16 +6,6 @@ ghost use Rattle.std.specs.Fs.{new_options, with_append};
 use std::fs::{Files, OpenOptions};
 use std::io::{self, Write};
 
-/// How a file is opened that is written as it is: behind what it holds, of which nothing is lost.
-/// It is there already; one that is gone is not made.
-pub fn in_place() -> OpenOptions
-    ensures { result ≡ with_append new_options true }
-{
-    let mut options = OpenOptions::new();
-    options.append(true);
-    options
-}
-
 /// A file that is opened at its first write.
 #[derive(Drop)]
 pub struct Late<'a, R: Files> {
@@ -38,6 +28,18 @@ impl<'a, R: Files> Late<'a, R> {
             options,
             file: None,
         }
+    }
+
+    /// A file that is written as it is: behind what it holds, of which nothing is lost. It is there
+    /// already; one that is gone is not made.
+    pub fn in_place(rt: &'a R, path: &'a str) -> Self
+        ensures file { result.file ≡ None }
+        ensures path { result.path.now ≡ path.now }
+        ensures options { result.options ≡ with_append new_options true }
+    {
+        let mut options = OpenOptions::new();
+        options.append(true);
+        Late::new(rt, path, options)
     }
 
     /// The file, where there was a write.

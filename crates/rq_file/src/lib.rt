@@ -11,7 +11,7 @@ mod standard;
 mod version;
 mod whole_files;
 
-pub use late::{Late, in_place};
+pub use late::Late;
 pub use named::NamedFile;
 pub use names::Names;
 pub use paths::folder_within;
@@ -19,4 +19,4 @@ pub use patient::Patient;
 pub use predecessors::Replaces;
 pub use standard::hold_standard;
 pub use version::VERSION;
-pub use whole_files::{LIMIT, put_file, put_over, read_limited};
+pub use whole_files::{LIMIT, read_limited};

@@ -1,6 +1,6 @@
 //! All bytes of a file, read or written.
 
-use crate::late::{Late, in_place};
+use crate::late::Late;
 use crate::names::Names;
 use crate::predecessors::Replaces;
 use std::fs::Files;
@@ -17,17 +17,6 @@ pub fn read_limited<R: Read + Drop, A: AllocGlobal>(rt: &A, from: R) -> io::Resu
     Ok(bytes)
 }
 
-/// Makes the file of the path, with these bytes: whole, or as it was, or not there. What is no file
-/// is written as it is.
-///
-/// Refuses with the system's error, as `Names::of` does and as far as writing fails.
-pub fn put_file<R: Files + AllocGlobal>(rt: &R, path: &str, bytes: &[u8]) -> io::Result<()>
-where
-    R::File: AsFd,
-{
-    put_over(rt, path, &[bytes], &Replaces::Anything)
-}
-
 // Writes all bytes of these pieces, one behind the other.
 fn write_pieces<W: Write>(file: &mut W, pieces: &[&[u8]]) -> io::Result<()> {
     for piece in pieces {
@@ -36,23 +25,28 @@ fn write_pieces<W: Write>(file: &mut W, pieces: &[&[u8]]) -> io::Result<()> {
     Ok(())
 }
 
-/// The same of the bytes of several pieces, one behind the other; but refuses with `AlreadyExists` what
-/// is there and may not be replaced. It looks at that when all is written, and puts the file in the
-/// place of what it looked at.
-pub fn put_over<R>(rt: &R, path: &str, pieces: &[&[u8]], rule: &Replaces<'_>) -> io::Result<()>
-where
-    R: Files + AllocGlobal,
-    R::File: AsFd,
-{
-    let Some(names) = Names::of(rt, path)? else {
-        return write_pieces(&mut Late::new(rt, path, in_place()), pieces);
-    };
-    let mut file = Late::new(rt, names.new_name(), names.options(rt));
-    // The first write opens the file: where there are no bytes, one of none does.
-    let done = file
-        .write(&[])
-        .and_then(|_| write_pieces(&mut file, pieces));
-    let settled = names.settle_over(rt, file.into_file(), done.is_ok(), rule);
-    done?;
-    settled
+impl Replaces<'_> {
+    /// Makes the file of the path, with the bytes of these pieces, one behind the other: whole, or as it
+    /// was, or not there. What is no file is written as it is.
+    ///
+    /// Refuses with the system's error, as `Names::of` does and as far as writing fails; with
+    /// `AlreadyExists` what is there and may not be replaced. It looks at that when all is written, and
+    /// puts the file in the place of what it looked at.
+    pub fn put_over<R>(&self, rt: &R, path: &str, pieces: &[&[u8]]) -> io::Result<()>
+    where
+        R: Files + AllocGlobal,
+        R::File: AsFd,
+    {
+        let Some(names) = Names::of(rt, path)? else {
+            return write_pieces(&mut Late::in_place(rt, path), pieces);
+        };
+        let mut file = Late::new(rt, names.new_name(), names.options(rt));
+        // The first write opens the file: where there are no bytes, one of none does.
+        let done = file
+            .write(&[])
+            .and_then(|_| write_pieces(&mut file, pieces));
+        let settled = names.settle_over(rt, file.into_file(), done.is_ok(), self);
+        done?;
+        settled
+    }
 }

@@ -5,8 +5,6 @@ use Rattle.rq_model.specs.Frames.{Whole}
 use Rattle.rq_model.specs.Fronts.{Why, Ends, Restarted, IsRestart}
 use Rattle.rq_model.specs.Reports.{why_text}
 use Rattle.rq_model.specs.Checkpoints.{IsRestartAt}
-use Rattle.rq_judged.specs.declared.ends.FrontEnd.{FrontEnd}
-use Rattle.rq_found.specs.declared.ends.End.{End}
 
 -- nothing follows the front
 abbrev pub is_whole : Why → Bool
@@ -23,11 +21,6 @@ abbrev pub beginning_text : Option ℕ → List ℕ
 beginning_text None = []
 beginning_text (Some at) =
     codes "carried: begins with the checkpoint at " ++ (decimal at ++ codes "\n")
-
--- where the front ends, but for the reason
-abbrev pub front_end_of : End → FrontEnd
-front_end_of end =
-    record { records = end.records; used = end.used; total = end.total; why = end.why }
 
 -- its records, its bytes, all bytes, why it ends, and the reason
 abbrev pub end_numbers : ℕ → ℕ → ℕ → Why → List ℕ → List ℕ

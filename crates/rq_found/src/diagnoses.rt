@@ -4,7 +4,7 @@ ghost use Rattle.std.specs.Prelude.{◌≡◌, ◌++◌, ◌-◌, OnOk, string_b
 ghost use Rattle.rq_judged.specs.Views.{why_of};
 ghost use Rattle.rq_found.specs.Diagnoses as spec;
 
-use crate::ends::{End, is_whole};
+use crate::ends::End;
 use crate::pieces::Put;
 use rq_restart::Why;
 use std::fmt::Write;
@@ -35,17 +35,17 @@ impl Diagnosis {
     /// The verdict on a log, of which is known where its front ends, whether a frame behind that may be
     /// right in itself, and whether each of its checkpoints is true.
     pub fn of(end: &End, has_right: bool, is_sound: bool) -> Diagnosis
-        ensures { result ≡ spec.diagnosis_of (why_of end.now.why) (end.now.total - end.now.used) has_right
+        ensures { result ≡ spec.diagnosis_of (why_of end.now.front.why) (end.now.front.total - end.now.front.used) has_right
             is_sound }
     {
-        if is_whole(end.why) && is_sound {
+        if end.is_whole() && is_sound {
             return Diagnosis::Whole;
         }
-        if is_whole(end.why) {
+        if end.is_whole() {
             return Diagnosis::Untrue;
         }
-        let rest = end.total.saturating_sub(end.used);
-        if may_be_torn(end.why) && !has_right && rest <= Why::TORN_LEN as u64 {
+        let rest = end.front.total.saturating_sub(end.front.used);
+        if may_be_torn(end.front.why) && !has_right && rest <= Why::TORN_LEN as u64 {
             return Diagnosis::Torn;
         }
         Diagnosis::Damaged

@@ -8,7 +8,7 @@ ghost use Rattle.rq_record.specs.declared.fault.Fault.TheVariants.{Resources};
 ghost use Rattle.rq_judged.specs.FrontEnds.{IsEndOf};
 ghost use Rattle.rq_judged.specs.Views.{why_of};
 ghost use Rattle.rq_found.specs.Ends as ends;
-ghost use Rattle.rq_found.specs.Ends.{IsRestartFrom, beginning_text, end_text, front_end_of};
+ghost use Rattle.rq_found.specs.Ends.{IsRestartFrom, beginning_text, end_text};
 ghost use Rattle.rq_found.specs.Refusals.{RefusedFrom};
 
 use crate::frames::{first_frame, stated_length};
@@ -19,7 +19,6 @@ use rq_front::{CARRIED_AT, FRAME_LEN, version};
 use rq_judged::FrontEnd;
 use rq_lawful::Rule;
 use rq_record::{CheckBytes, Fault, Version};
-use rq_report::why_word;
 use rq_restart::{Restarted, Why};
 use sha2::{Digest, Sha256};
 use std::alloc::{AllocError, Global};
@@ -35,26 +34,10 @@ const BODY_LIMIT: usize = CheckBytes::LIMIT + 1;
 pub struct End {
     /// The offset of that checkpoint.
     pub at: Option<u64>,
-    /// The records of the front.
-    pub records: u64,
-    /// The bytes up to the front's end, with the header.
-    pub used: u64,
-    /// All bytes of the log.
-    pub total: u64,
-    /// Why the front ends.
-    pub why: Why,
-    /// The same in a sentence without its full stop.
+    /// Where the front ends, and why.
+    pub front: FrontEnd,
+    /// Why it ends, in a sentence without its full stop.
     pub reason: String,
-}
-
-/// Whether nothing follows the front.
-pub fn is_whole(why: Why) -> bool
-    ensures { result ≡ ends.is_whole (why_of why) }
-{
-    match why {
-        Why::Whole => true,
-        Why::Cut | Why::Length | Why::Chain | Why::Form | Why::Law => false,
-    }
 }
 
 fn cut_reason(alloc: Global, rest: &[u8]) -> Result<String, AllocError> {
@@ -142,16 +125,13 @@ fn reason_of(
 // Where the front ends, with the reason.
 fn told(alloc: Global, log: &ShownLog<'_>, end: &FrontEnd, rule: Option<Rule>) -> Result<End, Fault>
     ensures end { IfOk result
-        (λ told. (r : fronts.Restarted) → IsEndOf r end.now → IsEndOf r (front_end_of told)) }
+        (λ told. (r : fronts.Restarted) → IsEndOf r end.now → IsEndOf r told.front) }
     ensures refused { IfErr result (λ e. e ≡ Resources) }
 {
     let reason = reason_of(alloc, log.bytes, end, rule)?;
     Ok(End {
         at: log.at,
-        records: end.records,
-        used: end.used,
-        total: end.total,
-        why: end.why,
+        front: *end,
         reason,
     })
 }
@@ -180,6 +160,16 @@ fn ruled_end<R: Threads + Sync>(
 }
 
 impl End {
+    /// Whether nothing follows the front.
+    pub fn is_whole(&self) -> bool
+        ensures { result ≡ ends.is_whole (why_of self.now.front.why) }
+    {
+        match self.front.why {
+            Why::Whole => true,
+            Why::Cut | Why::Length | Why::Chain | Why::Form | Why::Law => false,
+        }
+    }
+
     /// Where the front ends of which the restart is known. Refuses with `Resources` where memory is
     /// refused.
     pub fn after_restart<R: Threads + Sync>(
@@ -188,11 +178,11 @@ impl End {
         log: &ShownLog<'_>,
         r: &Restarted,
     ) -> Result<End, Fault>
-        ensures end { IfOk result (λ end. IsEndOf r.now (front_end_of end)) }
+        ensures end { IfOk result (λ end. IsEndOf r.now end.front) }
         ensures refused { IfErr result (λ e. e ≡ Resources) }
     {
         let end = FrontEnd {
-            records: r.records(),
+            next: r.records(),
             used: r.used(),
             total: r.total(),
             why: r.why(),
@@ -214,7 +204,7 @@ impl End {
     pub fn of<R: Threads + Sync>(rt: &R, alloc: Global, log: &ShownLog<'_>) -> Result<End, Fault>
         ensures log { OnOk result (IsLog log.now.bytes.now) }
         ensures end { IfOk result (λ end. (r : fronts.Restarted)
-            × IsRestartFrom log.now.at log.now.bytes.now r × IsEndOf r (front_end_of end)) }
+            × IsRestartFrom log.now.at log.now.bytes.now r × IsEndOf r end.front) }
         ensures refused { IfErr result (RefusedFrom log.now.at log.now.bytes.now) }
     {
         let (end, rule) = ruled_end(rt, alloc, log)?;
@@ -226,19 +216,21 @@ impl End {
     /// checkpoint: where that would begin, behind no record.
     pub fn without_front(alloc: Global, log: &ShownLog<'_>) -> Result<End, AllocError>
         ensures beginning { IfOk result (λ end. end.at ≡ log.now.at) }
-        ensures none { IfOk result (λ end. end.records ≡ 0) }
-        ensures used { IfOk result (λ end. end.used ≡ min carried_at (length log.now.bytes.now)) }
-        ensures total { IfOk result (λ end. end.total ≡ length log.now.bytes.now) }
+        ensures none { IfOk result (λ end. end.front.next ≡ 0) }
+        ensures used { IfOk result (λ end. end.front.used ≡ min carried_at (length log.now.bytes.now)) }
+        ensures total { IfOk result (λ end. end.front.total ≡ length log.now.bytes.now) }
     {
         let used = CARRIED_AT.min(log.bytes.len());
         let (before, rest) = log.bytes.split_at(used);
         let (why, reason) = missing_checkpoint(alloc, before, rest)?;
         Ok(End {
             at: log.at,
-            records: 0,
-            used: used as u64,
-            total: log.bytes.len() as u64,
-            why,
+            front: FrontEnd {
+                next: 0,
+                used: used as u64,
+                total: log.bytes.len() as u64,
+                why,
+            },
             reason,
         })
     }
@@ -269,11 +261,11 @@ impl End {
     /// Puts where the front ends, as a line.
     pub fn put_end(text: &mut String, end: &End) -> Put
         ensures { OnOk result (string_bytes text.new ≡ string_bytes text.old
-            ++ end_text end.now.records end.now.used end.now.total (why_of end.now.why)
+            ++ end_text end.now.front.next end.now.front.used end.now.front.total (why_of end.now.front.why)
             (string_bytes end.now.reason)) }
     {
-        let (records, used, total) = (end.records, end.used, end.total);
-        let (why, reason) = (why_word(end.why), end.reason.as_str());
+        let (records, used, total) = (end.front.next, end.front.used, end.front.total);
+        let (why, reason) = (end.front.why.word(), end.reason.as_str());
         write!(
             text,
             "front ends behind {records} records, at {used} of {total} bytes, {why}: {reason}\n"

@@ -2,6 +2,7 @@
 
 ghost use Rattle.std.specs.Prelude.{◌≡◌, ◌+◌, ◌<◌, ◌≤◌, length, drop, MatchOption, IfSome};
 ghost use Rattle.rq_model.specs.Frames.{stated, body_in};
+ghost use Rattle.rq_found.specs.Records as records;
 ghost use Rattle.rq_found.specs.Records.{StandFrom};
 
 use byteorder::{BigEndian, ByteOrder};
@@ -57,6 +58,18 @@ pub struct Placed<'a> {
     pub number: u64,
     /// The body.
     pub body: &'a [u8],
+}
+
+impl Placed<'_> {
+    /// How many queues are defined behind its record, of which so many are before it.
+    pub fn queues_behind(&self, queues: u32) -> u32
+        ensures { result ≡ records.queues_behind queues self.now.body.now }
+    {
+        match self.body {
+            [1, ..] => queues.saturating_add(1),
+            _ => queues,
+        }
+    }
 }
 
 /// The frames in the first bytes of a log, one after the other.

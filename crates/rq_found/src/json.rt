@@ -5,7 +5,6 @@ ghost use Rattle.rq_model.specs.Reports.{why_text};
 ghost use Rattle.rq_judged.specs.Views.{why_of};
 
 use crate::ends::End;
-use rq_report::why_word;
 use serde::{Serialize, Serializer};
 
 /// Where a front ends, and where the checkpoint stands that a log begins with which was carried on.
@@ -33,18 +32,18 @@ impl FrontShown<'_> {
     /// Where the front ends.
     pub fn of(end: &End) -> FrontShown<'_>
         ensures beginning { result.carried_at ≡ end.now.at }
-        ensures records { result.records ≡ end.now.records }
-        ensures used { result.used ≡ end.now.used }
-        ensures total { result.total ≡ end.now.total }
-        ensures why { result.why.now ≡ why_text (why_of end.now.why) }
+        ensures records { result.records ≡ end.now.front.next }
+        ensures used { result.used ≡ end.now.front.used }
+        ensures total { result.total ≡ end.now.front.total }
+        ensures why { result.why.now ≡ why_text (why_of end.now.front.why) }
         ensures reason { result.reason.now ≡ string_bytes end.now.reason }
     {
         FrontShown {
             carried_at: end.at,
-            records: end.records,
-            used: end.used,
-            total: end.total,
-            why: why_word(end.why),
+            records: end.front.next,
+            used: end.front.used,
+            total: end.front.total,
+            why: end.front.why.word(),
             reason: end.reason.as_str(),
         }
     }

@@ -75,16 +75,6 @@ pub fn queue_named(r: &KeptRecord) -> Option<QueueNo>
     }
 }
 
-/// How many queues are defined behind the body of a record, of which so many are before it.
-pub fn queues_behind(queues: u32, body: &[u8]) -> u32
-    ensures { result ≡ records.queues_behind queues body.now }
-{
-    match body {
-        [1, ..] => queues.saturating_add(1),
-        _ => queues,
-    }
-}
-
 /// How many queues these define.
 pub fn queues_of(definitions: &[Definition]) -> u32
     ensures { result ≡ min (length definitions.now) 4294967295 }

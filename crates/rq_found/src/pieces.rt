@@ -42,20 +42,20 @@ impl TextPiece<'_> {
         }
         Ok(())
     }
-}
 
-/// Puts the first bytes, `most` at most, as digits, two each, and answers how many bytes these are.
-pub fn put_digits(
-    alloc: Global,
-    text: &mut String,
-    bytes: &[u8],
-    most: usize,
-) -> Result<usize, AllocError>
-    ensures { IfOk result (λ shown. (shown ≡ min (length bytes.now) most) × (string_bytes text.new
-        ≡ string_bytes text.old ++ flat_map hex_of (take shown bytes.now))) }
-{
-    let shown = bytes.len().min(most);
-    let digits = hex::encode(alloc, &bytes[..shown])?;
-    text.push_str(digits.as_str())?;
-    Ok(shown)
+    /// Puts the first bytes, `most` at most, as digits, two each, and answers how many bytes these are.
+    pub fn put_digits(
+        alloc: Global,
+        text: &mut String,
+        bytes: &[u8],
+        most: usize,
+    ) -> Result<usize, AllocError>
+        ensures { IfOk result (λ shown. (shown ≡ min (length bytes.now) most) × (string_bytes text.new
+            ≡ string_bytes text.old ++ flat_map hex_of (take shown bytes.now))) }
+    {
+        let shown = bytes.len().min(most);
+        let digits = hex::encode(alloc, &bytes[..shown])?;
+        text.push_str(digits.as_str())?;
+        Ok(shown)
+    }
 }

@@ -101,7 +101,7 @@ module _ (b : List ℕ) (f : RedoneFront) (h : IsRedoneAt b carried_at f) where
         base = h.base;
         kept = h.kept;
         after = h.after;
-        rest = drop f.used b;
+        rest = drop f.end.used b;
         front = h.front;
         begun = begun;
         joins = joins one reads join new begun;
@@ -120,7 +120,7 @@ module _ (b : List ℕ) (f : RedoneFront) (h : IsRedoneAt b carried_at f) where
     base = h.base;
     kept = h.kept;
     after = h.after;
-    rest = drop f.used b;
+    rest = drop f.end.used b;
     front = h.front;
     state = h.state;
   }

@@ -75,7 +75,7 @@ not_carried b f faults.TooLong spelt h high = let low = next_fits b f spelt h in
 not_carried b f faults.TooLarge spelt h large = (
   version_of f.version,
   h.records,
-  drop f.used b,
+  drop f.end.used b,
   h.front,
   subst (λ (z : State). 268435455 < length (state_bytes z)) h.state large.1,
 )
@@ -93,8 +93,8 @@ module _ (b : List ℕ) (f : RedoneFront) (body : List ℕ) (h : IsRedoneFront b
   link = last_of (start version) h.records
 
   spelt_here : FrontsAreSpelt → SpellsState version state (state_bytes state)
-  spelt_here law = law b version h.records [] (drop f.used b)
-      (subst (λ (z : List Record). IsFront b version z (drop f.used b)) (sym (append-nil h.records)) h.front)
+  spelt_here law = law b version h.records [] (drop f.end.used b)
+      (subst (λ (z : List Record). IsFront b version z (drop f.end.used b)) (sym (append-nil h.records)) h.front)
 
   pub carried_on : (new : List ℕ) → FrontsAreSpelt → StartsAnew → IsNoLog → ReadsAsLog → AnewJoins
       → new ≡ carried_file version f.last (frame f.last body) → IsCarriedOn b new
@@ -106,10 +106,10 @@ module _ (b : List ℕ) (f : RedoneFront) (body : List ℕ) (h : IsRedoneFront b
       record {
         version = version;
         records = h.records;
-        rest = drop f.used b;
+        rest = drop f.end.used b;
         front = h.front;
         begun = begun;
-        joins = λ more s kept after left at. join b (new ++ more) more version h.records (drop f.used b)
+        joins = λ more s kept after left at. join b (new ++ more) more version h.records (drop f.end.used b)
             s kept after left h.front here.small (ap (λ (z : List ℕ). z ++ more) begun.bytes) at;
       }
 

@@ -29,7 +29,7 @@ use Rattle.rq_journal.proofs.Taking.{later}
 
 -- a judge of the state behind a front
 abbrev pub with_judge : RedoneFront → Judge → JudgedFront
-with_judge f j = record { judge = j; last = f.last; used = f.used; records = f.records; why = f.why }
+with_judge f j = record { judge = j; last = f.last; end = f.end }
 
 pub judged_of : (b : List ℕ) (f : RedoneFront) (j : Judge) → IsRedoneFront b f → StandsIn (version_of f.version) j f.state
     → IsJudged b (with_judge f j)
@@ -70,12 +70,10 @@ pub log_short : (b : List ℕ) (version : Version) (rs : List Record) (rest : Li
 log_short b version rs rest front =
     omega (arith, front.short, ap length (front_whole b version rs rest front), length-append (log_of version rs) rest)
 
-pub opened : (b : List ℕ) (f : JudgedFront) (framer : Framer) → framer.last ≡ f.last → framer.len ≡ f.used
+pub opened : (b : List ℕ) (f : JudgedFront) (framer : Framer) → framer.last ≡ f.last → framer.len ≡ f.end.used
     → IsJudged b f → IsOpened b (record {
       appender = record { judge = f.judge; framer = framer };
-      used = f.used;
-      records = f.records;
-      why = f.why;
+      end = f.end;
     })
 opened b f framer last len h =
     let long = log_long h.version h.records in
@@ -88,28 +86,26 @@ opened b f framer last len h =
       count = h.count;
       stands = record {
         may = record { records = h.front.longest.begins.records; lawful = h.front.longest.begins.lawful };
-        short = omega (arith, long, log_short b h.version h.records (drop f.used b) h.front);
+        short = omega (arith, long, log_short b h.version h.records (drop f.end.used b) h.front);
         judge = h.judge;
         framer = record { last = last ∙ h.last; len = omega (arith, len, h.used, long) };
       };
     }
 
 pub opened_at : (b : List ℕ) (offset : ℕ) (f : JudgedFront) (framer : Framer) → framer.last ≡ f.last
-    → framer.len ≡ f.used → IsJudgedAt b offset f → IsOpenedAt b offset (record {
+    → framer.len ≡ f.end.used → IsJudgedAt b offset f → IsOpenedAt b offset (record {
       appender = record { judge = f.judge; framer = framer };
-      used = f.used;
-      records = f.records;
-      why = f.why;
+      end = f.end;
     })
 opened_at b offset f framer last len h =
     let xs : List Record = Checkpoint h.kept ∷ h.after in
     let begins = h.front.front.begins in
-    let within : f.used ≤ length b =
+    let within : f.end.used ≤ length b =
     omega (
       arith,
       h.used,
       ap length begins.whole,
-      length-append (frames_of (before offset b) xs) (drop f.used b),
+      length-append (frames_of (before offset b) xs) (drop f.end.used b),
       length-drop offset b,
       h.front.checkpoint.frame.whole.room,
     ) in
@@ -144,9 +140,9 @@ behind b o a xs written h takes crash appended =
     record {
       version = v;
       records = rs;
-      rest = drop o.used b;
+      rest = drop o.end.used b;
       front = h.front;
-      crash = λ part missing parts. crash b v rs (drop o.used b) xs part missing h.front may (sym bytes ∙ parts)
+      crash = λ part missing parts. crash b v rs (drop o.end.used b) xs part missing h.front may (sym bytes ∙ parts)
           (omega (
             arith,
             short,
@@ -157,7 +153,7 @@ behind b o a xs written h takes crash appended =
             length-append (log_of v rs) part,
           ));
       whole = subst (λ (z : List ℕ). IsFront z v (rs ++ xs) []) joined
-          (appended b v rs (drop o.used b) xs h.front may short);
+          (appended b v rs (drop o.end.used b) xs h.front may short);
     }
 
 -- where none is left, all were taken
@@ -174,7 +170,7 @@ held_back b o a xs index written why h takes (next, more, left, refused) =
     record {
       version = v;
       records = rs;
-      rest = drop o.used b;
+      rest = drop o.end.used b;
       next = next;
       more = more;
       front = h.front;

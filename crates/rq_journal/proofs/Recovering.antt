@@ -19,7 +19,7 @@ pub goes : (b : List ℕ) (e : Ending) (drops : Bool) (damage : Option Damage) (
 goes b e drops damage (Ok r) cut may = (
   cut.0,
   record {
-    cut = cut.1 ∙ ap (λ (x : Ending). drop x.used b) (sym cut.0);
+    cut = cut.1 ∙ ap (λ (x : Ending). drop x.end.used b) (sym cut.0);
     goes = subst (λ (x : Ending). MayGo b x drops r.damage) (sym cut.0)
         (subst (MayGo b e drops) (sym cut.2) may);
   },
@@ -35,14 +35,14 @@ from_start b e drops end bytes stands (Ok r) is =
     record {
       ending = subst (IsEnding b) same end;
       is = is.1;
-      stands = subst (λ (x : Ending). StandsFor b (take x.used b ++ x.tail.items)) same
-          (stands b (take e.used b ++ e.tail.items) bytes (e.tail.items, end.closed) end.room);
+      stands = subst (λ (x : Ending). StandsFor b (take x.end.used b ++ x.tail.items)) same
+          (stands b (take e.end.used b ++ e.tail.items) bytes (e.tail.items, end.closed) end.room);
     }
 from_start b e drops end bytes stands (Err (Log fault)) is = subst (StaysOpen b) (sym is) tt
 from_start b e drops end bytes stands (Err (Damaged x damage)) is = (
   subst (IsEnding b) (sym is.0) end,
   is.1,
-  subst (λ (z : Ending). IsDamage b z.used (why_of z.why) damage) (sym is.0) is.2,
+  subst (λ (z : Ending). IsDamage b z.end.used (why_of z.end.why) damage) (sym is.0) is.2,
 )
 
 -- where the front from a checkpoint on does
@@ -53,5 +53,5 @@ from_there b offset e drops end (Err (Log fault)) is = subst (StaysOpenAt b offs
 from_there b offset e drops end (Err (Damaged x damage)) is = (
   subst (IsEndingAt b offset) (sym is.0) end,
   is.1,
-  subst (λ (z : Ending). IsDamage b z.used (why_of z.why) damage) (sym is.0) is.2,
+  subst (λ (z : Ending). IsDamage b z.end.used (why_of z.end.why) damage) (sym is.0) is.2,
 )

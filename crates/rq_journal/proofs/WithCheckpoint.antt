@@ -40,8 +40,8 @@ framed_long b link body used within =
 pub next_fits : (b : List ℕ) (f : RedoneFront) → FrontsAreSpelt → IsRedoneFront b f → f.state.next ≤ 4294967295
 next_fits b f spelt h =
     let v = version_of f.version in
-    let all = subst (λ (z : List Record). IsFront b v z (drop f.used b)) (sym (append-nil h.records)) h.front in
-    subst (λ (z : State). z.next ≤ 4294967295) (sym h.state) (spelt b v h.records [] (drop f.used b) all).next
+    let all = subst (λ (z : List Record). IsFront b v z (drop f.end.used b)) (sym (append-nil h.records)) h.front in
+    subst (λ (z : State). z.next ≤ 4294967295) (sym h.state) (spelt b v h.records [] (drop f.end.used b) all).next
 
 -- a log whose state has no checkpoint is not marked
 pub unmarked : (b : List ℕ) (f : RedoneFront) (e : Fault) → FrontsAreSpelt → IsRedoneFront b f
@@ -50,7 +50,7 @@ unmarked b f faults.TooLong spelt h high = let low = next_fits b f spelt h in ab
 unmarked b f faults.TooLarge spelt h large = record {
   version = version_of f.version;
   records = h.records;
-  rest = drop f.used b;
+  rest = drop f.end.used b;
   front = h.front;
   large = inl (subst (λ (z : State). 268435455 < length (state_bytes z)) h.state large.1);
 }
@@ -64,12 +64,12 @@ module _ (b : List ℕ) (f : RedoneFront) (body : List ℕ) (h : IsRedoneFront b
   abbrev state : State
   state = run empty h.records
 
-  taken : take f.used b ≡ log_of version h.records
-  taken = ap (take f.used) (front_whole b version h.records (drop f.used b) h.front)
-      ∙ take_at (log_of version h.records) (drop f.used b) f.used (sym h.used)
+  taken : take f.end.used b ≡ log_of version h.records
+  taken = ap (take f.end.used) (front_whole b version h.records (drop f.end.used b) h.front)
+      ∙ take_at (log_of version h.records) (drop f.end.used b) f.end.used (sym h.used)
 
   -- the first bytes and the frame are the log with the checkpoint
-  whole : take f.used b ++ frame f.last body ≡ with_checkpoint version h.records
+  whole : take f.end.used b ++ frame f.last body ≡ with_checkpoint version h.records
   whole =
       let last = last_of (start version) h.records in
       let point : body ≡ body_of (Checkpoint (state_bytes state)) =
@@ -82,9 +82,9 @@ module _ (b : List ℕ) (f : RedoneFront) (body : List ℕ) (h : IsRedoneFront b
   small = subst (λ (z : State). length (state_bytes z) ≤ 268435455) h.state is.small
 
   is_marked : (new : List ℕ) → AreBytes b → CheckpointIsTrue → CheckpointSaysTheSame → TrueSaysTheSame
-      → new ≡ take f.used b ++ frame f.last body → length new ≤ log_limit → IsMarked b new
+      → new ≡ take f.end.used b ++ frame f.last body → length new ≤ log_limit → IsMarked b new
   is_marked new bytes truth queues same new_is short =
-      let rest = drop f.used b in
+      let rest = drop f.end.used b in
       let at = length (log_of version h.records) in
       let all : new ≡ with_checkpoint version h.records = new_is ∙ whole in
       let fits : length (with_checkpoint version h.records) ≤ log_limit =
@@ -102,17 +102,17 @@ module _ (b : List ℕ) (f : RedoneFront) (body : List ℕ) (h : IsRedoneFront b
         queues = queues b version h.records rest bytes h.front small fits;
       })
 
-  too_long : log_limit < length (take f.used b ++ frame f.last body) → IsTooLargeToMark b
+  too_long : log_limit < length (take f.end.used b ++ frame f.last body) → IsTooLargeToMark b
   too_long long = record {
     version = version;
     records = h.records;
-    rest = drop f.used b;
+    rest = drop f.end.used b;
     front = h.front;
     large = inr (subst (λ (z : List ℕ). log_limit < length z) whole long);
   }
 
   pub marks : (result : Result (Vec ℕ) Fault) → AreBytes b → CheckpointIsTrue → CheckpointSaysTheSame → TrueSaysTheSame
-      → PutsFrame (take f.used b) f.last body result → Marks b result
+      → PutsFrame (take f.end.used b) f.last body result → Marks b result
   marks (Ok v) bytes truth queues same framed = is_marked v.items bytes truth queues same framed.0 framed.1
   marks (Err faults.TooLarge) bytes truth queues same framed = too_long framed
   marks (Err faults.Resources) bytes truth queues same framed = tt

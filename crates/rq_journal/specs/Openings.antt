@@ -23,11 +23,11 @@ use Rattle.rq_journal.specs.declared.opened_logs.NotWritten.TheVariants.{Log, At
 pub record IsOpened (b : List ℕ) (o : Opened) : Type 0 where
   pub version : Version
   pub records : List Record
-  pub front : IsFront b version records (drop o.used b)
+  pub front : IsFront b version records (drop o.end.used b)
   pub ends : IsWhy version (run empty records) (last_of (start version) records)
-      (drop o.used b) (why_of o.why)
-  pub used : o.used ≡ length (log_of version records)
-  pub count : o.records ≡ length records
+      (drop o.end.used b) (why_of o.end.why)
+  pub used : o.end.used ≡ length (log_of version records)
+  pub count : o.end.records ≡ length records
   pub stands : IsAppenderAt (behind_header version) records o.appender
 
 -- that, or why b is refused
@@ -42,12 +42,12 @@ pub record IsOpenedAt (b : List ℕ) (offset : ℕ) (o : Opened) : Type 0 where
   pub base : State
   pub kept : List ℕ
   pub after : List Record
-  pub front : IsFrontAt b offset version base kept after (drop o.used b)
+  pub front : IsFrontAt b offset version base kept after (drop o.end.used b)
   pub ends : IsWhy version (run base (Checkpoint kept ∷ after))
-      (last_of (before offset b) (Checkpoint kept ∷ after)) (drop o.used b) (why_of o.why)
-  pub used : o.used
+      (last_of (before offset b) (Checkpoint kept ∷ after)) (drop o.end.used b) (why_of o.end.why)
+  pub used : o.end.used
       ≡ offset + length (frames_of (before offset b) (Checkpoint kept ∷ after))
-  pub count : o.records ≡ length (Checkpoint kept ∷ after)
+  pub count : o.end.records ≡ length (Checkpoint kept ∷ after)
   pub stands : IsAppenderAt (at_checkpoint version base b offset) (Checkpoint kept ∷ after)
       o.appender
 

@@ -82,5 +82,5 @@ pub fn marked<R: Threads + Sync>(
     rq_model::true_checkpoints_report_the_same();
     let front = RedoneFront::of(rt, alloc, &LogBytes::borrowed(&bytes), plan)?;
     let body = checkpoint_body(alloc, &front.state)?;
-    framed(bytes, front.used, &front.last, &body)
+    framed(bytes, front.end.used, &front.last, &body)
 }

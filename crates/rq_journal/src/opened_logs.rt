@@ -10,9 +10,9 @@ ghost use Rattle.rq_journal.specs.Openings.{IsOpened, IsOpenedAt, Opens, OpensCa
 use crate::appender::{Appender, NotTaken};
 use rq_catalog::Judge;
 use rq_front::{CARRIED_AT, Framer};
-use rq_judged::JudgedFront;
+use rq_judged::{Edge, JudgedFront};
 use rq_record::{Fault, Record};
-use rq_restart::{Plan, RedoneFront, Why};
+use rq_restart::{Plan, RedoneFront};
 use std::alloc::Global;
 use std::marker::Sync;
 use std::thread::Threads;
@@ -22,13 +22,9 @@ use std::thread::Threads;
 pub struct Opened {
     /// Stands there.
     pub appender: Appender,
-    /// How many of the log's bytes the front takes, and all that stands before it. What stands behind
-    /// them has to go before anything is written there.
-    pub used: usize,
-    /// How many records the front has.
-    pub records: usize,
-    /// Why it ends. Only `Whole` and `Cut` are ends of a log to which records were being appended.
-    pub why: Why,
+    /// Where the front ends, and why. What stands behind it has to go before anything is written there.
+    /// Only `Whole` and `Cut` are ends of a log to which records were being appended.
+    pub end: Edge,
 }
 
 impl Opened {
@@ -38,23 +34,12 @@ impl Opened {
         ensures whole { (b : List ℕ) → IsJudged b front → IsOpened b result }
         ensures from { (b : List ℕ) (offset : ℕ) → IsJudgedAt b offset front → IsOpenedAt b offset result }
     {
-        let JudgedFront {
-            judge,
-            last,
-            used,
-            records,
-            why,
-        } = front;
+        let JudgedFront { judge, last, end } = front;
         let appender = Appender {
             judge,
-            framer: Framer::after(last, used),
+            framer: Framer::after(last, end.used),
         };
-        Opened {
-            appender,
-            used,
-            records,
-            why,
-        }
+        Opened { appender, end }
     }
 
     /// Stands behind a front of which the state was made. Refused with `Resources` alone.
@@ -68,9 +53,7 @@ impl Opened {
         Ok(Opened::of(JudgedFront {
             judge,
             last: front.last,
-            used: front.used,
-            records: front.records,
-            why: front.why,
+            end: front.end,
         }))
     }
 }

@@ -50,10 +50,10 @@ fn cut_off(
     ending: Ending,
     damage: Option<Damage>,
 ) -> Result<MadeWhole, NotRecovered>
-    requires { ending.used ≤ length bytes.now }
+    requires { ending.end.used ≤ length bytes.now }
     ensures { CutsOff bytes.now ending damage result }
 {
-    match cut_from(alloc, bytes, ending.used) {
+    match cut_from(alloc, bytes, ending.end.used) {
         Ok(cut) => Ok(MadeWhole {
             ending,
             cut,
@@ -71,11 +71,17 @@ fn recovered_behind(
     ending: Ending,
     drops: bool,
 ) -> Result<MadeWhole, NotRecovered>
-    requires after { 32 ≤ ending.used }
-    requires within { ending.used ≤ length bytes.now }
+    requires after { 32 ≤ ending.end.used }
+    requires within { ending.end.used ≤ length bytes.now }
     ensures { RecoversFrom bytes.now ending drops result }
 {
-    match Damage::left_behind(alloc, ending.version, bytes, ending.used, ending.why) {
+    match Damage::left_behind(
+        alloc,
+        ending.version,
+        bytes,
+        ending.end.used,
+        ending.end.why,
+    ) {
         Ok(None) => cut_off(alloc, bytes, ending, None),
         Ok(Some(damage)) => {
             if drops {

@@ -24,19 +24,19 @@ headed b version rs rest h = ap (take 40) h.whole ∙ take_at (header version) h
 
 -- what is told of a judged front, beside its first record's number
 pub record IsTold (b : List ℕ) (f : JudgedFront) (x : FrontEnd × Option Rule) : Type 0 where
-  pub used : x.0.used ≡ f.used
+  pub used : x.0.used ≡ f.end.used
   pub total : x.0.total ≡ length b
-  pub why : why_of x.0.why ≡ why_of f.why
-  pub rule : is_some x.1 ≡ is_law (why_of f.why)
+  pub why : why_of x.0.why ≡ why_of f.end.why
+  pub rule : is_some x.1 ≡ is_law (why_of f.end.why)
 
 pub found : NumbersAfter → EmptyIsWellFormed → (b : List ℕ) (f : JudgedFront) → IsJudged b f
-    → (x : FrontEnd × Option Rule) → x.0.records ≡ f.records → IsTold b f x → FindsEnd b (Ok x)
+    → (x : FrontEnd × Option Rule) → x.0.next ≡ f.end.records → IsTold b f x → FindsEnd b (Ok x)
 found after well b f h x records told =
-    let rest = drop f.used b in
-    let r = restarted (run empty h.records) (length rest) (length b) (why_of f.why) in
+    let rest = drop f.end.used b in
+    let r = restarted (run empty h.records) (length rest) (length b) (why_of f.end.why) in
     let next : (run empty h.records).next ≡ 0 + length h.records =
     (after h.version empty h.records well h.front.longest.begins.lawful).next in
-    let long : length b ≡ f.used + length rest =
+    let long : length b ≡ f.end.used + length rest =
     omega (
       arith,
       ap length (front_whole b h.version h.records rest h.front),
@@ -50,14 +50,14 @@ found after well b f h x records told =
         version = h.version;
         records = h.records;
         rest = rest;
-        why = why_of f.why;
+        why = why_of f.end.why;
         front = h.front;
         ends = h.ends;
         answer = refl;
       },
       record {
         end = record {
-          records = omega (arith, records, next, h.count);
+          next = omega (arith, records, next, h.count);
           used = omega (arith, told.used, long);
           total = told.total;
           why = told.why;
@@ -67,16 +67,16 @@ found after well b f h x records told =
     )
 
 pub found_at : NumbersAfter → (b : List ℕ) (offset : ℕ) (f : JudgedFront) (h : IsJudgedAt b offset f)
-    → (x : FrontEnd × Option Rule) → x.0.records ≡ h.base.next + f.records → IsTold b f x
+    → (x : FrontEnd × Option Rule) → x.0.next ≡ h.base.next + f.end.records → IsTold b f x
     → FindsEndAt b offset (Ok x)
 found_at after b offset f h x records told =
-    let rest = drop f.used b in
+    let rest = drop f.end.used b in
     let xs : List Record = Checkpoint h.kept ∷ h.after in
     let begins = h.front.front.begins in
-    let r = restarted (run h.base xs) (length rest) (length b) (why_of f.why) in
+    let r = restarted (run h.base xs) (length rest) (length b) (why_of f.end.why) in
     let next : (run h.base xs).next ≡ h.base.next + length xs =
     (after h.version h.base xs h.front.spells.keeps begins.lawful).next in
-    let within : f.used ≤ length b =
+    let within : f.end.used ≤ length b =
     omega (
       arith,
       h.used,
@@ -94,7 +94,7 @@ found_at after b offset f h x records told =
         kept = h.kept;
         records = xs;
         rest = rest;
-        why = why_of f.why;
+        why = why_of f.end.why;
         short = h.front.short;
         header = h.front.header;
         checkpoint = h.front.checkpoint;
@@ -105,8 +105,8 @@ found_at after b offset f h x records told =
       },
       record {
         end = record {
-          records = omega (arith, records, next, h.count);
-          used = omega (arith, told.used, length-drop f.used b, within);
+          next = omega (arith, records, next, h.count);
+          used = omega (arith, told.used, length-drop f.end.used b, within);
           total = told.total;
           why = told.why;
         };

@@ -263,8 +263,8 @@ window_starts version ends f is place total none going judge =
 
 -- the front that is answered
 pub stopped_front : (o : Origin) (x : List ℕ) (f : WindowPass) (why : declared.Why) (front : JudgedFront)
-    → front.judge ≡ f.judge → front.last ≡ before f.place f.window.items → front.used ≡ f.used
-    → front.records ≡ f.records → front.why ≡ why → IsStopped o x f (why_of why) → IsStoppedFront o x front
+    → front.judge ≡ f.judge → front.last ≡ before f.place f.window.items → front.end.used ≡ f.used
+    → front.end.records ≡ f.records → front.end.why ≡ why → IsStopped o x f (why_of why) → IsStoppedFront o x front
 stopped_front o x f why front judge last used records is (rs, rest, at, ends, counted) = record {
   records = rs;
   rest = rest;
@@ -290,9 +290,9 @@ judged_log version stops b x front is h =
     ∙ sym (append_assoc (header version) (frames_of p rs) rest) in
     let long : length log ≡ 40 + length (frames_of p rs) =
     omega (arith, length-append (header version) (frames_of p rs), header_long version) in
-    let used : front.used ≡ length log =
+    let used : front.end.used ≡ length log =
     omega (arith, long, h.used, ap length h.begins.whole, length-append (frames_of p rs) rest) in
-    let left : rest ≡ drop front.used b = sym (ap (drop front.used) whole ∙ drop_at log rest front.used (sym used)) in
+    let left : rest ≡ drop front.end.used b = sym (ap (drop front.end.used) whole ∙ drop_at log rest front.end.used (sym used)) in
     record {
       version = version;
       records = rs;
@@ -301,9 +301,9 @@ judged_log version stops b x front is h =
         bytes = x;
         whole = is;
         longest = subst (IsLongest version empty p x rs) left
-            (stops version empty p x rest rs (why_of front.why) h.begins h.ends);
+            (stops version empty p x rest rs (why_of front.end.why) h.begins h.ends);
       };
-      ends = subst (λ (z : List ℕ). IsWhy version (run empty rs) (last_of p rs) z (why_of front.why)) left h.ends;
+      ends = subst (λ (z : List ℕ). IsWhy version (run empty rs) (last_of p rs) z (why_of front.end.why)) left h.ends;
       used = used;
       count = h.count;
       last = h.last;

@@ -44,7 +44,7 @@ pub record IsFrontFrom (version : Version) (s : State) (b : List ℕ)
 
 -- the numbers are those of the restart
 pub record IsEndOf (r : Restarted) (e : FrontEnd) : Type 0 where
-  pub records : e.records ≡ r.records
+  pub next : e.next ≡ r.records
   pub used : e.used ≡ r.used
   pub total : e.total ≡ r.total
   pub why : why_of e.why ≡ r.why

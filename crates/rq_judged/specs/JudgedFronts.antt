@@ -17,11 +17,11 @@ use Rattle.rq_judged.specs.declared.judged.JudgedFront.{JudgedFront}
 pub record IsJudged (b : List ℕ) (f : JudgedFront) : Type 0 where
   pub version : Version
   pub records : List Record
-  pub front : IsFront b version records (drop f.used b)
+  pub front : IsFront b version records (drop f.end.used b)
   pub ends : IsWhy version (run empty records) (last_of (start version) records)
-      (drop f.used b) (why_of f.why)
-  pub used : f.used ≡ length (log_of version records)
-  pub count : f.records ≡ length records
+      (drop f.end.used b) (why_of f.end.why)
+  pub used : f.end.used ≡ length (log_of version records)
+  pub count : f.end.records ≡ length records
   pub last : f.last ≡ last_of (start version) records
   pub judge : StandsIn version f.judge (run empty records)
 
@@ -37,12 +37,12 @@ pub record IsJudgedAt (b : List ℕ) (offset : ℕ) (f : JudgedFront) : Type 0 w
   pub base : State
   pub kept : List ℕ
   pub after : List Record
-  pub front : IsFrontAt b offset version base kept after (drop f.used b)
+  pub front : IsFrontAt b offset version base kept after (drop f.end.used b)
   pub ends : IsWhy version (run base (Checkpoint kept ∷ after))
-      (last_of (before offset b) (Checkpoint kept ∷ after)) (drop f.used b) (why_of f.why)
-  pub used : f.used
+      (last_of (before offset b) (Checkpoint kept ∷ after)) (drop f.end.used b) (why_of f.end.why)
+  pub used : f.end.used
       ≡ offset + length (frames_of (before offset b) (Checkpoint kept ∷ after))
-  pub count : f.records ≡ length (Checkpoint kept ∷ after)
+  pub count : f.end.records ≡ length (Checkpoint kept ∷ after)
   pub last : f.last ≡ last_of (before offset b) (Checkpoint kept ∷ after)
   pub judge : StandsIn version f.judge (run base (Checkpoint kept ∷ after))
 
@@ -55,4 +55,4 @@ JudgesFrontAt b offset (Err e) = RefusedAt b offset e
 pub record IsJudgedBehind (b : List ℕ) (offset : ℕ) (base : State) (f : JudgedFront) : Type 0 where
   pub is : IsJudgedAt b offset f
   pub begins : is.base ≡ base
-  pub few : f.records ≤ length b
+  pub few : f.end.records ≤ length b

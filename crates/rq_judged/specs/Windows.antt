@@ -106,9 +106,9 @@ pub record IsStoppedFront (o : Origin) (x : List ℕ) (f : JudgedFront) : Type 0
   pub records : List Record
   pub rest : List ℕ
   pub begins : Begins o.version o.base o.link x records rest
-  pub ends : IsWhy o.version (run o.base records) (last_of o.link records) rest (why_of f.why)
-  pub used : f.used + length rest ≡ o.ahead + length x
+  pub ends : IsWhy o.version (run o.base records) (last_of o.link records) rest (why_of f.end.why)
+  pub used : f.end.used + length rest ≡ o.ahead + length x
   pub short : o.ahead + length x ≤ log_limit
-  pub count : f.records ≡ length records
+  pub count : f.end.records ≡ length records
   pub last : f.last ≡ last_of o.link records
   pub judge : StandsIn o.version f.judge (run o.base records)

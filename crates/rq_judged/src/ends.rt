@@ -5,6 +5,7 @@ ghost use Rattle.rq_model.specs.Spelling.{Spells};
 ghost use Rattle.rq_model.specs.Machine.{is_lawful};
 ghost use Rattle.rq_model.specs.Fronts.{IsWhy};
 ghost use Rattle.rq_model.specs.Records as records;
+ghost use Rattle.rq_model.specs.Reports.{why_text};
 ghost use Rattle.rq_model.specs.States as model;
 ghost use Rattle.rq_record.specs.declared.fault.Fault.TheVariants.{Resources};
 ghost use Rattle.rq_catalog.specs.Judges.{StandsIn};
@@ -42,14 +43,42 @@ pub enum Why {
 impl Why {
     /// The most bytes that a crash leaves behind a front if they are no beginning of a frame.
     pub const TORN_LEN: usize = 1_048_576;
+
+    /// The word for it, as the first line of a report has it.
+    pub fn word(self) -> &'static str
+        ensures { result.now ≡ why_text (why_of self) }
+    {
+        match self {
+            Why::Whole => "whole",
+            Why::Cut => "cut",
+            Why::Length => "length",
+            Why::Chain => "chain",
+            Why::Form => "form",
+            Why::Law => "law",
+        }
+    }
+}
+
+/// Where the front of a log ends, and why, as those find it who pass over its records. The front
+/// begins behind the header of the log, or at a checkpoint.
+#[derive(Clone, Copy, PartialEq, Eq, Debug)]
+pub struct Edge {
+    /// How many of the log's bytes the front takes, and all that stands before it.
+    pub used: usize,
+    /// How many records the front itself has: a checkpoint that it begins with is the first of them,
+    /// and what stands before that is not counted.
+    pub records: usize,
+    /// Why the front ends.
+    pub why: Why,
 }
 
 /// Where the front of a log ends, and why: numbers of its restart.
 #[derive(Clone, Copy, PartialEq, Eq, Debug)]
 pub struct FrontEnd {
-    /// The next record number at the end of the front.
-    pub records: u64,
-    /// How many of the log's bytes the front and its header take.
+    /// The next record number at the end of the front: how many records there are up to there, with
+    /// those that are numbered before a checkpoint that the front begins with.
+    pub next: u64,
+    /// How many of the log's bytes the front takes, and all that stands before it.
     pub used: u64,
     /// How many bytes the log has.
     pub total: u64,
@@ -76,13 +105,14 @@ fn rule_of(alloc: Global, judge: &Judge, body: &[u8]) -> Result<Rule, Fault>
 // The rule that ends a front, if one does.
 fn rule_behind(alloc: Global, front: &JudgedFront, bytes: &[u8]) -> Result<Option<Rule>, Fault>
     requires { (version : records.Version) × (s : model.State) × StandsIn version front.now.judge s
-        × (p : List ℕ) × IsWhy version s p (drop front.now.used bytes.now) (why_of front.now.why) }
-    ensures rule { IfOk result (λ rule. is_some rule ≡ is_law (why_of front.now.why)) }
+        × (p : List ℕ) × IsWhy version s p (drop front.now.end.used bytes.now)
+        (why_of front.now.end.why) }
+    ensures rule { IfOk result (λ rule. is_some rule ≡ is_law (why_of front.now.end.why)) }
     ensures refused { IfErr result (λ e. e ≡ Resources) }
 {
-    match front.why {
+    match front.end.why {
         Why::Law => {
-            let rule = rule_of(alloc, &front.judge, body_at(bytes, front.used))?;
+            let rule = rule_of(alloc, &front.judge, body_at(bytes, front.end.used))?;
             Ok(Some(rule))
         }
         Why::Whole | Why::Cut | Why::Length | Why::Chain | Why::Form => Ok(None),
@@ -90,17 +120,17 @@ fn rule_behind(alloc: Global, front: &JudgedFront, bytes: &[u8]) -> Result<Optio
 }
 
 // The end of a front that was judged, behind which the next record has this number.
-fn numbers_of(front: &JudgedFront, records: u64, bytes: &[u8]) -> FrontEnd
-    ensures records { result.records ≡ records }
-    ensures used { result.used ≡ front.now.used }
+fn numbers_of(front: &JudgedFront, next: u64, bytes: &[u8]) -> FrontEnd
+    ensures next { result.next ≡ next }
+    ensures used { result.used ≡ front.now.end.used }
     ensures total { result.total ≡ length bytes.now }
-    ensures why { why_of result.why ≡ why_of front.now.why }
+    ensures why { why_of result.why ≡ why_of front.now.end.why }
 {
     FrontEnd {
-        records,
-        used: front.used as u64,
+        next,
+        used: front.end.used as u64,
         total: bytes.len() as u64,
-        why: front.why,
+        why: front.end.why,
     }
 }
 
@@ -125,7 +155,7 @@ impl FrontEnd {
         rq_model::runs_are_well_formed();
         let front = JudgedFront::of(rt, alloc, bytes, plan)?;
         let rule = rule_behind(alloc, &front, bytes)?;
-        Ok((numbers_of(&front, front.records as u64, bytes), rule))
+        Ok((numbers_of(&front, front.end.records as u64, bytes), rule))
     }
 
     /// The same of the front from the checkpoint at an offset on, as the restart from there says it: it
@@ -145,7 +175,7 @@ impl FrontEnd {
         let begun = Begun::begun_at(rt, alloc, bytes, offset, plan)?;
         let front = judged_behind(alloc, &begun, bytes)?;
         let rule = rule_behind(alloc, &front, bytes)?;
-        let records = begun.state.next() + front.records as u64;
-        Ok((numbers_of(&front, records, bytes), rule))
+        let number = begun.state.next() + front.end.records as u64;
+        Ok((numbers_of(&front, number, bytes), rule))
     }
 }

@@ -6,7 +6,7 @@ ghost use Rattle.rq_judged.specs.Checkpoints.{IsBegun};
 ghost use Rattle.rq_judged.specs.JudgedFronts.{IsJudgedBehind, JudgesFront, JudgesFrontAt};
 
 use crate::checkpoint::Begun;
-use crate::ends::Why;
+use crate::ends::Edge;
 use crate::frames::before;
 use crate::front::end_of;
 use crate::front_pass::{PassSoFar, grain_of, judge_each};
@@ -25,12 +25,8 @@ pub struct JudgedFront {
     pub judge: Judge,
     /// The front's last 32 bytes.
     pub last: [u8; 32],
-    /// How many of the log's bytes the front takes, and all that stands before it.
-    pub used: usize,
-    /// How many records it has.
-    pub records: usize,
-    /// Why it ends.
-    pub why: Why,
+    /// Where the front ends, and why.
+    pub end: Edge,
 }
 
 impl JudgedFront {
@@ -63,9 +59,11 @@ impl JudgedFront {
         Ok(JudgedFront {
             judge,
             last: before(bytes, offset),
-            used: offset,
-            records,
-            why,
+            end: Edge {
+                used: offset,
+                records,
+                why,
+            },
         })
     }
 
@@ -108,8 +106,10 @@ pub(crate) fn judged_behind(
     Ok(JudgedFront {
         judge,
         last: before(bytes, end),
-        used: end,
-        records: reach.lawful,
-        why,
+        end: Edge {
+            used: end,
+            records: reach.lawful,
+            why,
+        },
     })
 }

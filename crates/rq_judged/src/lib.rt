@@ -14,7 +14,7 @@ mod judged;
 mod window;
 
 pub use checkpoint::Begun;
-pub use ends::{FrontEnd, Why};
+pub use ends::{Edge, FrontEnd, Why};
 pub use frames::{before, body_at};
 pub use front::Front;
 pub use front_pass::grain_of;

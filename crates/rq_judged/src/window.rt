@@ -12,7 +12,7 @@ ghost use Rattle.rq_judged.specs.Windows.{AreFramed, IsFed, IsFedSome, IsStopped
 ghost use Rattle.rq_judged.specs.Windows.{IsStoppedFront, KeepsFed, Origin, RefusesPiece, HasEnd};
 ghost use Rattle.rq_judged.specs.Windows.{log_origin};
 
-use crate::ends::Why;
+use crate::ends::{Edge, Why};
 use crate::frames::before;
 use crate::front_pass::{Verdict, judge_one, stays, why_of};
 use crate::judged::JudgedFront;
@@ -210,8 +210,10 @@ pub(crate) fn stopped<R: Threads + Sync>(
     Ok(JudgedFront {
         judge: pass.judge,
         last,
-        used: pass.used,
-        records: pass.records,
-        why,
+        end: Edge {
+            used: pass.used,
+            records: pass.records,
+            why,
+        },
     })
 }

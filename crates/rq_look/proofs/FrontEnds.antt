@@ -6,7 +6,7 @@ use Rattle.rq_model.specs.Fronts.{IsRestart, Restarted}
 use Rattle.rq_model.proofs.Longest.{front_whole, used_long}
 use Rattle.rq_model.proofs.Restarts.{header_long}
 use Rattle.rq_judged.specs.FrontEnds.{IsEndOf}
-use Rattle.rq_found.specs.Ends.{IsRestartFrom, front_end_of}
+use Rattle.rq_found.specs.Ends.{IsRestartFrom}
 use Rattle.rq_found.specs.declared.ends.End.{End}
 use Rattle.rq_look.specs.Findings.{EndsWithin}
 
@@ -40,6 +40,6 @@ used_within (Some at) b r is =
 
 -- so does the front whose end is told
 pub ends_within : (at : Option ℕ) (b : List ℕ) (r : Restarted) (end : End) → IsRestartFrom at b r
-    → IsEndOf r (front_end_of end) → EndsWithin b end
+    → IsEndOf r end.front → EndsWithin b end
 ends_within at b r end is e =
     let fits = used_within at b r is in (omega (arith, fits.0, e.used), omega (arith, fits.1, e.used))

@@ -19,7 +19,7 @@ use Rattle.rq_found.specs.Diagnoses.{diagnosis_of}
 
 -- a front ends within b, behind 32 bytes at least
 abbrev pub EndsWithin : List ℕ → End → Type 0
-EndsWithin b end = (32 ≤ end.used) × (end.used ≤ length b)
+EndsWithin b end = (32 ≤ end.front.used) × (end.front.used ≤ length b)
 
 -- the right frames of b behind the first `used` bytes, how many of the bytes that were looked at
 -- belong to none, and where the search gave up, if it did

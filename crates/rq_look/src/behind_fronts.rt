@@ -8,7 +8,7 @@ ghost use Rattle.rq_look.specs.Findings as spec;
 ghost use Rattle.rq_look.specs.Findings.{count_text, frames_text, given_up_text};
 
 use rq_behind::Found;
-use rq_found::{End, Put, is_whole};
+use rq_found::{End, Put};
 use rq_front::{Span, version};
 use rq_record::Fault;
 use std::alloc::Global;
@@ -17,14 +17,14 @@ use std::fmt::Write;
 /// What stands behind the front of a log of which the end is known. Refuses if memory is refused.
 pub fn standing_behind(alloc: Global, bytes: &[u8], end: &End) -> Result<Found, Fault>
     requires { EndsWithin bytes.now end.now }
-    ensures found { IfOk result (IsBehind bytes.now end.now.used) }
+    ensures found { IfOk result (IsBehind bytes.now end.now.front.used) }
     ensures refused { IfErr result (λ e. e ≡ Resources) }
 {
     // A log has a header, so memory alone is refused.
     let Some(version) = version(bytes) else {
         return Err(Fault::Resources);
     };
-    Ok(Found::of(alloc, version, bytes, end.used as usize)?)
+    Ok(Found::of(alloc, version, bytes, end.front.used as usize)?)
 }
 
 /// Whether a frame behind a front may be right in itself: one was found, or the search gave up.
@@ -88,10 +88,10 @@ pub fn put_behind(text: &mut String, found: &Found, total: u64) -> Put
 /// Puts the same behind the line of a front's end, unless nothing follows the front.
 pub(crate) fn put_rest(text: &mut String, end: &End, found: &Found) -> Put
     ensures { OnOk result (string_bytes text.new ≡ string_bytes text.old
-        ++ behind_finding (why_of end.now.why) found.now end.now.total) }
+        ++ behind_finding (why_of end.now.front.why) found.now end.now.front.total) }
 {
-    if is_whole(end.why) {
+    if end.is_whole() {
         return Ok(());
     }
-    put_behind(text, found, end.total)
+    put_behind(text, found, end.front.total)
 }

@@ -8,7 +8,7 @@ ghost use Rattle.rq_look.specs.Lines.{bytes_text, character_text, cut_text, firs
 ghost use Rattle.rq_look.specs.Lines.{is_printable, is_seen, quoted_text};
 
 use rq_found::TextPiece::{Number, Word};
-use rq_found::{Put, TextPiece, is_hidden, put_digits};
+use rq_found::{Put, Seen, TextPiece};
 use std::alloc::{AllocError, Global};
 use std::str::from_utf8;
 
@@ -24,7 +24,7 @@ pub(crate) fn is_plain(byte: u8) -> bool {
 fn is_shown(c: char) -> bool
     ensures { result ≡ is_seen c }
 {
-    matches!(c, '\n' | '\r' | '\t') || !is_hidden(c)
+    matches!(c, '\n' | '\r' | '\t') || !Seen::is_hidden(c)
 }
 
 fn is_all_shown(text: &str) -> bool
@@ -98,7 +98,7 @@ fn put_first(alloc: Global, text: &mut String, bytes: &[u8], most: usize) -> Put
         Some(word) => put_quoted(text, word, most)?,
         None => {
             text.push_str("hex ")?;
-            put_digits(alloc, text, bytes, most)?
+            TextPiece::put_digits(alloc, text, bytes, most)?
         }
     };
     put_cut(text, shown, bytes.len())

@@ -12,7 +12,7 @@ ghost use Rattle.rq_look.specs.Findings.{end_finding, checkpoint_finding, may_ha
 
 use crate::behind_fronts::{may_have_right, put_rest, standing_behind};
 use rq_behind::Found;
-use rq_found::{Diagnosis, End, Put, ShownLog, Trouble, is_whole};
+use rq_found::{Diagnosis, End, Put, ShownLog, Trouble};
 use rq_record::Fault;
 use rq_restart::{audit, audit_at};
 use std::alloc::{AllocError, Global};
@@ -39,9 +39,9 @@ fn are_true(found: &[(u64, bool)]) -> bool
 }
 
 fn is_fine(end: &End, checkpoints: &[(u64, bool)]) -> bool
-    ensures { result ≡ all_fine (why_of end.now.why) checkpoints.now }
+    ensures { result ≡ all_fine (why_of end.now.front.why) checkpoints.now }
 {
-    is_whole(end.why) && are_true(checkpoints)
+    end.is_whole() && are_true(checkpoints)
 }
 
 fn put_checkpoint(text: &mut String, offset: u64, truth: bool) -> Put
@@ -61,12 +61,12 @@ fn put_checkpoint(text: &mut String, offset: u64, truth: bool) -> Put
 // follows it.
 fn front_text(alloc: Global, at: Option<u64>, end: &End) -> Result<String, AllocError>
     ensures { IfOk result (λ text. string_bytes text ≡ beginning_text at
-        ++ end_finding end.now.records end.now.used end.now.total (why_of end.now.why)
+        ++ end_finding end.now.front.next end.now.front.used end.now.front.total (why_of end.now.front.why)
         (string_bytes end.now.reason)) }
 {
     let mut text = String::new(alloc);
     End::put_beginning(&mut text, at)?;
-    if !is_whole(end.why) {
+    if !end.is_whole() {
         End::put_end(&mut text, end)?;
     }
     Ok(text)
@@ -82,12 +82,12 @@ fn findings_of(
     checkpoints: &[(u64, bool)],
 ) -> Result<Findings, AllocError>
     ensures fine { IfOk result
-        (λ found. found.fine ≡ all_fine (why_of end.now.why) checkpoints.now) }
+        (λ found. found.fine ≡ all_fine (why_of end.now.front.why) checkpoints.now) }
     ensures text { IfOk result (λ found. string_bytes found.text
-        ≡ findings_text at end.now.records end.now.used end.now.total (why_of end.now.why)
+        ≡ findings_text at end.now.front.next end.now.front.used end.now.front.total (why_of end.now.front.why)
         (string_bytes end.now.reason) behind.now checkpoints.now) }
-    ensures diagnosis { IfOk result (λ found. found.diagnosis ≡ diagnoses.diagnosis_of (why_of end.now.why)
-        (end.now.total - end.now.used) (may_have_right behind.now)
+    ensures diagnosis { IfOk result (λ found. found.diagnosis ≡ diagnoses.diagnosis_of (why_of end.now.front.why)
+        (end.now.front.total - end.now.front.used) (may_have_right behind.now)
         (list_all (λ x. x.1) checkpoints.now)) }
 {
     let mut text = front_text(alloc, at, end)?;
@@ -102,26 +102,26 @@ fn findings_of(
     })
 }
 
-/// Which checkpoints of a log are true, by their offsets, from the one on that it begins with, if it was
-/// carried on: that is taken at its word.
-///
-/// Refuses what a restart refuses, from there if the log begins so.
-pub fn audited_from<R: Threads + Sync>(
-    rt: &R,
-    alloc: Global,
-    log: &ShownLog<'_>,
-) -> Result<Vec<(u64, bool)>, Fault>
-    ensures found { IfOk result
-        (λ v. IsAuditFrom log.now.at log.now.bytes.now (map audited_of v.items)) }
-    ensures refused { IfErr result (RefusedFrom log.now.at log.now.bytes.now) }
-{
-    match log.at {
-        None => audit(rt, alloc, log.bytes, log.plan),
-        Some(at) => audit_at(rt, alloc, log.bytes, at, log.plan),
-    }
-}
-
 impl Findings {
+    /// Which checkpoints of a log are true, by their offsets, from the one on that it begins with, if it was
+    /// carried on: that is taken at its word.
+    ///
+    /// Refuses what a restart refuses, from there if the log begins so.
+    pub fn audited_from<R: Threads + Sync>(
+        rt: &R,
+        alloc: Global,
+        log: &ShownLog<'_>,
+    ) -> Result<Vec<(u64, bool)>, Fault>
+        ensures found { IfOk result
+            (λ v. IsAuditFrom log.now.at log.now.bytes.now (map audited_of v.items)) }
+        ensures refused { IfErr result (RefusedFrom log.now.at log.now.bytes.now) }
+    {
+        match log.at {
+            None => audit(rt, alloc, log.bytes, log.plan),
+            Some(at) => audit_at(rt, alloc, log.bytes, at, log.plan),
+        }
+    }
+
     /// Whether a log is whole and each checkpoint of its front true, and what is wrong with it. A
     /// checkpoint that the log begins with is taken at its word, and the text says where it stands.
     ///
@@ -140,7 +140,7 @@ impl Findings {
     {
         let end = End::of(rt, alloc, log)?;
         let behind = standing_behind(alloc, log.bytes, &end)?;
-        let checkpoints = audited_from(rt, alloc, log)?;
+        let checkpoints = Findings::audited_from(rt, alloc, log)?;
         let found = findings_of(alloc, log.at, &end, &behind, &checkpoints)?;
         Ok(found)
     }

@@ -5,7 +5,7 @@ ghost use Rattle.rq_model.specs.Fronts.{Restarted};
 ghost use Rattle.rq_judged.specs.FrontEnds.{IsEndOf};
 ghost use Rattle.rq_front.specs.Chains.{IsLog};
 ghost use Rattle.rq_record.specs.declared.fault.Fault.TheVariants.{Resources};
-ghost use Rattle.rq_found.specs.Ends.{IsRestartFrom, front_end_of};
+ghost use Rattle.rq_found.specs.Ends.{IsRestartFrom};
 ghost use Rattle.rq_found.specs.Refusals.{CountsFaults, IsBroken, StaysUnshown};
 ghost use Rattle.rq_look.specs.Findings.{EndsWithin};
 ghost use Rattle.rq_look.specs.Looks.{AppendsSome, EndsDump, IsClosing};
@@ -17,9 +17,7 @@ use crate::sheet::{relieve, write_out};
 use crate::shown_records::{ShownFrame, ShownRecord};
 use crate::wanted::Wanted;
 use rq_behind::Found;
-use rq_found::{
-    End, Output, PlacedFrames, Put, ShownLog, Trouble, form_reason, queues_behind, queues_of,
-};
+use rq_found::{End, Output, PlacedFrames, Put, ShownLog, Trouble, form_reason, queues_of};
 use rq_front::Span;
 use rq_record::{Fault, KeptRecord};
 use rq_state::State;
@@ -107,7 +105,7 @@ fn put_entry<W: Output>(
 /// Puts where the front ends in the form that is wanted.
 pub(crate) fn put_closing(alloc: Global, text: &mut String, end: &End, wanted: &Wanted<'_>) -> Put
     ensures { OnOk result ((at : Option ℕ) (b : List ℕ) (r : Restarted)
-        → IsRestartFrom at b r → IsEndOf r (front_end_of end.now)
+        → IsRestartFrom at b r → IsEndOf r end.now.front
         → (line : List ℕ) × IsClosing at b wanted.now.json line
         × (string_bytes text.new ≡ string_bytes text.old ++ line)) }
 {
@@ -142,7 +140,7 @@ fn put_records<W: Output>(
         if put_entry(alloc, wanted, &frame, text, output)? {
             left -= 1;
         }
-        queues = queues_behind(queues, placed.body);
+        queues = placed.queues_behind(queues);
     }
     Ok(left)
 }
@@ -210,7 +208,7 @@ fn put_wanted_behind<W: Output>(
     }
     let found = standing_behind(alloc, bytes, end)?;
     put_frames(alloc, bytes, &found.spans, wanted, most, text, output)?;
-    put_counted(alloc, text, &found, end.total, wanted)?;
+    put_counted(alloc, text, &found, end.front.total, wanted)?;
     Ok(())
 }
 
@@ -234,14 +232,14 @@ fn put_lines<W: Output>(
     output: &mut W,
 ) -> Result<(), Trouble>
     requires end { (r : Restarted) × IsRestartFrom log.now.at log.now.bytes.now r
-        × IsEndOf r (front_end_of end.now) }
+        × IsEndOf r end.now.front }
     requires faults { W.faults output.old < 18446744073709551615 }
     ensures last { OnOk result (EndsDump log.now.at log.now.bytes.now wanted.now.json
         (W.contents output.old) (W.contents output.new)) }
     ensures refused { IfErr result IsBroken }
     ensures faults { CountsFaults (W.faults output.old) (W.faults output.new) result }
 {
-    let frames = PlacedFrames::front_frames(log.bytes, first, log.at, end.used);
+    let frames = PlacedFrames::front_frames(log.bytes, first, log.at, end.front.used);
     let queues = queues_of(first.definitions());
     let left = put_records(alloc, frames, queues, wanted, text, output)?;
     put_wanted_behind(alloc, log.bytes, end, wanted, left, text, output)?;

@@ -46,9 +46,9 @@ fn finding_text(
     found: &Found,
 ) -> Result<String, AllocError>
     ensures { IfOk result (λ text. string_bytes text ≡ beginning_text log.now.at
-        ++ end_text end.now.records end.now.used end.now.total (why_of end.now.why)
+        ++ end_text end.now.front.next end.now.front.used end.now.front.total (why_of end.now.front.why)
         (string_bytes end.now.reason)
-        ++ behind_finding (why_of end.now.why) found.now end.now.total) }
+        ++ behind_finding (why_of end.now.front.why) found.now end.now.front.total) }
 {
     let mut text = String::new(alloc);
     End::put_beginning(&mut text, log.at)?;
@@ -100,7 +100,7 @@ pub fn dump_frontless<W: Output>(
         &mut text,
         output,
     )?;
-    put_counted(alloc, &mut text, &found, end.total, wanted)?;
+    put_counted(alloc, &mut text, &found, end.front.total, wanted)?;
     put_origin(&mut text, &end, wanted)?;
     put_closing(alloc, &mut text, &end, wanted)?;
     write_out(&mut text, output)?;
@@ -120,7 +120,7 @@ pub fn salvage_frontless<W: Output>(
     ensures faults { CountsFaults (W.faults output.old) (W.faults output.new) result }
 {
     let (end, found) = standing(alloc, log)?;
-    let from = end.used as usize;
+    let from = end.front.used as usize;
     let mut words = words_of(alloc, &end, &found)?;
     write_out(&mut words, output)?;
     put_spans(alloc, log.bytes, &found, from, &mut words, output)?;

@@ -5,7 +5,7 @@ ghost use Rattle.std.specs.Prelude.{◌≡◌, ◌++◌, ℕ, List, codes, OnOk,
 use crate::bytes::is_plain;
 use crate::shown_records::{ShownRecord, by_of, registrant_of, unit_number};
 use rq_behind::Found;
-use rq_found::{End, FrontShown, Put, is_hidden, kind_of};
+use rq_found::{End, FrontShown, Put, Seen, kind_of};
 use rq_record::{KeptRecord, QueueNo};
 use serde::Serialize;
 use std::alloc::{AllocError, Global};
@@ -216,7 +216,7 @@ pub(crate) fn put_closing_object(alloc: Global, text: &mut String, end: &End) ->
 
 // Puts a character of JSON; one that is hidden by its numbers.
 fn put_spelled(text: &mut String, c: char) -> Put {
-    if c == '\n' || !is_hidden(c) {
+    if c == '\n' || !Seen::is_hidden(c) {
         return text.push(c);
     }
     let mut units = [0; 2];

@@ -20,7 +20,7 @@ mod stories;
 mod wanted;
 
 pub use behind_fronts::{may_have_right, put_behind, standing_behind};
-pub use checks::{Findings, audited_from};
+pub use checks::Findings;
 pub use dumps::dump;
 pub use frontless::{dump_frontless, salvage_frontless};
 pub use log_script::script;

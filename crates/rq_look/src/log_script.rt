@@ -17,7 +17,7 @@ ghost use Rattle.rq_front.specs.Chains.{IsLog};
 ghost use Rattle.rq_judged.specs.FrontEnds.{IsEndOf};
 ghost use Rattle.rq_writer.specs.Script.{record_text, who_name, who_tag, IsNamed, IsTellable};
 ghost use Rattle.rq_found.specs.Ends as ends;
-ghost use Rattle.rq_found.specs.Ends.{IsRestartFrom, front_end_of};
+ghost use Rattle.rq_found.specs.Ends.{IsRestartFrom};
 ghost use Rattle.rq_found.specs.Records.{SpelledIn};
 ghost use Rattle.rq_found.specs.Refusals.{CountsFaults};
 ghost use Rattle.rq_look.specs.Looks.{BreaksOff, LacksScript};
@@ -26,9 +26,7 @@ ghost use Rattle.rq_look.specs.Scripts.{script_line};
 
 use crate::sheet::{relieve, write_out};
 use crate::shown_records::by_of;
-use rq_found::{
-    End, Numbered, Output, Placed, PlacedFrames, Put, ShownLog, Trouble, is_whole, put_digits,
-};
+use rq_found::{End, Numbered, Output, Placed, PlacedFrames, Put, ShownLog, TextPiece, Trouble};
 use rq_record::{KeptBy, KeptName, KeptRecord, QueueNo, UnitNo};
 use rq_report::put_error;
 use rq_state::State;
@@ -44,7 +42,7 @@ fn put_hex(alloc: Global, text: &mut String, bytes: &[u8]) -> Put
     if bytes.is_empty() {
         return text.push_str("-");
     }
-    put_digits(alloc, text, bytes, bytes.len())?;
+    TextPiece::put_digits(alloc, text, bytes, bytes.len())?;
     Ok(())
 }
 
@@ -254,7 +252,7 @@ pub(crate) fn put_front_script<R: Threads + Sync, W: Output>(
 ) -> Result<End, Trouble>
     requires faults { W.faults output.old < 18446744073709551615 }
     ensures end { IfOk result (λ end. (r : Restarted) × IsRestartFrom log.now.at log.now.bytes.now r
-        × IsEndOf r (front_end_of end)) }
+        × IsEndOf r end.front) }
     ensures log { OnOk result (IsLog log.now.bytes.now) }
     ensures script { OnOk result (PutsScript log.now.at log.now.bytes.now
         (W.contents output.old) (W.contents output.new)) }
@@ -264,7 +262,7 @@ pub(crate) fn put_front_script<R: Threads + Sync, W: Output>(
 {
     let end = End::of(rt, alloc, log)?;
     let first = ShownLog::first_state(alloc, log.bytes, log.at)?;
-    put_records(alloc, log, &first, end.used, output)?;
+    put_records(alloc, log, &first, end.front.used, output)?;
     Ok(end)
 }
 
@@ -289,5 +287,5 @@ pub fn script<R: Threads + Sync, W: Output>(
     ensures faults { CountsFaults (W.faults output.old) (W.faults output.new) result }
 {
     let end = put_front_script(rt, alloc, log, output)?;
-    Ok(is_whole(end.why))
+    Ok(end.is_whole())
 }

@@ -15,7 +15,7 @@ use crate::log_script::{is_untold, put_front_script, put_line};
 use crate::sheet::{relieve, write_out};
 use crate::shown_records::ShownFrame;
 use rq_behind::Found;
-use rq_found::{End, Output, Put, ShownLog, Trouble, form_reason, is_whole};
+use rq_found::{End, Output, Put, ShownLog, Trouble, form_reason};
 use rq_record::Fault;
 use std::alloc::{AllocError, Global};
 use std::fmt::Write;
@@ -114,7 +114,7 @@ fn advice_of(alloc: Global, found: &Found, total: u64) -> Result<String, AllocEr
 pub(crate) fn words_of(alloc: Global, end: &End, found: &Found) -> Result<String, AllocError>
     ensures { IfOk result (λ text. IsChoice false (string_bytes text)) }
 {
-    let advice = advice_of(alloc, found, end.total)?;
+    let advice = advice_of(alloc, found, end.front.total)?;
     let mut text = String::from_str(alloc, "# ")?;
     End::put_end(&mut text, end)?;
     text.push_str(advice.as_str())?;
@@ -130,18 +130,18 @@ fn put_rest<W: Output>(
 ) -> Result<(), Trouble>
     requires within { EndsWithin bytes.now end.now }
     requires faults { W.faults output.old < 18446744073709551615 }
-    ensures choice { OnOk result ((put : List ℕ) × IsChoice (ends.is_whole (why_of end.now.why)) put
+    ensures choice { OnOk result ((put : List ℕ) × IsChoice (ends.is_whole (why_of end.now.front.why)) put
         × Appends (W.contents output.old) (W.contents output.new) put) }
     ensures refused { IfErr result IsBroken }
     ensures faults { CountsFaults (W.faults output.old) (W.faults output.new) result }
 {
-    if is_whole(end.why) {
+    if end.is_whole() {
         return Ok(());
     }
     let found = standing_behind(alloc, bytes, end)?;
     let mut words = words_of(alloc, end, &found)?;
     write_out(&mut words, output)?;
-    let from = end.used as usize;
+    let from = end.front.used as usize;
     put_spans(alloc, bytes, &found, from, &mut words, output)?;
     Ok(())
 }

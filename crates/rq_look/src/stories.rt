@@ -195,7 +195,7 @@ fn tell<W: Output>(
     let first = ShownLog::first_state(alloc, bytes, end.at)?;
     let mut followed = Followed::of(alloc, &first)?;
     let mut text = String::new(alloc);
-    let frames = PlacedFrames::front_frames(bytes, &first, end.at, end.used);
+    let frames = PlacedFrames::front_frames(bytes, &first, end.at, end.front.used);
     tell_all(
         alloc,
         frames,

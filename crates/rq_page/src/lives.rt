@@ -281,7 +281,7 @@ pub(crate) fn lives_of(
     }
     let truths = truths_of(alloc, checkpoints)?;
     let mut followed = Followed::of(alloc, first)?;
-    let frames = PlacedFrames::front_frames(bytes, first, end.at, end.used);
+    let frames = PlacedFrames::front_frames(bytes, first, end.at, end.front.used);
     lives.walk(alloc, shown, frames, &mut followed, &truths)?;
     lives.take_restart(alloc, shown, &mut followed)?;
     Ok(lives)

@@ -5,7 +5,7 @@ ghost use Rattle.rq_page.specs.Markup.{AppendsText, is_text, page_foot};
 
 use crate::markup::Html::{Tag, Text};
 use crate::style::{STYLE, sum_of_style};
-use rq_found::{Put, is_hidden};
+use rq_found::{Put, Seen};
 use std::alloc::Global;
 use std::fmt::Write;
 
@@ -48,7 +48,7 @@ static GROUPS: [u64; 6] = [
 fn visible(c: char) -> char
     ensures { is_text c ≡ true → is_text result ≡ true }
 {
-    if !is_hidden(c) {
+    if !Seen::is_hidden(c) {
         return c;
     }
     match c {

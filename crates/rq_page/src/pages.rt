@@ -22,7 +22,7 @@ use crate::tables::put_queue_table;
 use crate::units::put_open;
 use rq_behind::Found;
 use rq_found::{Diagnosis, End, Output, Put, ShownLog, Trouble, write_bytes};
-use rq_look::{audited_from, may_have_right, standing_behind};
+use rq_look::{Findings, may_have_right, standing_behind};
 use rq_restart::Restarted;
 use rq_state::State;
 use std::alloc::Global;
@@ -100,7 +100,7 @@ fn found_in<R: Threads + Sync>(
     let restarted = log.restarted(rt, alloc)?;
     let end = End::after_restart(rt, alloc, log, &restarted)?;
     let behind = standing_behind(alloc, log.bytes, &end)?;
-    let checkpoints = audited_from(rt, alloc, log)?;
+    let checkpoints = Findings::audited_from(rt, alloc, log)?;
     Ok(RestartedLog {
         restarted,
         end,
@@ -134,7 +134,7 @@ fn contents_of(
 fn begun(contents: &Contents) -> Linked<'_> {
     let found = &contents.found;
     let (elements, units) = (contents.elements.as_slice(), contents.units.as_slice());
-    let count = found.end.records.saturating_sub(contents.first.next());
+    let count = found.end.front.next.saturating_sub(contents.first.next());
     Linked::of(
         found.restarted.state().definitions(),
         elements,

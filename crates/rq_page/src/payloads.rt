@@ -2,7 +2,7 @@
 
 use crate::markup::Html::Count;
 use crate::markup::{put_char, put_html};
-use rq_found::{Put, put_digits};
+use rq_found::{Put, TextPiece};
 use std::alloc::{AllocError, Global};
 use std::str::from_utf8;
 
@@ -42,7 +42,7 @@ fn put_first(
         }
         Err(_) => {
             text.push_str("<bdi class=\"text hex\">")?;
-            put_digits(alloc, text, bytes, most)
+            TextPiece::put_digits(alloc, text, bytes, most)
         }
     }
 }

@@ -114,17 +114,17 @@ fn put_marks(text: &mut String, marks: &BTreeMap<u64, bool>) -> Put {
 
 // Puts what stands behind the front; however short it is, it is seen.
 fn put_damage(text: &mut String, end: &End) -> Put {
-    if end.used >= end.total {
+    if end.front.used >= end.front.total {
         return Ok(());
     }
-    let x = along(end.used, end.total, WIDTH).min(WIDTH - 4);
+    let x = along(end.front.used, end.front.total, WIDTH).min(WIDTH - 4);
     put_rect(
         text,
         "damage",
         [x, 0, WIDTH.saturating_sub(x), HEIGHT + LINE],
         "",
     )?;
-    let count = Count(end.total.saturating_sub(end.used));
+    let count = Count(end.front.total.saturating_sub(end.front.used));
     put_html(
         text,
         "><title>{} bytes behind the front</title></rect>\n",
@@ -146,7 +146,7 @@ fn put_legend(text: &mut String, seen: &Survey, end: &End, marks: bool) -> Put {
     if marks {
         text.push_str("<li class=\"true\">a checkpoint stands here</li>\n")?;
     }
-    if end.used < end.total {
+    if end.front.used < end.front.total {
         text.push_str("<li class=\"damage\">behind the front</li>\n")?;
     }
     text.push_str("</ul>\n</section>\n")
@@ -162,7 +162,7 @@ pub(crate) fn put_picture(
     checkpoints: &[(u64, bool)],
 ) -> Put {
     let mut marks = BTreeMap::new(alloc);
-    marked(&mut marks, checkpoints, end.total)?;
+    marked(&mut marks, checkpoints, end.front.total)?;
     let most = most_of(&seen.bins);
     let (scale, height) = (Count(most), Number(HEIGHT + LINE));
     put_html(text, TOP, &[scale, Number(WIDTH), height, scale])?;
@@ -170,6 +170,6 @@ pub(crate) fn put_picture(
     put_marks(text, &marks)?;
     put_damage(text, end)?;
     text.push_str("</svg></div>\n")?;
-    put_axis(text, end.total)?;
+    put_axis(text, end.front.total)?;
     put_legend(text, seen, end, !marks.is_empty())
 }

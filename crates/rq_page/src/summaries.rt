@@ -5,9 +5,8 @@ use crate::markup::Html::{Count, Number, Tag, Text};
 use crate::markup::{Html, put_html, put_optional};
 use crate::pages::Asked;
 use rq_behind::Found;
-use rq_found::{Diagnosis, End, Put, is_whole};
+use rq_found::{Diagnosis, End, Put};
 use rq_look::put_behind;
-use rq_report::why_word;
 use rq_restart::Restarted;
 use std::alloc::Global;
 
@@ -46,17 +45,17 @@ const WRONG: &str = ", <span class=\"bad\">of which {} do not spell the state be
 
 // Puts what stands behind the front.
 fn put_reason(text: &mut String, end: &End) -> Put {
-    let class = if is_whole(end.why) { "whole" } else { "bad" };
-    let (why, reason) = (Text(why_word(end.why)), Text(end.reason.as_str()));
+    let class = if end.is_whole() { "whole" } else { "bad" };
+    let (why, reason) = (Text(end.front.why.word()), Text(end.reason.as_str()));
     put_html(text, BEHIND, &[Tag(class), why, reason])
 }
 
 // Puts the digest of the front's last frame, by which a log is known; of a front without records it
 // is what the header has in its place.
 fn put_digest(alloc: Global, text: &mut String, bytes: &[u8], end: &End) -> Put {
-    let to = bytes.len().min(end.used as usize);
+    let to = bytes.len().min(end.front.used as usize);
     let digest = hex::encode(alloc, &bytes[to.saturating_sub(32)..to])?;
-    let head = if end.records > 0 {
+    let head = if end.front.next > 0 {
         "digest of its last frame"
     } else {
         "end of its header"
@@ -66,11 +65,11 @@ fn put_digest(alloc: Global, text: &mut String, bytes: &[u8], end: &End) -> Put 
 
 // Puts what stands behind the front, if something does.
 fn put_found(alloc: Global, text: &mut String, end: &End, found: &Found) -> Put {
-    if is_whole(end.why) {
+    if end.is_whole() {
         return Ok(());
     }
     let mut lines = String::new(alloc);
-    put_behind(&mut lines, found, end.total)?;
+    put_behind(&mut lines, found, end.front.total)?;
     text.push_str("<tr><th scope=\"row\">found there</th><td>")?;
     for line in lines.lines() {
         put_html(text, "<small>{}</small>", &[Text(line)])?;
@@ -114,7 +113,11 @@ pub(crate) fn put_summary(
 ) -> Put {
     text.push_str(TOP)?;
     put_optional(text, CARRIED, end.at.map(|at| Number(at)))?;
-    let front = [Count(end.records), Count(end.used), Count(end.total)];
+    let front = [
+        Count(end.front.next),
+        Count(end.front.used),
+        Count(end.front.total),
+    ];
     put_html(text, FRONT, &front)?;
     put_reason(text, end)?;
     put_found(alloc, text, end, found)?;
@@ -170,7 +173,7 @@ pub(crate) fn put_header(
 ) -> Put {
     put_html(text, NAME, &[Text(asked.name)])?;
     put_diagnosed(alloc, text, asked.typed, diagnosis)?;
-    let badge = if is_whole(end.why) {
+    let badge = if end.is_whole() {
         "good\">whole"
     } else {
         "wrong\">not whole"
@@ -182,8 +185,8 @@ pub(crate) fn put_header(
         &[
             Tag(badge),
             Text(asked.version),
-            Count(end.total),
-            Count(end.records),
+            Count(end.front.total),
+            Count(end.front.next),
             queues,
             elements,
             registrants,

@@ -155,9 +155,9 @@ impl Survey {
         ensures { IfErr result (λ e. e ≡ Resources) }
     {
         let mut followed = Followed::of(alloc, first)?;
-        for placed in PlacedFrames::front_frames(bytes, first, end.at, end.used) {
+        for placed in PlacedFrames::front_frames(bytes, first, end.at, end.front.used) {
             let it = followed.follow(placed)?;
-            self.take(alloc, &it, followed.events(), end.total)?;
+            self.take(alloc, &it, followed.events(), end.front.total)?;
         }
         Ok(())
     }
@@ -168,13 +168,13 @@ impl Survey {
         for unit in first.units() {
             self.begun.insert(unit.0, at)?;
         }
-        let bin = bin_of(at, end.total, BINS);
+        let bin = bin_of(at, end.front.total, BINS);
         self.open.set(bin, first.units().len() as u64)
     }
 
     // The queues of the state that the log begins with.
     fn begin_queues(&mut self, alloc: Global, first: &State, end: &End) -> Result<(), AllocError> {
-        let bin = bin_of(end.at.unwrap_or(0), end.total, FEW_BINS);
+        let bin = bin_of(end.at.unwrap_or(0), end.front.total, FEW_BINS);
         let mut number: u32 = 0;
         for _ in first.definitions() {
             let mut depth = Curve::new(alloc);
@@ -187,7 +187,7 @@ impl Survey {
 
     // Behind the front the depths are those after the restart's aborts.
     fn close(&mut self, state: &State, end: &End) -> Result<(), AllocError> {
-        let bin = bin_of(end.used, end.total, FEW_BINS);
+        let bin = bin_of(end.front.used, end.front.total, FEW_BINS);
         let mut number: u32 = 0;
         for depth in self.depths.iter_mut() {
             depth.set(bin, state.elements_of(QueueNo(number)).len() as u64)?;

@@ -83,7 +83,7 @@ fn put_curve(text: &mut String, hall: &Hall<'_>, number: u32) -> Put {
     let frame = Canvas {
         width,
         height,
-        end: along(hall.end.used, hall.end.total, width),
+        end: along(hall.end.front.used, hall.end.front.total, width),
         bins: FEW_BINS,
     };
     put_html(text, "<td>{}</td><td>", &[Count(curve.most())])?;
@@ -130,7 +130,7 @@ fn put_table(alloc: Global, text: &mut String, hall: &Hall<'_>, lines: &[QueueRo
         log</caption>\n<tr><th scope=\"col\">queue</th><th scope=\"col\">elements</th>\
         <th scope=\"col\">at most</th><th scope=\"col\">along the log",
     )?;
-    put_axis(text, hall.end.total)?;
+    put_axis(text, hall.end.front.total)?;
     text.push_str("</th></tr>\n")?;
     for line in lines {
         put_queue(alloc, text, hall, line)?;

@@ -40,10 +40,10 @@ fn begun_at(begun: u64, end: &End) -> (Html<'static>, Html<'static>) {
 fn put_bars(text: &mut String, seen: &Survey, end: &End) -> Put {
     let height = BAR.saturating_mul(seen.begun.len().min(SHOWN) as u64);
     put_html(text, BARS, &[Number(WIDTH), Number(height)])?;
-    let until = along(end.used, end.total, WIDTH);
+    let until = along(end.front.used, end.front.total, WIDTH);
     let mut y: u64 = 2;
     for (unit, begun) in seen.begun.iter().take(SHOWN) {
-        let x = along(*begun, end.total, WIDTH - 2);
+        let x = along(*begun, end.front.total, WIDTH - 2);
         put_rect(text, "unit", [x, y, until.saturating_sub(x).max(2), 8], "")?;
         let (word, at) = begun_at(*begun, end);
         put_html(
@@ -81,7 +81,7 @@ pub(crate) fn put_open(text: &mut String, shown: &Linked<'_>, seen: &Survey, end
     let frame = Canvas {
         width: WIDTH,
         height: CURVE,
-        end: along(end.used, end.total, WIDTH),
+        end: along(end.front.used, end.front.total, WIDTH),
         bins: BINS,
     };
     seen.open.put(text, &frame, "Open units along the log")?;
@@ -89,7 +89,7 @@ pub(crate) fn put_open(text: &mut String, shown: &Linked<'_>, seen: &Survey, end
     if count > 0 {
         put_bars(text, seen, end)?;
     }
-    put_axis(text, end.total)?;
+    put_axis(text, end.front.total)?;
     if count > 0 {
         put_names(text, shown, seen, end)?;
     }

@@ -7,7 +7,7 @@ mod report;
 mod stream;
 mod writers;
 
-pub use lines::{kind_word, put_error, why_word};
+pub use lines::{kind_word, put_error};
 pub use listing::free_elements;
 pub use report::queue_report;
 pub use stream::{Input, Output, OverRead, OverWrite};

@@ -4,37 +4,22 @@ ghost use Rattle.std.specs.Prelude.{◌≡◌, ◌≤◌, ◌++◌, OnOk, length
 ghost use Rattle.std.specs.List.{flat_map};
 ghost use Rattle.rq_model.specs.Reports.{element_line, element_text, error_text, front_line, hex_of};
 ghost use Rattle.rq_model.specs.Reports.{kind_text, last_text, payload_text, queue_line, registrant_line};
-ghost use Rattle.rq_model.specs.Reports.{units_line, why_text};
-ghost use Rattle.rq_judged.specs.Views.{why_of};
+ghost use Rattle.rq_model.specs.Reports.{units_line};
 ghost use Rattle.rq_state.specs.Views.{kind_of, id_of};
 
 use rq_record::{ElemId, QueueNo};
-use rq_restart::{Restarted, Why};
+use rq_restart::Restarted;
 use rq_state::{Definition, KeptElement, KeptRegistrant, OpKind};
 use std::alloc::AllocError;
 use std::fmt::Write;
 use std::str::from_utf8;
-
-/// The word for why a front ends, as the first line of a report has it.
-pub fn why_word(why: Why) -> &'static str
-    ensures { result.now ≡ why_text (why_of why) }
-{
-    match why {
-        Why::Whole => "whole",
-        Why::Cut => "cut",
-        Why::Length => "length",
-        Why::Chain => "chain",
-        Why::Form => "form",
-        Why::Law => "law",
-    }
-}
 
 /// Puts the line of the front: its records, its bytes, and why it ends.
 pub(crate) fn put_front(text: &mut String, r: &Restarted) -> Result<(), AllocError>
     ensures { OnOk result (string_bytes text.new ≡ string_bytes text.old ++ front_line r.now) }
 {
     let (records, used, total) = (r.records(), r.used(), r.total());
-    let why = why_word(r.why());
+    let why = r.why().word();
     write!(
         text,
         "front {records} records, {used} of {total} bytes, {why}\n"

@@ -90,10 +90,10 @@ redone law b version rs end why f short head h behind =
     let rules = sym behind.rules in
     record {
       records = rs;
-      front = subst (λ (v : Version). IsFront b v rs (drop f.used b)) rules
+      front = subst (λ (v : Version). IsFront b v rs (drop f.end.used b)) rules
           (subst (λ (n : ℕ). IsFront b version rs (drop n b)) (sym behind.used) is.front);
-      ends = subst (λ (v : Version). IsWhy v (run empty rs) (last_of (start v) rs) (drop f.used b) (why_of f.why)) rules
-          (subst (λ (n : ℕ). IsWhy version (run empty rs) (last_of (start version) rs) (drop n b) (why_of f.why)) (sym behind.used)
+      ends = subst (λ (v : Version). IsWhy v (run empty rs) (last_of (start v) rs) (drop f.end.used b) (why_of f.end.why)) rules
+          (subst (λ (n : ℕ). IsWhy version (run empty rs) (last_of (start version) rs) (drop n b) (why_of f.end.why)) (sym behind.used)
           (subst (λ (w : Why). IsWhy version (run empty rs) (last_of (start version) rs) (drop end b) w) (sym behind.why)
           (subst (λ (p : List ℕ). IsWhy version (run empty rs) (last_of p rs) (drop end b) why)
           (started version law b head).chained h.ends)));
@@ -136,10 +136,10 @@ redoes_at b offset x is (Ok f) behind refused =
       base = x.state;
       kept = kept;
       after = has.after;
-      front = subst (λ (v : Version). IsFrontAt b offset v x.state kept has.after (drop f.used b)) (sym behind.rules)
+      front = subst (λ (v : Version). IsFrontAt b offset v x.state kept has.after (drop f.end.used b)) (sym behind.rules)
           (subst (λ (n : ℕ). IsFrontAt b offset version x.state kept has.after (drop n b)) (sym behind.used) at.front);
-      ends = subst (λ (v : Version). IsWhy v (run x.state xs) link (drop f.used b) (why_of f.why)) (sym behind.rules)
-          (subst (λ (n : ℕ). IsWhy version (run x.state xs) link (drop n b) (why_of f.why)) (sym behind.used)
+      ends = subst (λ (v : Version). IsWhy v (run x.state xs) link (drop f.end.used b) (why_of f.end.why)) (sym behind.rules)
+          (subst (λ (n : ℕ). IsWhy version (run x.state xs) link (drop n b) (why_of f.end.why)) (sym behind.used)
           (subst (λ (w : Why). IsWhy version (run x.state xs) link (drop x.front.end b) w) (sym behind.why) at.ends));
       used = behind.used ∙ at.used;
       count = behind.count ∙ ap length has.are;

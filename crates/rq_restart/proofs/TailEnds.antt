@@ -39,21 +39,21 @@ crowded b f units count are_open count_is more =
 pub fits : (b : List ℕ) (f : FoundFront) (units : List ℕ) (e : Ending)
     → e ≡ record {
       version = f.version;
-      used = f.front.end;
-      why = f.front.why;
+      end = record { used = f.front.end; records = e.end.records; why = f.front.why };
       units = e.units;
       tail = e.tail;
-    } → f.front.end ≤ 4294967295
+    } → e.end.records ≡ length (records f) → f.front.end ≤ 4294967295
     → units ≡ (run f.state (map record_of f.front.records.items)).units → e.units ≡ length units
     → e.units ≤ (4294967295 - f.front.end) / 45 → e.tail.items ≡ frames_of (before f.front.end b) (map Abort units)
     → IsEndingOf b f e
-fits b f units e is short are_open count few wrote =
+fits b f units e is all short are_open count few wrote =
     let tail : e.tail.items ≡ tail_behind b f =
     wrote ∙ ap (λ (us : List ℕ). frames_of (before f.front.end b) (map Abort us)) are_open in
     let many : e.units ≡ length (run f.state (records f)).units = count ∙ ap length are_open in
     let long = aborts_long (before f.front.end b) (run f.state (records f)).units in
     record {
       is = is;
+      count = all;
       units = many;
       tail = tail;
       room = omega (arith, long, many, few, short, ap length tail);
@@ -77,6 +77,7 @@ is_ending b f is e h =
       ends = subst (λ (p : List ℕ). IsWhy version (run empty rs) (last_of p rs) (drop end b) why)
           (started version is.ends b is.header).chained from.ends;
       used = omega (arith, from.within, length-take end b, ap length front.bytes);
+      count = h.count;
       after = omega (arith, from.few);
       within = from.within;
       units = h.units ∙ (λ i. length (run (is.start i) rs).units);
@@ -133,6 +134,7 @@ is_ending_at b offset f is e h =
       front = at.front;
       ends = at.ends;
       used = at.used;
+      count = h.count ∙ ap length has.are;
       past_header = omega (arith, is.found.behind, is.found.front.few);
       within = is.found.front.within;
       units = h.units ∙ (λ i. length (run f.state (has.are i)).units);

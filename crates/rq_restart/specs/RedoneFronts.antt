@@ -57,11 +57,11 @@ FindsFrontAt b offset (Err e) = RefusedAt b offset e
 -- where and why the front of b ends, and the state behind it
 pub record IsRedoneFront (b : List ℕ) (f : RedoneFront) : Type 0 where
   pub records : List Record
-  pub front : IsFront b (version_of f.version) records (drop f.used b)
+  pub front : IsFront b (version_of f.version) records (drop f.end.used b)
   pub ends : IsWhy (version_of f.version) (run empty records) (last_of (start (version_of f.version)) records)
-      (drop f.used b) (why_of f.why)
-  pub used : f.used ≡ length (log_of (version_of f.version) records)
-  pub count : f.records ≡ length records
+      (drop f.end.used b) (why_of f.end.why)
+  pub used : f.end.used ≡ length (log_of (version_of f.version) records)
+  pub count : f.end.records ≡ length records
   pub last : f.last ≡ last_of (start (version_of f.version)) records
   pub state : f.state ≡ run empty records
 
@@ -75,12 +75,12 @@ pub record IsRedoneAt (b : List ℕ) (offset : ℕ) (f : RedoneFront) : Type 0 w
   pub base : State
   pub kept : List ℕ
   pub after : List Record
-  pub front : IsFrontAt b offset (version_of f.version) base kept after (drop f.used b)
+  pub front : IsFrontAt b offset (version_of f.version) base kept after (drop f.end.used b)
   pub ends : IsWhy (version_of f.version) (run base (Checkpoint kept ∷ after))
-      (last_of (before offset b) (Checkpoint kept ∷ after)) (drop f.used b) (why_of f.why)
-  pub used : f.used
+      (last_of (before offset b) (Checkpoint kept ∷ after)) (drop f.end.used b) (why_of f.end.why)
+  pub used : f.end.used
       ≡ offset + length (frames_of (before offset b) (Checkpoint kept ∷ after))
-  pub count : f.records ≡ length (Checkpoint kept ∷ after)
+  pub count : f.end.records ≡ length (Checkpoint kept ∷ after)
   pub last : f.last ≡ last_of (before offset b) (Checkpoint kept ∷ after)
   pub state : f.state ≡ run base (Checkpoint kept ∷ after)
 
@@ -95,6 +95,6 @@ pub record IsStateBehind (version : Version) (s : State) (b : List ℕ) (rs : Li
   pub rules : version_of f.version ≡ version
   pub state : f.state ≡ run s rs
   pub last : f.last ≡ before end b
-  pub used : f.used ≡ end
-  pub count : f.records ≡ length rs
-  pub why : why_of f.why ≡ reason
+  pub used : f.end.used ≡ end
+  pub count : f.end.records ≡ length rs
+  pub why : why_of f.end.why ≡ reason

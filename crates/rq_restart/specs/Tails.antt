@@ -29,15 +29,16 @@ StaysOpen b e = Refused b e
 pub record IsEnding (b : List ℕ) (e : Ending) : Type 0 where
   pub log : IsLog b
   pub records : List Record
-  pub front : IsFront b (version_of e.version) records (drop e.used b)
+  pub front : IsFront b (version_of e.version) records (drop e.end.used b)
   pub ends : IsWhy (version_of e.version) (run empty records)
-      (last_of (start (version_of e.version)) records) (drop e.used b) (why_of e.why)
-  pub used : e.used ≡ length (log_of (version_of e.version) records)
-  pub after : 40 ≤ e.used
-  pub within : e.used ≤ length b
+      (last_of (start (version_of e.version)) records) (drop e.end.used b) (why_of e.end.why)
+  pub used : e.end.used ≡ length (log_of (version_of e.version) records)
+  pub count : e.end.records ≡ length records
+  pub after : 40 ≤ e.end.used
+  pub within : e.end.used ≤ length b
   pub units : e.units ≡ length (run empty records).units
-  pub closed : IsClosedBy b e.tail.items (take e.used b ++ e.tail.items)
-  pub room : length (take e.used b ++ e.tail.items) ≤ log_limit
+  pub closed : IsClosedBy b e.tail.items (take e.end.used b ++ e.tail.items)
+  pub room : length (take e.end.used b ++ e.tail.items) ≤ log_limit
 
 -- that, or why b is not closed
 abbrev pub EndsLog : List ℕ → Result Ending Fault → Type 0
@@ -55,16 +56,17 @@ pub record IsEndingAt (b : List ℕ) (offset : ℕ) (e : Ending) : Type 0 where
   pub base : State
   pub kept : List ℕ
   pub after : List Record
-  pub front : IsFrontAt b offset (version_of e.version) base kept after (drop e.used b)
+  pub front : IsFrontAt b offset (version_of e.version) base kept after (drop e.end.used b)
   pub ends : IsWhy (version_of e.version) (run base (Checkpoint kept ∷ after))
-      (last_of (before offset b) (Checkpoint kept ∷ after)) (drop e.used b) (why_of e.why)
-  pub used : e.used
+      (last_of (before offset b) (Checkpoint kept ∷ after)) (drop e.end.used b) (why_of e.end.why)
+  pub used : e.end.used
       ≡ offset + length (frames_of (before offset b) (Checkpoint kept ∷ after))
-  pub past_header : 40 ≤ e.used
-  pub within : e.used ≤ length b
+  pub count : e.end.records ≡ length (Checkpoint kept ∷ after)
+  pub past_header : 40 ≤ e.end.used
+  pub within : e.end.used ≤ length b
   pub units : e.units ≡ length (run base (Checkpoint kept ∷ after)).units
   pub tail : e.tail.items ≡ tail_at b offset base kept after
-  pub room : e.used + length e.tail.items ≤ log_limit
+  pub room : e.end.used + length e.tail.items ≤ log_limit
 
 -- with these frames the log would be too long
 pub record IsCrowdedAt (b : List ℕ) (offset : ℕ) : Type 0 where
@@ -96,11 +98,11 @@ tail_behind b f = frames_of (before f.front.end b)
 pub record IsEndingOf (b : List ℕ) (f : FoundFront) (e : Ending) : Type 0 where
   pub is : e ≡ record {
     version = f.version;
-    used = f.front.end;
-    why = f.front.why;
+    end = record { used = f.front.end; records = e.end.records; why = f.front.why };
     units = e.units;
     tail = e.tail;
   }
+  pub count : e.end.records ≡ length (map record_of f.front.records.items)
   pub units : e.units ≡ length (run f.state (map record_of f.front.records.items)).units
   pub tail : e.tail.items ≡ tail_behind b f
   pub room : f.front.end + length e.tail.items ≤ log_limit

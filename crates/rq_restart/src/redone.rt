@@ -10,7 +10,7 @@ ghost use Rattle.rq_restart.specs.Restarts.{FindsState};
 
 use crate::restarts::{FoundFront, front_from, whole_front};
 use rq_exchange::replay_analysed;
-use rq_judged::{Why, before};
+use rq_judged::{Edge, before};
 use rq_plan::{Open, Plan};
 use rq_record::{Fault, LogBytes, Version};
 use rq_state::State;
@@ -27,12 +27,8 @@ pub struct RedoneFront {
     pub state: State,
     /// The front's last 32 bytes.
     pub last: [u8; 32],
-    /// How many of the log's bytes the front takes, and all that stands before it.
-    pub used: usize,
-    /// How many records it has.
-    pub records: usize,
-    /// Why it ends.
-    pub why: Why,
+    /// Where the front ends, and why.
+    pub end: Edge,
 }
 
 // The state behind a front of the log.
@@ -54,16 +50,18 @@ fn state_behind<R: Threads + Sync>(
         state,
         front,
     } = from;
-    let (records, why) = (front.records.len(), front.why);
+    let end = Edge {
+        used: front.end,
+        records: front.records.len(),
+        why: front.why,
+    };
     let analysis = front.analysis;
     let redone = replay_analysed(rt, alloc, &state, &front.records, analysis, plan, &Open)?;
     Ok(RedoneFront {
         version,
         state: redone,
         last: before(bytes.as_slice(), front.end),
-        used: front.end,
-        records,
-        why,
+        end,
     })
 }
 

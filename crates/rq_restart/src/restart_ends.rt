@@ -18,7 +18,7 @@ ghost use Rattle.rq_restart.specs.RedoneFronts.{IsFoundFrom};
 use crate::restarts::FoundFront;
 use rq_catalog::Analysis;
 use rq_exchange::{Agenda, Course, redo_agenda};
-use rq_judged::{Front, Why};
+use rq_judged::{Front, FrontEnd, Why};
 use rq_plan::{Gate, Plan};
 use rq_record::{Fault, KeptRecord, UnitNo, Version};
 use rq_state::State;
@@ -31,10 +31,7 @@ use std::thread::Threads;
 #[derive(Drop)]
 pub struct Restarted {
     pub(crate) state: State,
-    pub(crate) records: u64,
-    pub(crate) used: u64,
-    pub(crate) total: u64,
-    pub(crate) why: Why,
+    pub(crate) end: FrontEnd,
     pub(crate) committed: u64,
     pub(crate) aborted: u64,
     pub(crate) cut_off: u64,
@@ -51,10 +48,10 @@ impl Model for Restarted {
 
     ghost view = { λ r. record {
       state = r.state;
-      records = r.records;
-      used = r.used;
-      total = r.total;
-      why = why_of r.why;
+      records = r.end.next;
+      used = r.end.used;
+      total = r.end.total;
+      why = why_of r.end.why;
       committed = r.committed;
       aborted = r.aborted;
       cut_off = r.cut_off;
@@ -75,28 +72,28 @@ impl Restarted {
     pub fn records(&self) -> u64
         ensures { result ≡ self.now.records }
     {
-        self.records
+        self.end.next
     }
 
     /// How many of the log's bytes the front and what stands before it take.
     pub fn used(&self) -> u64
         ensures { result ≡ self.now.used }
     {
-        self.used
+        self.end.used
     }
 
     /// How many bytes the log has.
     pub fn total(&self) -> u64
         ensures { result ≡ self.now.total }
     {
-        self.total
+        self.end.total
     }
 
     /// Why the front ends.
     pub fn why(&self) -> Why
         ensures { why_of result ≡ self.now.why }
     {
-        self.why
+        self.end.why
     }
 
     /// How many units were committed.
@@ -240,10 +237,12 @@ pub(crate) fn finish<R: Threads + Sync, G: Gate + Sync>(
     let (state, course) = redone(rt, alloc, state, records, agenda, plan, gate)?;
     Ok(Restarted {
         state,
-        records: next,
-        used: end as u64,
-        total: total as u64,
-        why,
+        end: FrontEnd {
+            next,
+            used: end as u64,
+            total: total as u64,
+            why,
+        },
         committed,
         aborted,
         cut_off,

@@ -11,7 +11,7 @@ ghost use Rattle.rq_restart.specs.Tails.{Closes, EndsLog, EndsLogAt, IsCrowded, 
 
 use crate::restarts::{FoundFront, front_from, whole_front};
 use rq_front::{LOG_LIMIT, append_frame};
-use rq_judged::{Why, before};
+use rq_judged::{Edge, before};
 use rq_plan::Plan;
 use rq_record::{Fault, LogBytes, Record, UnitNo, Version, encode};
 use std::alloc::Global;
@@ -65,10 +65,8 @@ fn append_aborts(
 pub struct Ending {
     /// The version of the log.
     pub version: Version,
-    /// How many of the log's bytes the front takes, and all that stands before it.
-    pub used: usize,
-    /// Why it ends.
-    pub why: Why,
+    /// Where the front ends, and why.
+    pub end: Edge,
     /// How many units are open there.
     pub units: usize,
     /// The frames of their ABORTs, rising, chained to the front's last 32 bytes.
@@ -80,11 +78,11 @@ impl Ending {
     /// stood behind the front is dropped. `Resources` is returned if memory is refused.
     pub fn close(mut self, bytes: Vec<u8>) -> Result<Vec<u8>, Fault>
         ensures closed { IfOk result
-            (λ closed. closed.items ≡ take self.used bytes.items ++ self.tail.items) }
+            (λ closed. closed.items ≡ take self.end.used bytes.items ++ self.tail.items) }
         ensures refused { IfErr result (λ e. e ≡ Resources) }
     {
         let mut bytes = bytes;
-        bytes.truncate(self.used);
+        bytes.truncate(self.end.used);
         bytes.append(&mut self.tail)?;
         Ok(bytes)
     }
@@ -105,8 +103,11 @@ fn ending_behind(alloc: Global, from: &FoundFront, bytes: &[u8]) -> Result<Endin
     append_aborts(alloc, before(bytes, front.end), &units, &mut tail)?;
     Ok(Ending {
         version: from.version,
-        used: front.end,
-        why: front.why,
+        end: Edge {
+            used: front.end,
+            records: front.records.len(),
+            why: front.why,
+        },
         units: units.len(),
         tail,
     })

@@ -197,7 +197,7 @@ impl Measures {
         self.take_names(first.definitions())?;
         self.take_units(first.units(), first.next())?;
         self.walk(frames, &mut followed)?;
-        self.restart(alloc, &mut followed, end.records)?;
+        self.restart(alloc, &mut followed, end.front.next)?;
         self.depths = depths_of(alloc, followed.machine())?;
         Ok(())
     }
@@ -217,7 +217,7 @@ pub(crate) fn counted(alloc: Global, log: &ShownLog<'_>, end: &End) -> Result<Me
     ensures { IfErr result (λ e. e ≡ Resources) }
 {
     let first = ShownLog::first_state(alloc, log.bytes, log.at)?;
-    let frames = PlacedFrames::front_frames(log.bytes, &first, log.at, end.used);
+    let frames = PlacedFrames::front_frames(log.bytes, &first, log.at, end.front.used);
     let mut measures = Measures::new(alloc);
     measures.take_all(alloc, &first, frames, end)?;
     Ok(measures)

@@ -6,7 +6,7 @@ ghost use Rattle.rq_record.specs.declared.fault.Fault.TheVariants.{Resources};
 ghost use Rattle.rq_front.specs.Chains.{IsLog};
 ghost use Rattle.rq_judged.specs.FrontEnds.{IsEndOf};
 ghost use Rattle.rq_judged.specs.Views.{why_of};
-ghost use Rattle.rq_found.specs.Ends.{IsRestartFrom, beginning_text, end_text, front_end_of};
+ghost use Rattle.rq_found.specs.Ends.{IsRestartFrom, beginning_text, end_text};
 ghost use Rattle.rq_found.specs.Refusals.{CountsFaults, StaysUnshown};
 ghost use Rattle.rq_found.specs.declared.trouble.Trouble.TheVariants.{Log};
 ghost use Rattle.rq_stats.specs.Statistics.{AreNumbers, PutsNumbers};
@@ -25,8 +25,8 @@ fn text_of(
     measures: &Measures,
 ) -> Result<String, AllocError>
     ensures { IfOk result (λ text. (lines : List ℕ) × (string_bytes text
-        ≡ beginning_text at ++ (end_text end.now.records end.now.used end.now.total
-        (why_of end.now.why) (string_bytes end.now.reason) ++ lines))) }
+        ≡ beginning_text at ++ (end_text end.now.front.next end.now.front.used end.now.front.total
+        (why_of end.now.front.why) (string_bytes end.now.reason) ++ lines))) }
 {
     let lines = lines_of(alloc, measures)?;
     let mut text = String::new(alloc);
@@ -52,7 +52,7 @@ fn json_of(alloc: Global, end: &End, measures: &Measures) -> Result<String, Trou
 // The numbers of a front of which the end is known.
 fn numbers_of(alloc: Global, log: &ShownLog<'_>, end: &End, json: bool) -> Result<String, Trouble>
     requires end { (r : fronts.Restarted) × IsRestartFrom log.now.at log.now.bytes.now r
-        × IsEndOf r (front_end_of end.now) }
+        × IsEndOf r end.now.front }
     ensures numbers { IfOk result
         (λ text. AreNumbers log.now.at log.now.bytes.now json (string_bytes text)) }
     ensures refused { IfErr result (λ e. e ≡ Log Resources) }

@@ -124,7 +124,7 @@ pub(crate) fn closed_carried<R: Threads + Sync>(
     let (mut log, front) = redone_log(rt, alloc, &lent, plan, drops)?;
     append_all(alloc, &mut log, &aborts_of(alloc, &front.state)?)?;
     let mut made = read.bytes;
-    made.truncate(log.opened.used);
+    made.truncate(log.opened.end.used);
     made.append(&mut log.frames)?;
     write_as_carried(&mut made);
     Ok((made, log.left_out))

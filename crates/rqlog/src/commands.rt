@@ -1,7 +1,7 @@
 //! What the program does for each of its commands.
 
 use crate::checkpoints::{carried_on, closed_carried, mark};
-use crate::damage::{EndOfFront, LastBytes, LeftOut, expect_end};
+use crate::damage::{LastBytes, LeftOut, expect_end};
 use crate::files::{HeldLog, Hold, put_whole};
 use crate::fronts::{OpenLog, front_in};
 use crate::inputs::{LentLog, ReadLog, begun_log, log_from, opened, rest_of_log, script_in};
@@ -13,7 +13,7 @@ use crate::new_log::{expect_free, put_new};
 use crate::recovery::recover;
 use crate::refusal::{Refusal, Stream, failed};
 use clap::ArgMatches;
-use rq_file::{Names, Patient, Replaces, put_over};
+use rq_file::{Names, Patient, Replaces};
 use rq_front::header_of;
 use rq_journal::{CARRIED_AT, Fault, Plan, audit_carried};
 use rq_record::{LogBytes, Version};
@@ -73,7 +73,7 @@ where
     if made.is_kept() {
         held.append(rt, log)?;
         tell_left_out(rt, log.left_out);
-        let (used, len) = (log.opened.used as u64, log.len() as u64);
+        let (used, len) = (log.opened.end.used as u64, log.len() as u64);
         let json = words.get_flag("json");
         told(tell_appended(rt, json, made.count, used, len))?;
     }
@@ -191,7 +191,8 @@ where
     let left = expect_end(
         alloc,
         LastBytes::all(&bytes),
-        EndOfFront::of(&ending),
+        ending.version,
+        ending.end,
         drops,
     )?;
     Ok((ending.close(bytes)?, left))
@@ -234,7 +235,8 @@ where
         .map_err(|error| failed(Stream::Out, error))?;
     let log = log_from(rt, opened(rt, path, Stream::Log)?)?;
     let (made, left) = closed_of(rt, log, plan, true)?;
-    put_over(rt, out, &[&made], &rule).map_err(|error| failed(Stream::Out, error))?;
+    rule.put_over(rt, out, &[&made])
+        .map_err(|error| failed(Stream::Out, error))?;
     tell_left_out(rt, left);
     Ok(())
 }

@@ -4,33 +4,14 @@ ghost use Rattle.std.specs.Prelude.{◌≤◌, length, IfOk};
 
 use crate::refusal::Refusal;
 use rq_behind::{Found, Scan};
-use rq_journal::{Damage, Ending, Why};
+use rq_journal::{Damage, Why};
+use rq_judged::Edge;
 use rq_record::Version;
-use rq_report::why_word;
 use std::alloc::Global;
 use std::fmt;
 
 /// So many bytes before the end of a front tell what stands behind it.
 pub(crate) const LINK_LEN: usize = 32;
-
-/// Where the front of a log ends.
-#[derive(Clone, Copy)]
-pub(crate) struct EndOfFront {
-    pub(crate) version: Version,
-    pub(crate) used: usize,
-    pub(crate) why: Why,
-}
-
-impl EndOfFront {
-    /// Where that is, and not what closes it.
-    pub(crate) fn of(ending: &Ending) -> EndOfFront {
-        EndOfFront {
-            version: ending.version,
-            used: ending.used,
-            why: ending.why,
-        }
-    }
-}
 
 /// The last bytes of a log, all or some.
 #[derive(Clone, Copy)]
@@ -55,7 +36,7 @@ impl<'a> LastBytes<'a> {
 
 // Where the front ends in the last bytes of a log, before which so many stand. A log is another than
 // it was if it does not.
-fn place_in(bytes: &[u8], before: usize, end: EndOfFront) -> Result<usize, Refusal>
+fn place_in(bytes: &[u8], before: usize, end: Edge) -> Result<usize, Refusal>
     ensures { IfOk result (λ place. (32 ≤ place) × (place ≤ length bytes.now)) }
 {
     let place = end.used.saturating_sub(before);
@@ -68,7 +49,7 @@ fn place_in(bytes: &[u8], before: usize, end: EndOfFront) -> Result<usize, Refus
 /// An end of a front behind which nothing is written.
 #[derive(Clone, Copy)]
 pub(crate) struct BadEnd {
-    end: EndOfFront,
+    end: Edge,
     total: usize,
     // Why no crash left what stands there; none if one can have.
     damage: Option<Damage>,
@@ -76,7 +57,7 @@ pub(crate) struct BadEnd {
 
 impl BadEnd {
     /// The end of a front that is not recovered, of a log of so many bytes.
-    pub(crate) fn damaged(end: EndOfFront, total: usize, damage: Damage) -> BadEnd {
+    pub(crate) fn damaged(end: Edge, total: usize, damage: Damage) -> BadEnd {
         BadEnd {
             end,
             total,
@@ -103,7 +84,7 @@ impl BadEnd {
 
 impl fmt::Display for BadEnd {
     fn fmt<W: fmt::Write>(&self, f: &mut fmt::Formatter<W>) -> fmt::Result {
-        let (used, total, why) = (self.end.used, self.total, why_word(self.end.why));
+        let (used, total, why) = (self.end.used, self.total, self.end.why.word());
         write!(
             f,
             "its front ends by {why} at {used} of {total} bytes, and "
@@ -136,9 +117,14 @@ fn moved(damage: Damage, before: usize) -> Damage {
 
 // Why nothing is written behind a front; none if something is: nothing stands there, or the
 // beginning of a frame.
-fn bad_end(alloc: Global, last: LastBytes<'_>, end: EndOfFront) -> Result<Option<BadEnd>, Refusal> {
+fn bad_end(
+    alloc: Global,
+    last: LastBytes<'_>,
+    version: Version,
+    end: Edge,
+) -> Result<Option<BadEnd>, Refusal> {
     let place = place_in(last.bytes, last.before, end)?;
-    let damage = Damage::left_behind(alloc, end.version, last.bytes, place, end.why)?;
+    let damage = Damage::left_behind(alloc, version, last.bytes, place, end.why)?;
     if damage.is_none() && matches!(end.why, Why::Whole | Why::Cut) {
         return Ok(None);
     }
@@ -170,12 +156,13 @@ fn right_frames(
 pub(crate) fn left_out(
     alloc: Global,
     last: LastBytes<'_>,
-    end: EndOfFront,
+    version: Version,
+    end: Edge,
 ) -> Result<LeftOut, Refusal> {
     let place = place_in(last.bytes, last.before, end)?;
     Ok(LeftOut {
         bytes: last.bytes.len() - place,
-        frames: right_frames(alloc, end.version, last.bytes, place)?,
+        frames: right_frames(alloc, version, last.bytes, place)?,
     })
 }
 
@@ -184,12 +171,13 @@ pub(crate) fn left_out(
 pub(crate) fn expect_end(
     alloc: Global,
     last: LastBytes<'_>,
-    end: EndOfFront,
+    version: Version,
+    end: Edge,
     drops: bool,
 ) -> Result<Option<LeftOut>, Refusal> {
-    match bad_end(alloc, last, end)? {
+    match bad_end(alloc, last, version, end)? {
         None => Ok(None),
-        Some(_) if drops => Ok(Some(left_out(alloc, last, end)?)),
+        Some(_) if drops => Ok(Some(left_out(alloc, last, version, end)?)),
         Some(bad) => Err(Refusal::Damaged(bad)),
     }
 }

@@ -2,7 +2,7 @@
 
 use crate::fronts::OpenLog;
 use crate::refusal::{Refusal, Stream, failed};
-use rq_file::NamedFile;
+use rq_file::{NamedFile, Replaces};
 use rq_journal::Ending;
 use std::fs::{File, Files, OpenFile, OpenOptions, TryLockError};
 use std::io::{self, ErrorKind, Seek, SeekFrom, Write};
@@ -92,7 +92,7 @@ impl HeldLog {
         R: Files<File = File>,
     {
         self.expect_as_read(rt, log.read)?;
-        let used = log.opened.used;
+        let used = log.opened.end.used;
         match write_behind(self.place.file_mut(), log.read, used, &log.frames) {
             Ok(()) => Ok(()),
             Err(error) => {
@@ -109,7 +109,7 @@ impl HeldLog {
         R: Files<File = File>,
     {
         self.expect_as_read(rt, read)?;
-        match write_behind(self.place.file_mut(), read, ending.used, &ending.tail) {
+        match write_behind(self.place.file_mut(), read, ending.end.used, &ending.tail) {
             Ok(()) => Ok(()),
             Err(error) => Err(Refusal::Failed(Stream::LogToRecover, error)),
         }
@@ -132,5 +132,7 @@ pub(crate) fn put_whole<R>(rt: &R, to: &str, stream: Stream, bytes: &[u8]) -> Re
 where
     R: Files<File = File> + AllocGlobal,
 {
-    rq_file::put_file(rt, to, bytes).map_err(|error| failed(stream, error))
+    Replaces::Anything
+        .put_over(rt, to, &[bytes])
+        .map_err(|error| failed(stream, error))
 }

@@ -1,6 +1,6 @@
 //! Where the front of a log ends, plain or carried on.
 
-use crate::damage::{EndOfFront, LINK_LEN, LastBytes, LeftOut, expect_end};
+use crate::damage::{LINK_LEN, LastBytes, LeftOut, expect_end};
 use crate::inputs::{LentLog, ReadLog, begins_carried, feed_file, last_of_log, rest_of_log};
 use crate::refusal::Refusal;
 use byteorder::{BigEndian, ByteOrder};
@@ -41,18 +41,14 @@ impl OpenLog {
         last: LastBytes<'_>,
         drops: bool,
     ) -> Result<(), Refusal> {
-        let end = EndOfFront {
-            version: self.version(),
-            used: self.opened.used,
-            why: self.opened.why,
-        };
-        self.left_out = expect_end(alloc, last, end, drops)?;
+        let (version, end) = (self.version(), self.opened.end);
+        self.left_out = expect_end(alloc, last, version, end, drops)?;
         Ok(())
     }
 
     /// How many bytes the log has with the frames.
     pub(crate) fn len(&self) -> usize {
-        self.opened.used.saturating_add(self.frames.len())
+        self.opened.end.used.saturating_add(self.frames.len())
     }
 
     /// Whether a state behind so many records more can be spelled: it numbers 4,294,967,295 at most.
@@ -82,7 +78,7 @@ fn numbered_before(bytes: &[u8], is_carried: bool) -> u64 {
 
 // Where a log of so many bytes was opened, before whose first frame so many records were numbered.
 fn open_at(alloc: Global, opened: Opened, read: usize, before: u64) -> OpenLog {
-    let next = before.saturating_add(opened.records as u64);
+    let next = before.saturating_add(opened.end.records as u64);
     OpenLog {
         opened,
         read,
@@ -160,9 +156,9 @@ where
         return opened_front(rt, rt.alloc(), &read, plan, drops);
     }
     let mut log = plain_front(rt, file, plan)?;
-    if !matches!(log.opened.why, Why::Whole) {
-        let before = log.opened.used.saturating_sub(LINK_LEN);
-        let most = telling(log.opened.why, drops).saturating_add(LINK_LEN);
+    if !matches!(log.opened.end.why, Why::Whole) {
+        let before = log.opened.end.used.saturating_sub(LINK_LEN);
+        let most = telling(log.opened.end.why, drops).saturating_add(LINK_LEN);
         let bytes = last_of_log(rt, file, before, most)?;
         let last = LastBytes {
             bytes: &bytes,

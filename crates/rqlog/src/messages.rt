@@ -60,7 +60,7 @@ pub(crate) fn tell_recovered<R: Print>(
     kept: &Option<String>,
     made: &MadeWhole,
 ) -> io::Result<()> {
-    let (offset, cut) = (made.ending.used, made.cut.len());
+    let (offset, cut) = (made.ending.end.used, made.cut.len());
     let (units, bytes) = (
         made.ending.units,
         offset.saturating_add(made.ending.tail.len()),

@@ -1,7 +1,7 @@
 //! The file of a new log, which takes nobody's place.
 
 use crate::refusal::{Refusal, Stream, failed};
-use rq_file::{Replaces, put_over};
+use rq_file::Replaces;
 use std::fs::{self, File, Files};
 use std::io::ErrorKind;
 
@@ -18,7 +18,7 @@ pub(crate) fn put_new<R>(rt: &R, new: &str, bytes: &[u8]) -> Result<(), Refusal>
 where
     R: Files<File = File> + AllocGlobal,
 {
-    match put_over(rt, new, &[bytes], &Replaces::Nothing) {
+    match Replaces::Nothing.put_over(rt, new, &[bytes]) {
         Ok(()) => Ok(()),
         Err(error) if error.kind() == ErrorKind::AlreadyExists => Err(Refusal::There),
         Err(error) => Err(failed(Stream::New, error)),

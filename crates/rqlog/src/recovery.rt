@@ -1,6 +1,6 @@
 //! A log that a crash left is made whole where it stands.
 
-use crate::damage::{BadEnd, EndOfFront, LastBytes, left_out};
+use crate::damage::{BadEnd, LastBytes, left_out};
 use crate::files::{HeldLog, Hold};
 use crate::inputs::{ReadLog, bytes_from, rest_of_log};
 use crate::messages::{tell_left_out, tell_recovered};
@@ -28,8 +28,7 @@ where
         Ok(made) => Ok(made),
         Err(NotRecovered::Log(fault)) => Err(Refusal::from(fault)),
         Err(NotRecovered::Damaged(ending, damage)) => {
-            let end = EndOfFront::of(&ending);
-            Err(Refusal::Damaged(BadEnd::damaged(end, bytes.len(), damage)))
+            Err(Refusal::Damaged(BadEnd::damaged(ending.end, bytes.len(), damage)))
         }
     }
 }
@@ -89,8 +88,8 @@ where
     if made.cut.is_empty() {
         return Ok(None);
     }
-    let name = kept_name(rt.alloc(), path, made.ending.used)?;
-    keep_cut(rt, &name, made.ending.used, &made.cut)?;
+    let name = kept_name(rt.alloc(), path, made.ending.end.used)?;
+    keep_cut(rt, &name, made.ending.end.used, &made.cut)?;
     Ok(Some(name))
 }
 
@@ -118,7 +117,8 @@ where
         Some(_) => Some(left_out(
             rt.alloc(),
             LastBytes::all(&read.bytes),
-            EndOfFront::of(&made.ending),
+            made.ending.version,
+            made.ending.end,
         )?),
         None => None,
     };

@@ -6,7 +6,7 @@ use crate::acts::{Request, is_frontless};
 use crate::failures::{Failure, FileTrouble, of_file};
 use crate::log_files::{is_over_log, shown_name, typed_name};
 use crate::words::{numbers_asked, order_asked};
-use rq_file::{Replaces, VERSION, put_over};
+use rq_file::{Replaces, VERSION};
 use rq_found::{Fault, Output, OverWrite, Trouble};
 use rq_look::REMARK;
 use rq_page::{Asked, BEGINNING};
@@ -119,7 +119,7 @@ where
         }
         return Ok(true);
     }
-    match put_over(rt, to, pieces, rule) {
+    match rule.put_over(rt, to, pieces) {
         Ok(()) => Ok(true),
         Err(error) => Err(not_made(rt, to, error)),
     }

@@ -49,9 +49,9 @@ fn is_opened<R: Threads + Sync + AllocGlobal>(
 ) -> bool {
     match open(rt, rt.alloc(), log, plan) {
         Ok(opened) => {
-            opened.used == log.len()
-                && opened.records == 4
-                && opened.why == Why::Whole
+            opened.end.used == log.len()
+                && opened.end.records == 4
+                && opened.end.why == Why::Whole
                 && takes(rt.alloc(), opened, frames)
         }
         Err(_) => false,

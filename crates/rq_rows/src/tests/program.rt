@@ -1,7 +1,7 @@
 //! Calls that the program never makes, or makes only through others, each once, with ample memory.
 
 use super::{CHECKPOINT, answer, log_of};
-use rq_file::put_file;
+use rq_file::Replaces;
 use rq_tool::{Command, Fault, Open, OverRead, OverWrite, Version, make_log_in};
 use rq_writer::decimal_number;
 use std::fs;
@@ -63,7 +63,7 @@ fn numbers_are_read(rt: HostRuntime) {
 #[test]
 fn a_file_is_made_and_made_again(rt: HostRuntime) -> Result<(), Fail> {
     for bytes in ["the first file", "another", ""] {
-        put_file(&rt, "made", bytes.as_bytes())?;
+        Replaces::Anything.put_over(&rt, "made", &[bytes.as_bytes()])?;
         assert!(rt; fs::read_to_string(&rt, "made")?.as_str() == bytes);
         assert!(rt;
             fs::symlink_metadata(&rt, "made.rq0").is_err(),

@@ -27,7 +27,7 @@ returns g c =
     let f = c.in_ok-front.front in
     let redone = subst (λ (z : List ℕ). IsRedoneFront z f) (c.borrowed.ensures ∙ c.deref-2.ensures.value)
     c.in_ok-front.ensures in
-    let framed = subst (λ (z : List ℕ). PutsFrame (take f.used b) f.last z c.framed.result) c.deref-3.ensures.value
+    let framed = subst (λ (z : List ℕ). PutsFrame (take f.end.used b) f.last z c.framed.result) c.deref-3.ensures.value
     c.framed.ensures in
     record {
       marks = marks b f c.in_ok-body.body.items redone c.in_ok-body.ensures.1 c.framed.result

@@ -32,5 +32,5 @@ returns c =
         ap length (encodes-chars word c.utf8.word),
       ),
       closed _ _ _ _ c.in_ok-push-2.ensures.bytes inv.0
-      ∙ ap (λ (cs : List ℕ). string_bytes c.args.text.now ++ quoted_text cs) all,
+          ∙ ap (λ (cs : List ℕ). string_bytes c.args.text.now ++ quoted_text cs) all,
     )

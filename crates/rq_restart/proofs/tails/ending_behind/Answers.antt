@@ -50,16 +50,17 @@ returns-clause-ending c =
     let d = (goal.at.returns-clause-ending c).In_ok-units in
     let from = c.args.from.now in
     let is = c.requires.1 in
-    let count : c.len-2.result ≡ length (units d) =
-    omega (arith, c.len-2.ensures, length-map c.in_ok-units.units.items unit_of) in
+    let all : c.len-2.result ≡ length (records d) =
+    omega (arith, c.len-2.ensures, length-map from.front.records.items record_of) in
+    let count : c.len-3.result ≡ length (units d) =
+    omega (arith, c.len-3.ensures, length-map c.in_ok-units.units.items unit_of) in
     let wrote = c.in_ok-append_aborts.ensures.bytes
     ∙ (λ i. c.new-tail.ensures.items i ++ frames_of (c.before-2.ensures i)
     (map model.Abort (map unit_of (c.deref.ensures.value i)))) in
     fits c.args.bytes.now from (units d) (record {
       version = from.version;
-      used = from.front.end;
-      why = from.front.why;
-      units = c.len-2.result;
+      end = record { used = from.front.end; records = c.len-2.result; why = from.front.why };
+      units = c.len-3.result;
       tail = c.append_aborts.new.out;
-    }) refl (omega (arith, is.front.within, is.short)) (are_open d) count
-    (omega (arith, c.len.ensures, c.len-2.ensures, c.if-len-front.false)) wrote
+    }) refl all (omega (arith, is.front.within, is.short)) (are_open d) count
+    (omega (arith, c.len.ensures, c.len-3.ensures, c.if-len-front.false)) wrote

@@ -6,7 +6,7 @@ use Rattle.rq_stats.proofs.statistics.text_of.Goals as goal
 pub returns : goal.returns
 returns c =
     let end = c.args.end.now in
-    let line = end_text end.records end.used end.total (why_of end.why) (string_bytes end.reason) in
+    let line = end_text end.front.next end.front.used end.front.total (why_of end.front.why) (string_bytes end.reason) in
     let beginning = beginning_text c.args.at in
     let lines = string_bytes c.in_ok-lines.lines in (
       lines,

@@ -19,8 +19,8 @@ rule_behind-requires g c =
       is.ends,
     )
 
-pub overflow_add-records : goal.overflow_add-records
-overflow_add-records g c =
+pub overflow_add-number : goal.overflow_add-number
+overflow_add-number g c =
     let h = c.in_ok-front.ensures.judged c.args.offset c.in_ok-begun.ensures in
     omega (arith, c.next.ensures.next, c.in_ok-begun.ensures.spells.next, h.few, h.is.front.short)
 
@@ -29,7 +29,7 @@ returns g c =
     let h = c.in_ok-front.ensures.judged c.args.offset c.in_ok-begun.ensures in
     let next = ap (λ (s : State). s.next) h.begins in
     found_at c.numbers_after.ensures c.args.bytes.now c.args.offset c.in_ok-front.front h.is _
-    (omega (arith, next, c.next.ensures.next, c.numbers_of.ensures.records))
+    (omega (arith, next, c.next.ensures.next, c.numbers_of.ensures.next))
     (record {
       used = c.numbers_of.ensures.used;
       total = c.numbers_of.ensures.total;

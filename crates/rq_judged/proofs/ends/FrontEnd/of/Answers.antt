@@ -12,7 +12,7 @@ rule_behind-requires g c =
 pub returns : goal.returns
 returns g c =
     found c.numbers_after.ensures c.runs_are_well_formed.ensures.start c.args.bytes.now c.in_ok-front.front
-    c.in_ok-front.ensures _ c.numbers_of.ensures.records
+    c.in_ok-front.ensures _ c.numbers_of.ensures.next
     (record {
       used = c.numbers_of.ensures.used;
       total = c.numbers_of.ensures.total;

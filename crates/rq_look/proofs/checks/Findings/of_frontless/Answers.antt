@@ -10,7 +10,7 @@ returns-clause-text c =
     let is = c.in_ok-end.ensures in
     let found = c.in_ok-end.found in
     let reason = string_bytes c.in_ok-end.end.reason in
-    let why = why_of c.in_ok-end.end.why in (
+    let why = why_of c.in_ok-end.end.front.why in (
       why,
       reason,
       found,

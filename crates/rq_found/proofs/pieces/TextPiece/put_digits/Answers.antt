@@ -2,7 +2,7 @@ use Rattle.std.proofs.Common.{◌++◌, ◌∙◌, ℕ, Fits, w8, ap, arith, sli
 use Rattle.std.proofs.lemmas.Bool.{cases_lt}
 use Rattle.std.proofs.lemmas.List.{get_or-take, get_or_past, length-take}
 use Rattle.rq_report.proofs.Digits.{digits_are}
-use Rattle.rq_found.proofs.pieces.put_digits.Goals as goal
+use Rattle.rq_found.proofs.pieces.TextPiece.put_digits.Goals as goal
 
 pub returns : goal.returns
 returns c =
