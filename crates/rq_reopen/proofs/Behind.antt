@@ -26,12 +26,12 @@ use Rattle.rq_reopen.proofs.Found.{begins_with_safe, committed_there}
 
 -- the machine and the framer stand behind the front
 pub is_found : (c : List ℕ) (f : RedoneFront) (machine : State) (framer : Framer) (k : Kernel) → IsRedoneFront c f
-    → machine ≡ f.state → framer.last ≡ f.last → framer.len ≡ f.used
+    → machine ≡ f.state → framer.last ≡ f.last → framer.len ≡ f.end.used
     → ((rs : List Record) → MayFollow (version_of f.version) empty rs
     → length (log_of (version_of f.version) rs) ≤ log_limit → machine ≡ run empty rs
     → IsFramerAt (behind_header (version_of f.version)) rs framer
     → IsKernelBehind (version_of f.version) rs (log_of (version_of f.version) rs) k)
-    → IsFound c (record { version = f.version; used = f.used; records = f.records; why = f.why; kernel = k })
+    → IsFound c (record { version = f.version; end = f.end; kernel = k })
 is_found c f machine framer k is same last len behind = record {
   records = rs;
   front = is.front;
@@ -39,11 +39,11 @@ is_found c f machine framer k is same last len behind = record {
   used = is.used;
   count = is.count;
   at = behind rs
-      (follows version empty (start version) is.front.bytes (drop f.used c) rs is.front.longest.begins)
+      (follows version empty (start version) is.front.bytes (drop f.end.used c) rs is.front.longest.begins)
       (omega (
         arith,
-        ap length (front_whole c version rs (drop f.used c) is.front),
-        length-append (log_of version rs) (drop f.used c),
+        ap length (front_whole c version rs (drop f.end.used c) is.front),
+        length-append (log_of version rs) (drop f.end.used c),
         is.front.short,
       ))
       (same ∙ is.state)
@@ -58,7 +58,7 @@ is_found c f machine framer k is same last len behind = record {
 
 pub goes_on_at : SyncedStays → CommitStays → (c : List ℕ) (l : FoundLog) → IsFound c l → GoesOnAt c l
 goes_on_at stays commits c l is version rs m w managed safe known left =
-    let found = begins_with_safe stays c version (version_of l.version) rs is.records m w (drop l.used c) managed safe
+    let found = begins_with_safe stays c version (version_of l.version) rs is.records m w (drop l.end.used c) managed safe
     known left is.front in
     let at = subst (λ (v : Version). IsKernelBehind v is.records (log_of v is.records) l.kernel) found.0 is.at in
     let there = subst (λ (xs : List Record). IsKernelBehind version xs (log_of version xs) l.kernel) found.2 at in
@@ -80,7 +80,7 @@ is_exactly_found begins one c l is version rs m w missing managed known front =
     at.bytes ∙ ap (λ (x : List ℕ). x ++ pending) (sym bytes ∙ front) ∙ append_assoc c missing pending in
     let long : 40 ≤ length c = headed_front c l is in
     let left = begins version rs c (missing ++ pending) at.may log long is.front.short in
-    let same = one c (version_of l.version) version is.records (take left.count rs) (drop l.used c) left.rest is.front left.front in
+    let same = one c (version_of l.version) version is.records (take left.count rs) (drop l.end.used c) left.rest is.front left.front in
     record {
       count = left.count;
       whole = left.whole;
@@ -91,8 +91,8 @@ is_exactly_found begins one c l is version rs m w missing managed known front =
     headed_front : (c : List ℕ) (l : FoundLog) → IsFound c l → 40 ≤ length c
     headed_front c l is = omega (
       arith,
-      ap length (front_whole c (version_of l.version) is.records (drop l.used c) is.front),
-      length-append (log_of (version_of l.version) is.records) (drop l.used c),
+      ap length (front_whole c (version_of l.version) is.records (drop l.end.used c) is.front),
+      length-append (log_of (version_of l.version) is.records) (drop l.end.used c),
       length-append (header (version_of l.version)) (frames_of (start (version_of l.version)) is.records),
       header_long (version_of l.version),
     )
@@ -106,7 +106,7 @@ stands_within c l is =
         arith,
         is.at.framer.len,
         log_long (version_of l.version) is.records,
-        ap length (front_whole c (version_of l.version) is.records (drop l.used c) is.front),
-        length-append log (drop l.used c),
+        ap length (front_whole c (version_of l.version) is.records (drop l.end.used c) is.front),
+        length-append log (drop l.end.used c),
       ),
     )

@@ -28,14 +28,14 @@ pub opens_there : (c : List ℕ) (l : FoundLog) (drops : Bool) → IsFound c l �
     → OpensBehind c l drops result → OpensLog c drops result
 opens_there c l drops found (Ok o) is = (
   subst (IsFound c) (sym is.0) found,
-  is.1 ∙ ap (λ (x : FoundLog). drop x.used c) (sym is.0),
+  is.1 ∙ ap (λ (x : FoundLog). drop x.end.used c) (sym is.0),
   subst (λ (x : FoundLog). MayBeCut c x drops o.damage) (sym is.0) is.2,
 )
 opens_there c l drops found (Err (Log fault)) is = subst (Refused c) (sym is) tt
 opens_there c l drops found (Err (Damaged x damage)) is = (
   subst (IsFound c) (sym is.0) found,
   is.1,
-  subst (λ (z : FoundLog). IsDamage c z.used (why_of z.why) damage) (sym is.0) is.2,
+  subst (λ (z : FoundLog). IsDamage c z.end.used (why_of z.end.why) damage) (sym is.0) is.2,
 )
 
 -- and what is known of that holds of what is opened
@@ -45,7 +45,7 @@ opened_so P c l drops (Ok o) is h = subst P (sym is.0) h
 opened_so P c l drops (Err e) is h = tt
 
 -- a front is longer than a link, and stands within the bytes
-pub found_within : (c : List ℕ) (l : FoundLog) → IsFound c l → (32 ≤ l.used) × (l.used ≤ length c)
+pub found_within : (c : List ℕ) (l : FoundLog) → IsFound c l → (32 ≤ l.end.used) × (l.end.used ≤ length c)
 found_within c l is =
     let log = log_of (version_of l.version) is.records in
     let long = length-append (header (version_of l.version)) (frames_of (start (version_of l.version)) is.records) in
@@ -54,7 +54,7 @@ found_within c l is =
       omega (
         arith,
         is.used,
-        ap length (front_whole c (version_of l.version) is.records (drop l.used c) is.front),
-        length-append log (drop l.used c),
+        ap length (front_whole c (version_of l.version) is.records (drop l.end.used c) is.front),
+        length-append log (drop l.end.used c),
       ),
     )

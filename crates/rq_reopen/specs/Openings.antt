@@ -24,11 +24,11 @@ use Rattle.rq_reopen.specs.declared.openings.NotOpened.TheVariants.{Log, Damaged
 -- the kernel stands behind the front of c
 pub record IsFound (c : List ℕ) (l : FoundLog) : Type 0 where
   pub records : List Record
-  pub front : IsFront c (version_of l.version) records (drop l.used c)
+  pub front : IsFront c (version_of l.version) records (drop l.end.used c)
   pub ends : IsWhy (version_of l.version) (run empty records) (last_of (start (version_of l.version)) records)
-      (drop l.used c) (why_of l.why)
-  pub used : l.used ≡ length (log_of (version_of l.version) records)
-  pub count : l.records ≡ length records
+      (drop l.end.used c) (why_of l.end.why)
+  pub used : l.end.used ≡ length (log_of (version_of l.version) records)
+  pub count : l.end.records ≡ length records
   pub at : IsKernelBehind (version_of l.version) records (log_of (version_of l.version) records) l.kernel
 
 -- that, or why c is refused
@@ -67,26 +67,26 @@ IsExactlyFound c l =
 
 -- what stands behind the front is what a crash can leave; or, if it is to be dropped, this damage
 abbrev pub MayBeCut : List ℕ → FoundLog → Bool → Option Damage → Type 0
-MayBeCut c l drops None = IsLeftByCrash (version_of l.version) c l.used (why_of l.why)
-MayBeCut c l drops (Some damage) = (drops ≡ true) × IsDamage c l.used (why_of l.why) damage
+MayBeCut c l drops None = IsLeftByCrash (version_of l.version) c l.end.used (why_of l.end.why)
+MayBeCut c l drops (Some damage) = (drops ≡ true) × IsDamage c l.end.used (why_of l.end.why) damage
 
 -- what stands behind the front is handed back, with what is known of it
 abbrev pub CutsBehind : List ℕ → FoundLog → Option Damage → Result Opening NotOpened → Type 0
-CutsBehind c l damage (Ok o) = (o.found ≡ l) × (o.cut.items ≡ drop l.used c) × (o.damage ≡ damage)
+CutsBehind c l damage (Ok o) = (o.found ≡ l) × (o.cut.items ≡ drop l.end.used c) × (o.damage ≡ damage)
 CutsBehind c l damage (Err (Log fault)) = fault ≡ Resources
 CutsBehind c l damage (Err (Damaged found _)) = ⊥
 
 -- c is opened behind this front; or it is not, since damage stands there that is not to be dropped, or
 -- memory was refused
 abbrev pub OpensBehind : List ℕ → FoundLog → Bool → Result Opening NotOpened → Type 0
-OpensBehind c l drops (Ok o) = (o.found ≡ l) × (o.cut.items ≡ drop l.used c) × MayBeCut c l drops o.damage
+OpensBehind c l drops (Ok o) = (o.found ≡ l) × (o.cut.items ≡ drop l.end.used c) × MayBeCut c l drops o.damage
 OpensBehind c l drops (Err (Log fault)) = fault ≡ Resources
 OpensBehind c l drops (Err (Damaged found damage)) = (found ≡ l) × (drops ≡ false)
-    × IsDamage c l.used (why_of l.why) damage
+    × IsDamage c l.end.used (why_of l.end.why) damage
 
 -- how c is opened, or why it is not
 abbrev pub OpensLog : List ℕ → Bool → Result Opening NotOpened → Type 0
-OpensLog c drops (Ok o) = IsFound c o.found × (o.cut.items ≡ drop o.found.used c) × MayBeCut c o.found drops o.damage
+OpensLog c drops (Ok o) = IsFound c o.found × (o.cut.items ≡ drop o.found.end.used c) × MayBeCut c o.found drops o.damage
 OpensLog c drops (Err (Log fault)) = Refused c fault
 OpensLog c drops (Err (Damaged found damage)) = IsFound c found × (drops ≡ false)
-    × IsDamage c found.used (why_of found.why) damage
+    × IsDamage c found.end.used (why_of found.end.why) damage

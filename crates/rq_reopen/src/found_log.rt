@@ -6,10 +6,11 @@ ghost use Rattle.rq_reopen.specs.Openings.{Finds, GoesOnAt, IsExactlyFound};
 ghost use Rattle.rq_reopen.specs.Reopenings.{IsNoMishap};
 
 use rq_front::Framer;
+use rq_judged::Edge;
 use rq_live::Kernel;
 use rq_plan::Plan;
 use rq_record::{Fault, LogBytes, Version};
-use rq_restart::{RedoneFront, Why};
+use rq_restart::RedoneFront;
 use rq_standing::Machine;
 use std::alloc::Global;
 use std::marker::Sync;
@@ -20,12 +21,8 @@ use std::thread::Threads;
 pub struct FoundLog {
     /// The version of the log.
     pub version: Version,
-    /// How many of the bytes are its front.
-    pub used: usize,
-    /// How many records the front has.
-    pub records: usize,
-    /// Why it ends.
-    pub why: Why,
+    /// Where its front ends, and why.
+    pub end: Edge,
     /// The queues as they stand behind the front, with the units that were open there.
     pub kernel: Kernel,
 }
@@ -54,12 +51,10 @@ impl FoundLog {
         rq_model::one_front();
         let front = RedoneFront::of(rt, alloc, left, plan)?;
         let machine = Machine::of(alloc, &front.state)?;
-        let framer = Framer::after(front.last, front.used);
+        let framer = Framer::after(front.last, front.end.used);
         Ok(FoundLog {
             version: front.version,
-            used: front.used,
-            records: front.records,
-            why: front.why,
+            end: front.end,
             kernel: Kernel::standing(alloc, front.version, machine, framer),
         })
     }

@@ -51,10 +51,10 @@ fn cut_behind(
     found: FoundLog,
     damage: Option<Damage>,
 ) -> Result<Opening, NotOpened>
-    requires { found.used ≤ length bytes.now }
+    requires { found.end.used ≤ length bytes.now }
     ensures { CutsBehind bytes.now found damage result }
 {
-    match cut_from(alloc, bytes, found.used) {
+    match cut_from(alloc, bytes, found.end.used) {
         Ok(cut) => Ok(Opening { found, cut, damage }),
         Err(fault) => Err(NotOpened::Log(fault)),
     }
@@ -68,11 +68,11 @@ fn opened_behind(
     found: FoundLog,
     drops: bool,
 ) -> Result<Opening, NotOpened>
-    requires after { 32 ≤ found.used }
-    requires within { found.used ≤ length bytes.now }
+    requires after { 32 ≤ found.end.used }
+    requires within { found.end.used ≤ length bytes.now }
     ensures { OpensBehind bytes.now found drops result }
 {
-    match Damage::left_behind(alloc, found.version, bytes, found.used, found.why) {
+    match Damage::left_behind(alloc, found.version, bytes, found.end.used, found.end.why) {
         Ok(None) => cut_behind(alloc, bytes, found, None),
         Ok(Some(damage)) => {
             if drops {

@@ -203,7 +203,7 @@ fn goes_on_from<R: Threads + Sync + AllocGlobal>(
     let Ok(opened) = Opening::of(rt, rt.alloc(), &LogBytes::borrowed(left), plan, false) else {
         return Ok(false);
     };
-    if left.len() > WINDOW || left.get(opened.found.used..) != Some(opened.cut.as_slice()) {
+    if left.len() > WINDOW || left.get(opened.found.end.used..) != Some(opened.cut.as_slice()) {
         return Ok(false);
     }
     let device = Memory::left_by_crash(Vec::from_slice(rt.alloc(), left)?, 0);

@@ -19,9 +19,7 @@ returns-clause-survives g c =
     goes_on_at c.crash_leaves.ensures.synced c.crash_leaves.ensures.commit c.args.left.now
     (record {
       version = c.in_ok-front.front.version;
-      used = c.in_ok-front.front.used;
-      records = c.in_ok-front.front.records;
-      why = c.in_ok-front.front.why;
+      end = c.in_ok-front.front.end;
       kernel = c.standing.result;
     })
     (returns-clause-finds g c)
@@ -31,9 +29,7 @@ returns-clause-exact g c =
     is_exactly_found c.crash_leaves.ensures.beginning c.one_front.ensures.front c.args.left.now
     (record {
       version = c.in_ok-front.front.version;
-      used = c.in_ok-front.front.used;
-      records = c.in_ok-front.front.records;
-      why = c.in_ok-front.front.why;
+      end = c.in_ok-front.front.end;
       kernel = c.standing.result;
     })
     (returns-clause-finds g c)
@@ -43,9 +39,7 @@ returns-clause-within g c =
     stands_within c.args.left.now
     (record {
       version = c.in_ok-front.front.version;
-      used = c.in_ok-front.front.used;
-      records = c.in_ok-front.front.records;
-      why = c.in_ok-front.front.why;
+      end = c.in_ok-front.front.end;
       kernel = c.standing.result;
     })
     (returns-clause-finds g c)
