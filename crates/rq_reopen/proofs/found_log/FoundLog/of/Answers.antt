@@ -10,8 +10,8 @@ use Rattle.rq_reopen.proofs.found_log.FoundLog.of.Goals as goal
 
 pub returns-clause-finds : goal.returns-clause-finds
 returns-clause-finds g c =
-    is_found c.args.left.now c.in_ok-front.front c.in_ok-machine.machine c.after.result c.standing.result
-    c.in_ok-front.ensures c.in_ok-machine.ensures.made c.after.ensures.last c.after.ensures.len
+    is_found c.args.left.now c.in_ok-front.front c.in_ok-machine.machine c.after-framer.result c.standing.result
+    c.in_ok-front.ensures c.in_ok-machine.ensures.made c.after-framer.ensures.last c.after-framer.ensures.len
     c.standing.ensures.stands
 
 pub returns-clause-survives : goal.returns-clause-survives
@@ -54,7 +54,7 @@ returns-in_err-front-clause-headed g c =
 pub returns-in_err-machine-clause-headed : goal.returns-in_err-machine-clause-headed
 returns-in_err-machine-clause-headed g c =
     let e = c.in_err-machine.field-0.0 in
-    let answer : c.from_residual.result ≡ Err e = search rules in
+    let answer : c.from_residual-in_err-machine.result ≡ Err e = search rules in
     subst (λ (r : Result FoundLog Fault). IfErr r (IsNoMishap c.args.left.now)) (sym answer)
     (subst (IsNoMishap c.args.left.now) (sym c.in_err-machine.ensures.refused)
     (mishap c.crash_leaves.ensures.headed c.args.left.now Resources tt))
