@@ -5,6 +5,7 @@ mod fronts;
 mod gates;
 mod layers;
 mod live;
+mod log_files;
 mod program;
 mod scarce;
 mod standby;

@@ -295,7 +295,7 @@ impl Device for Failing {
 }
 
 // How many units are committed of five, each of which is to be written and synced.
-fn committed_of<D: Device + Drop>(alloc: Global, m: &mut Manager<D>) -> usize
+pub(crate) fn committed_of<D: Device + Drop>(alloc: Global, m: &mut Manager<D>) -> usize
     requires { IsInOrder (stand_of D.written D.synced D.doubted D.failed m.old) }
 {
     let mut committed = 0usize;
