@@ -1,5 +1,5 @@
 use Rattle.rq_journal.proofs.Openings.{judged_of, judged_at}
-use Rattle.rq_journal.proofs.opened_logs.Opened.of_redone.Goals as goal
+use Rattle.rq_journal.proofs.appender.Opened.of_redone.Goals as goal
 
 pub returns-clause-whole : goal.returns-clause-whole
 returns-clause-whole c = λ b h.

@@ -1,5 +1,5 @@
 use Rattle.rq_writer.proofs.Hex.{decoded_more}
-use Rattle.rq_writer.proofs.hexes.pairs.Goals as goal
+use Rattle.rq_writer.proofs.fields.pairs.Goals as goal
 
 pub loop-high-preserved : goal.loop-high-preserved
 loop-high-preserved c =

@@ -1,7 +1,7 @@
 use Rattle.std.proofs.Common.{subst, sym}
 use Rattle.rq_judged.specs.GrowingFronts.{GoesAlong}
-use Rattle.rqlog.proofs.inputs.feed_file.Goals.{else-loop-test, then-loop-test+in_ok-count+in_ok-feed+then-count-eq0}
-use Rattle.rqlog.proofs.inputs.feed_file.Goals as goal
+use Rattle.rqlog.proofs.fronts.feed_file.Goals.{else-loop-test, then-loop-test+in_ok-count+in_ok-feed+then-count-eq0}
+use Rattle.rqlog.proofs.fronts.feed_file.Goals as goal
 
 pub loop-preserved : goal.loop-preserved
 loop-preserved g c = let (b, along) = c.loop.invariant in (_, c.in_ok-feed.ensures.taken b along)
