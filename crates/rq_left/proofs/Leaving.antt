@@ -2,7 +2,8 @@
 use Rattle.std.proofs.Common.{◌≡◌, ℕ, ◌≤◌, List, [], ◌∷◌, ◌++◌, length, take, drop, true}
 use Rattle.std.proofs.Common.{refl, sym, ap, subst, ◌∙◌, arith, append_assoc}
 use Rattle.std.proofs.lemmas.Bool.{and_parts}
-use Rattle.std.proofs.lemmas.List.{append-nil, take-take, take-append-le, take-append-drop, take_all, append_cancel_left, length-append}
+use Rattle.std.proofs.lemmas.List.{append-nil, take-take, take-append-le, take-append-drop, take_all}
+use Rattle.std.proofs.lemmas.List.{append_cancel_left, length-append}
 use Rattle.rq_model.specs.Records.{Record, Commit, Version}
 use Rattle.rq_model.specs.Frames.{log_limit, log_of, header, start, frames_of, last_of, Whole}
 use Rattle.rq_model.specs.States.{empty}

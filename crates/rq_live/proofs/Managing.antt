@@ -1,9 +1,10 @@
 -- A manager that does a record, and one that settles.
-use Rattle.std.proofs.Common.{◌≡◌, ℕ, Bool, true, false, List, [], ◌∷◌, ◌++◌, Option, Some, None, sym, ap, subst, map, take, append_assoc}
+use Rattle.std.proofs.Common.{◌≡◌, ℕ, Bool, true, false, List, [], ◌∷◌, ◌++◌, Option, Some, None, sym, ap, subst, map}
+use Rattle.std.proofs.Common.{take, append_assoc}
 use Rattle.std.proofs.Common.{◌∙◌, ◌+◌, ◌-◌, ◌*◌, ◌<◌, ◌≤◌, length, inl, inr, arith}
 use Rattle.std.specs.List.{AllByRecursion}
 use Rattle.std.proofs.lemmas.Bool.{and_parts, eqb-true, false≢true, lt-ltb}
-use Rattle.std.specs.Prelude.{Result, Ok, Err, OnOk, IfErr, ◌==◌, ◌&&◌}
+use Rattle.std.specs.Prelude.{Result, Ok, Err, OnOk, IfErr, ◌==◌}
 use Rattle.std.specs.Global.{Vec}
 use Rattle.std.specs.Io.KnownBytes.{append_known}
 use Rattle.std.proofs.Math.Seq.{take-nil}
@@ -20,7 +21,7 @@ use Rattle.rq_model.specs.Machine.{aborts, is_free_at, run}
 use Rattle.rq_model.specs.Fronts.{IsFront}
 use Rattle.rq_model.specs.LogLaws.{FrontStops}
 use Rattle.rq_model.specs.Checkpoints.{TrueAt}
-use Rattle.rq_model.specs.Appending.{AppendedIsFront, CheckpointIsTrue, FitsCheckpoint}
+use Rattle.rq_model.specs.Appending.{AppendedIsFront, CheckpointIsTrue}
 use Rattle.rq_record.specs.declared.record.ElemId.{ElemId}
 use Rattle.rq_queue.specs.Firsts.{AreFirst}
 use Rattle.rq_live.proofs.PartListings.{lists_all}
@@ -28,10 +29,13 @@ use Rattle.rq_device.specs.Devices.{AreStored, IsAllSynced, cut_known}
 use Rattle.rq_live.specs.declared.kernel.Kernel.{Kernel}
 use Rattle.rq_live.specs.declared.kernel.NotDone.{NotDone}
 use Rattle.rq_live.specs.declared.kernel.NotDone.TheVariants.{Unlawful, Full, Large, Ended, Spent}
-use Rattle.rq_live.specs.Kernels.{KernelTakes, KernelStays, KernelRefuses, KernelMarks, IsWhyNotTaken, HasRoomForEnds, HasNoRoom}
+use Rattle.rq_live.specs.Kernels.{KernelTakes, KernelStays, KernelRefuses, KernelMarks, IsWhyNotTaken, HasRoomForEnds}
+use Rattle.rq_live.specs.Kernels.{HasNoRoom}
 use Rattle.rq_live.specs.Kernels.{IsKernelBehind, checkpoint_in, length_with_ends}
-use Rattle.rq_live.specs.Managers.{Stand, Serves, IsManaged, Does, DoesTaking, ManagerStops, StopsEnd, StopsBegin, Settles}
-use Rattle.rq_live.specs.Managers.{AreFirstFree, DoesEach, AbortsAll, Secures, Resumes, StopsResume, Commits, MarksState}
+use Rattle.rq_live.specs.Managers.{Stand, IsManaged, Does, DoesTaking, ManagerStops, StopsEnd, StopsBegin}
+use Rattle.rq_live.specs.Managers.{Settles}
+use Rattle.rq_live.specs.Managers.{AreFirstFree, DoesEach, AbortsAll, Secures, Resumes, StopsResume, Commits}
+use Rattle.rq_live.specs.Managers.{MarksState}
 use Rattle.rq_live.specs.Managers.{MarksSafely}
 use Rattle.rq_live.proofs.Taking.{log_long, long_with_ends, some_open, commit_long, abort_long}
 use Rattle.rq_left.proofs.Leaving.{bare}
@@ -54,14 +58,16 @@ managed_on a k r id t version rs m =
     let x = t version rs m.bytes m.at in
     (over_kernel a k version rs (rs ++ r ∷ []) m x.0 x.1.room, x.1.lawful, x.1.element)
 
-pub managed_stops : (a : Stand) (k : Kernel) (r : Record) (why : NotDone) → KernelStays a.kernel k → KernelRefuses a.kernel r why
+pub managed_stops : (a : Stand) (k : Kernel) (r : Record) (why : NotDone) → KernelStays a.kernel k
+    → KernelRefuses a.kernel r why
     → (version : Version) (rs : List Record) → IsManaged version rs a
     → IsManaged version rs (record a { kernel = k }) × IsWhyNotTaken version rs r why
 managed_stops a k r why stays refuses version rs m =
     (over_kernel a k version rs rs m (stays version rs m.bytes m.at) m.room, refuses version rs m.bytes m.at)
 
 pub managed_marks : (a : Stand) (k : Kernel) (offset : ℕ) → KernelMarks a.kernel k → offset ≡ a.kernel.framer.len
-    → ((version : Version) (rs : List Record) → IsManaged version rs a → a.kernel.framer.len ≡ length (log_of version rs))
+    → ((version : Version) (rs : List Record) → IsManaged version rs a
+    → a.kernel.framer.len ≡ length (log_of version rs))
     → MarksState a (record a { kernel = k }) offset
 managed_marks a k offset marks is long version rs m =
     let x = marks version rs m.bytes m.at in
@@ -81,7 +87,8 @@ known_more None w bs h = tt
 known_more (Some x) w bs h = ap (λ (y : List ℕ). y ++ bs) h
 
 -- all pending bytes are written and synced
-pub settles : (a : Stand) (written : Option (List ℕ)) (synced : ℕ) (doubted failed : Bool) (pending : Vec ℕ) → failed ≡ false
+pub settles : (a : Stand) (written : Option (List ℕ)) (synced : ℕ) (doubted failed : Bool) (pending : Vec ℕ)
+    → failed ≡ false
     → doubted ≡ a.doubted → written ≡ append_known a.written a.kernel.pending.items → IsAllSynced written synced
     → pending.items ≡ [] → Settles a (record {
       written = written;
@@ -115,7 +122,8 @@ settles a written synced doubted failed pending works sure more all none version
     )
 
 -- a record that is done, and then settled
-pub done_so : (a m b : Stand) (r : Record) (id : Option ElemId) → DoesTaking a m r id → Settles m b → DoesTaking a b r id
+pub done_so : (a m b : Stand) (r : Record) (id : Option ElemId) → DoesTaking a m r id → Settles m b
+    → DoesTaking a b r id
 done_so a m b r id d s version rs h =
     let done = d version rs h in
     ((s version (rs ++ r ∷ []) done.0).0, done.1, done.2)
@@ -182,7 +190,8 @@ front_there stops appended version rs m managed =
     appended (header version ++ []) version [] [] rs (bare version stops) managed.at.may managed.at.short
 
 -- a checkpoint that was taken, and then settled, is true
-pub marks_so : FrontStops → AppendedIsFront → CheckpointIsTrue → (a m b : Stand) (offset : ℕ) → MarksState a m offset → Settles m b
+pub marks_so : FrontStops → AppendedIsFront → CheckpointIsTrue → (a m b : Stand) (offset : ℕ) → MarksState a m offset
+    → Settles m b
     → MarksSafely a b offset
 marks_so stops appended true_there a m b offset marks s version rs h =
     let x = marks version rs h in
@@ -202,10 +211,12 @@ does_none a version rs m = subst (λ (xs : List Record). IsManaged version xs a)
 pub does_one_more : (a m b : Stand) (xs : List Record) (r : Record) (id : Option ElemId) → DoesEach a m xs
     → DoesTaking m b r id → DoesEach a b (xs ++ r ∷ [])
 does_one_more a m b xs r id each one version rs h =
-    subst (λ (ys : List Record). IsManaged version ys b) (append_assoc rs xs (r ∷ [])) (one version (rs ++ xs) (each version rs h)).0
+    subst (λ (ys : List Record). IsManaged version ys b)
+    (append_assoc rs xs (r ∷ [])) (one version (rs ++ xs) (each version rs h)).0
 
 -- the first bytes of those that are stored
-front_stored : (known : Option (List ℕ)) (log rest : List ℕ) (len : ℕ) → len ≡ length log → AreStored known (log ++ rest)
+front_stored : (known : Option (List ℕ)) (log rest : List ℕ) (len : ℕ) → len ≡ length log
+    → AreStored known (log ++ rest)
     → AreStored (cut_known len known) log
 front_stored None log rest len long stored = tt
 front_stored (Some w) log rest len long stored = ap (take len) stored ∙ take_at log rest len (sym long)
@@ -231,7 +242,14 @@ secures_so a written synced doubted failed unspent works sure all cut room versi
       bytes = log;
       known = subst (λ (k : Option (List ℕ)). AreStored k log) (sym cut)
           (front_stored a.written log rest a.kernel.framer.len long stored);
-      at = record { rules = h.rules; may = h.may; short = h.short; state = h.state; framer = h.framer; bytes = h.bytes };
+      at = record {
+        rules = h.rules;
+        may = h.may;
+        short = h.short;
+        state = h.state;
+        framer = h.framer;
+        bytes = h.bytes;
+      };
       room = has_ends version rs a.kernel.framer.len (length a.kernel.machine.units) long
           (ap (λ (s : State). length s.units) h.state) room;
     }
@@ -272,7 +290,8 @@ no_room_for_ends k long version rs w h room = omega (
 )
 
 -- what holds of all elements holds of one that is there
-element_there : (s : State) (e : Element) (es : List Element) → AllByRecursion (IsElement s) es → IsIn e es → IsElement s e
+element_there : (s : State) (e : Element) (es : List Element) → AllByRecursion (IsElement s) es → IsIn e es
+    → IsElement s e
 element_there s e [] all here = absurd here
 element_there s e (f ∷ fs) all (inl is) = subst (IsElement s) (sym is) all.0
 element_there s e (f ∷ fs) all (inr later) = element_there s e fs all.1 later

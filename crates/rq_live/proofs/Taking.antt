@@ -1,8 +1,8 @@
 -- A record that is taken, and one that is not.
-use Rattle.std.proofs.Common.{◌≡◌, ℕ, ◌+◌, ◌-◌, ◌*◌, ◌<◌, ◌≤◌, ◌==◌, Bool, true, false, not, cond, List, [], ◌∷◌, ◌++◌, length}
+use Rattle.std.proofs.Common.{◌≡◌, ℕ, ◌+◌, ◌-◌, ◌*◌, ◌<◌, ◌≤◌, ◌==◌, Bool, true, false, not, cond, List, [], ◌∷◌, ◌++◌}
+use Rattle.std.proofs.Common.{length}
 use Rattle.std.proofs.Common.{◌∙◌, ◌||◌, refl, sym, ap, subst, append_assoc, arith}
-use Rattle.std.specs.Int.{w32, w64, to_be_bytes}
-use Rattle.std.specs.List.{filter, list_any}
+use Rattle.std.specs.List.{list_any}
 use Rattle.std.proofs.lemmas.Bool.{and_from, false≢true}
 use Rattle.std.proofs.lemmas.List.{append-nil, length-append}
 use Rattle.rq_model.specs.Records.{Record, Define, Register, Deregister, Begin, Enqueue, Dequeue, Commit, Abort}
@@ -11,7 +11,7 @@ use Rattle.rq_model.specs.Spelling.{body_of, IsRecord, Spells}
 use Rattle.rq_model.specs.Frames.{log_limit, IsBodyLength, digest, frame, frames_of, last_of, log_of, start, header}
 use Rattle.rq_model.specs.LogLaws.{RecordHasOneBody}
 use Rattle.rq_model.specs.States.{State, empty}
-use Rattle.rq_model.specs.Machine.{is_lawful, is_open, step, run, closed_units}
+use Rattle.rq_model.specs.Machine.{is_lawful, step, run, closed_units}
 use Rattle.rq_model.specs.Appending.{FitsCheckpoint}
 use Rattle.rq_model.proofs.Lists.{each_append, by_cases}
 use Rattle.rq_model.proofs.WellFormedRuns.{fewer}
@@ -31,8 +31,8 @@ use Rattle.rq_live.specs.declared.kernel.NotDone.TheVariants.{Unlawful, Full, La
 use Rattle.std.specs.Prelude.{Option}
 use Rattle.rq_record.specs.Views.{version_of}
 use Rattle.rq_record.specs.declared.record.ElemId.{ElemId}
-use Rattle.rq_state.specs.Views.{id_of}
-use Rattle.rq_live.specs.Kernels.{BreaksThere, IsKernelBehind, IsTaken, HasRoomForEnds, HasNoRoom, open_behind, length_with_ends}
+use Rattle.rq_live.specs.Kernels.{BreaksThere, IsKernelBehind, IsTaken, HasRoomForEnds, HasNoRoom, open_behind}
+use Rattle.rq_live.specs.Kernels.{length_with_ends}
 use Rattle.rq_live.specs.Kernels.{KernelTakes, KernelStays, KernelStops, KernelRefuses, KernelMarks, KernelStopsMark}
 use Rattle.rq_live.specs.Kernels.{checkpoint_in}
 
@@ -76,7 +76,8 @@ one_longer at rs r =
 
 -- so many bytes of a log and the ends of so many units
 pub long_with_ends : (version : Version) (rs : List Record) (r : Record) (count : ℕ)
-    → length_with_ends version (rs ++ r ∷ []) count ≡ length (log_of version rs) + (36 + length (body_of r)) + 45 * count
+    → length_with_ends version (rs ++ r ∷ []) count
+    ≡ length (log_of version rs) + (36 + length (body_of r)) + 45 * count
 long_with_ends version rs r count = omega (
   arith,
   log_long version (rs ++ r ∷ []),
@@ -161,7 +162,8 @@ moves_on version rs w r a b id h spelled done same_rules moved framed room =
     sym (λ i. is_lawful (h.rules i) (h.state i) r) ∙ done.0 in
     let state = moved ∙ ap (λ (s : State). step s r) h.state ∙ sym (run_join empty rs (r ∷ [])) in
     let units = units_behind version (run empty rs) r lawful in
-    let fits = subst (λ (s : State). a.framer.len + (36 + length (body_of r)) + 45 * open_behind (length s.units) r ≤ log_limit)
+    let fits = subst (λ (s : State). a.framer.len + (36 + length (body_of r)) + 45 * open_behind (length s.units) r
+    ≤ log_limit)
     h.state room in (
       record {
         rules = ap version_of same_rules ∙ h.rules;
@@ -186,8 +188,10 @@ moves_on version rs w r a b id h spelled done same_rules moved framed room =
       record {
         lawful = lawful;
         element = done.1 ∙ ap (λ (s : State). taken s r) h.state;
-        room = has_room version rs r (length (step (run empty rs) r).units) (open_behind (length (run empty rs).units) r) a.framer.len
-            units (ap (λ (s : State). length s.units) (run_join empty rs (r ∷ []))) (h.framer.len ∙ sym (log_long version rs)) fits;
+        room = has_room version rs r (length (step (run empty rs) r).units)
+            (open_behind (length (run empty rs).units) r) a.framer.len
+            units (ap (λ (s : State). length s.units) (run_join empty rs (r ∷ []))) (h.framer.len
+            ∙ sym (log_long version rs)) fits;
       },
     )
   where
@@ -220,7 +224,8 @@ pub no_room : (version : Version) (rs : List Record) (w : List ℕ) (r : Record)
     → log_limit < a.framer.len + (36 + length body) + 45 * open_behind (length a.machine.units) r
     → HasNoRoom version rs r
 no_room version rs w r a body h is lawful long =
-    let there = subst (λ (s : State). log_limit < a.framer.len + (36 + length body) + 45 * open_behind (length s.units) r)
+    let there = subst (λ (s : State). log_limit < a.framer.len + (36 + length body)
+    + 45 * open_behind (length s.units) r)
     h.state long in
     record {
       lawful = sym (λ i. is_lawful (h.rules i) (h.state i) r) ∙ lawful;
@@ -239,7 +244,8 @@ pub marks_on : (a b : Kernel) (r : Record) (id : Option ElemId) → KernelTakes 
     → FitsCheckpoint a.machine → KernelMarks a b
 marks_on a b r id takes is fits version rs w h =
     let same : r ≡ checkpoint_in (run empty rs) = is ∙ ap checkpoint_in h.state in
-    let x = subst (λ (q : Record). IsKernelBehind version (rs ++ q ∷ []) w b × IsTaken version rs q id) same (takes version rs w h) in
+    let x = subst (λ (q : Record). IsKernelBehind version (rs ++ q ∷ []) w b × IsTaken version rs q id) same
+    (takes version rs w h) in
     (x.0, subst FitsCheckpoint h.state fits, x.1.room)
 
 -- a checkpoint is lawful, so no other reason is left

@@ -180,7 +180,8 @@ Resumes a b = (version : Version) (rs : List Record) (rest : List ℕ) →
 abbrev pub StopsResume : Stand → Stand → NotDone → Type 0
 StopsResume a b Spent = b.spent ≡ true
 StopsResume a b Full = (b.spent ≡ true) × (b.written ≡ a.written) × (b.synced ≡ a.synced)
-    × ((version : Version) (rs : List Record) (w : List ℕ) → IsKernelBehind version rs w a.kernel → HasRoomForEnds version rs → ⊥)
+    × ((version : Version) (rs : List Record) (w : List ℕ) → IsKernelBehind version rs w a.kernel
+    → HasRoomForEnds version rs → ⊥)
 StopsResume a b why = ⊥
 
 -- wherever it stands, its log has so many bytes

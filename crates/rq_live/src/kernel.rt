@@ -1,6 +1,6 @@
 //! The queues as they stand, and the frames of what was done to them.
 
-ghost use Rattle.std.specs.Prelude.{◌≡◌, ◌≢◌, ◌<◌, ◌≤◌, ◌+◌, ◌*◌, ℕ, List, [], length, nat_le};
+ghost use Rattle.std.specs.Prelude.{◌≡◌, ◌≢◌, ◌<◌, ◌≤◌, ◌+◌, ◌*◌, List, [], length, nat_le};
 ghost use Rattle.std.specs.Prelude.{IfOk, IfErr, OnOk};
 ghost use Rattle.rq_model.specs.Records as model;
 ghost use Rattle.rq_model.specs.Appending.{MayFollow, FitsCheckpoint};
@@ -12,8 +12,7 @@ ghost use Rattle.rq_record.specs.Views.{record_of, version_of};
 ghost use Rattle.rq_record.specs.declared.fault.Fault.TheVariants.{Resources};
 ghost use Rattle.rq_front.specs.Framers.{IsFramerAt, behind_header};
 ghost use Rattle.rq_live.specs.Kernels.{IsKernelBehind, IsBodyOf, KernelTakes, KernelStops};
-ghost use Rattle.rq_live.specs.Kernels.{KernelStays};
-ghost use Rattle.rq_live.specs.Kernels.{KernelMarks, KernelStopsMark, KernelRefuses, open_behind};
+ghost use Rattle.rq_live.specs.Kernels.{KernelMarks, KernelStopsMark, open_behind};
 
 use rq_front::{FRAME_LEN, Framer, LOG_LIMIT, header_of};
 use rq_lawful::Rule;

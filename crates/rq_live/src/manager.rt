@@ -1,8 +1,7 @@
 //! A queue manager over a device.
 
-ghost use Rattle.std.specs.Prelude.{◌≡◌, ◌⊎◌, ◌≤◌, [], ℕ, List, Err, true, false, OnOk, IfOk};
+ghost use Rattle.std.specs.Prelude.{◌≡◌, ◌⊎◌, [], Err, true, false, OnOk, IfOk};
 ghost use Rattle.std.specs.Prelude.{IfErr, map, option_map};
-ghost use Rattle.std.specs.Prelude.{length};
 ghost use Rattle.rq_record.specs.Views.{record_of, version_of};
 ghost use Rattle.rq_record.specs.declared.fault.Fault.TheVariants.{Resources};
 ghost use Rattle.rq_state.specs.Views.{unit_of};

@@ -1,6 +1,6 @@
 -- A kernel that stands behind what a crash left.
 use Rattle.std.proofs.Common.{◌≡◌, ℕ, ◌≤◌, List, [], length, drop}
-use Rattle.std.proofs.Common.{ap, sym, subst, ◌∙◌, ◌++◌, arith, append_assoc, take, Option, Some}
+use Rattle.std.proofs.Common.{ap, sym, subst, ◌∙◌, ◌++◌, arith, append_assoc, take, Option}
 use Rattle.rq_device.specs.Devices.{AreStored}
 use Rattle.std.proofs.lemmas.List.{append-nil, append_cancel_left, length-append}
 use Rattle.rq_model.specs.Records.{Record, Version}
@@ -58,7 +58,8 @@ is_found c f machine framer k is same last len behind = record {
 
 pub goes_on_at : SyncedStays → CommitStays → (c : List ℕ) (l : FoundLog) → IsFound c l → GoesOnAt c l
 goes_on_at stays commits c l is version rs m w managed safe known left =
-    let found = begins_with_safe stays c version (version_of l.version) rs is.records m w (drop l.end.used c) managed safe
+    let found = begins_with_safe stays c version (version_of l.version) rs is.records m w
+    (drop l.end.used c) managed safe
     known left is.front in
     let at = subst (λ (v : Version). IsKernelBehind v is.records (log_of v is.records) l.kernel) found.0 is.at in
     let there = subst (λ (xs : List Record). IsKernelBehind version xs (log_of version xs) l.kernel) found.2 at in
@@ -80,7 +81,8 @@ is_exactly_found begins one c l is version rs m w missing managed known front =
     at.bytes ∙ ap (λ (x : List ℕ). x ++ pending) (sym bytes ∙ front) ∙ append_assoc c missing pending in
     let long : 40 ≤ length c = headed_front c l is in
     let left = begins version rs c (missing ++ pending) at.may log long is.front.short in
-    let same = one c (version_of l.version) version is.records (take left.count rs) (drop l.end.used c) left.rest is.front left.front in
+    let same = one c (version_of l.version) version is.records (take left.count rs)
+    (drop l.end.used c) left.rest is.front left.front in
     record {
       count = left.count;
       whole = left.whole;

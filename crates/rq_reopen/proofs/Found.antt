@@ -37,7 +37,8 @@ begins_with_safe stays c version v rs found m w rest managed safe known left fro
     (there ∙ ap (take m.synced) (whole ∙ ap (log_of version) (sym nil))) front
 
 -- a unit that committed among the first records is committed
-pub committed_there : CommitStays → (version : Version) (rs others : List Record) → MayFollow version empty (rs ++ others)
+pub committed_there : CommitStays → (version : Version) (rs others : List Record)
+    → MayFollow version empty (rs ++ others)
     → (before after : List Record) (unit : ℕ) → rs ≡ before ++ Commit unit ∷ after
     → outcome_from 0 unit (rs ++ others) ≡ Committed (length before)
 committed_there commits version rs others all before after unit split =
@@ -68,7 +69,8 @@ next_of xs = omega (arith, next_run empty xs)
 
 pub survives : SyncedStays → CommitStays → (c : List ℕ) (r : Restarted) → IsRestart c r → Survives c r
 survives stays commits c r is version rs m w managed safe known left =
-    let found = begins_with_safe stays c version is.version rs is.records m w is.rest managed safe known left is.front in
+    let found = begins_with_safe stays c version is.version rs is.records m w is.rest managed safe known left
+    is.front in
     goes_on commits version is.version rs is.records found.1 r found.0 found.2
     (follows is.version empty (start is.version) is.front.bytes is.rest is.records is.front.longest.begins)
     (ap (λ (t : Restarted). t.records) is.answer ∙ next_of is.records)

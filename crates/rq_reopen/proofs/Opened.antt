@@ -1,5 +1,5 @@
 -- A log that is opened behind its front.
-use Rattle.std.proofs.Common.{◌≡◌, ◌≤◌, ℕ, Bool, List, Option, length, drop, ap, sym, subst, ◌∙◌, arith}
+use Rattle.std.proofs.Common.{◌≤◌, ℕ, Bool, List, Option, length, drop, ap, sym, subst, ◌∙◌, arith}
 use Rattle.std.specs.Prelude.{Result, Ok, Err, IfOk}
 use Rattle.std.proofs.lemmas.List.{length-append}
 use Rattle.rq_model.specs.Frames.{header, frames_of, log_of, start}
@@ -17,7 +17,8 @@ use Rattle.rq_reopen.specs.declared.openings.NotOpened.TheVariants.{Log, Damaged
 use Rattle.rq_reopen.specs.Openings.{CutsBehind, IsFound, MayBeCut, OpensLog, OpensBehind}
 
 -- what is handed back may go
-pub opens_behind : (c : List ℕ) (l : FoundLog) (drops : Bool) (damage : Option Damage) (result : Result Opening NotOpened)
+pub opens_behind : (c : List ℕ) (l : FoundLog) (drops : Bool) (damage : Option Damage)
+    (result : Result Opening NotOpened)
     → CutsBehind c l damage result → MayBeCut c l drops damage → OpensBehind c l drops result
 opens_behind c l drops damage (Ok o) cut may = (cut.0, cut.1, subst (MayBeCut c l drops) (sym cut.2) may)
 opens_behind c l drops damage (Err (Log fault)) cut may = cut

@@ -86,7 +86,8 @@ OpensBehind c l drops (Err (Damaged found damage)) = (found ≡ l) × (drops ≡
 
 -- how c is opened, or why it is not
 abbrev pub OpensLog : List ℕ → Bool → Result Opening NotOpened → Type 0
-OpensLog c drops (Ok o) = IsFound c o.found × (o.cut.items ≡ drop o.found.end.used c) × MayBeCut c o.found drops o.damage
+OpensLog c drops (Ok o) = IsFound c o.found × (o.cut.items ≡ drop o.found.end.used c)
+    × MayBeCut c o.found drops o.damage
 OpensLog c drops (Err (Log fault)) = Refused c fault
 OpensLog c drops (Err (Damaged found damage)) = IsFound c found × (drops ≡ false)
     × IsDamage c found.end.used (why_of found.end.why) damage

@@ -108,8 +108,8 @@ impl OpenFile for HeldFile {
     }
 }
 
-// What a file has once one of its calls failed while five units were to be committed, whether it was
-// cut back then, and how many units were committed.
+// What a file has once one of its calls failed while five units were to be committed, whether it
+// was cut back then, and how many units were committed.
 fn left_by_failure(alloc: Global, failing: u64) -> Result<(Vec<u8>, bool, usize), Fail> {
     let file = LogFile::new(HeldFile::of(Vec::new(alloc), failing), 0);
     let mut m = Manager::new(alloc, Version::One, file)?;
@@ -136,7 +136,8 @@ fn a_file_is_cut_back_to_what_was_synced(rt: HostRuntime) -> Result<(), Fail> {
     Ok(())
 }
 
-// Whether a manager goes on from what a crash left in a file, and the file has what a closed log has.
+// Whether a manager goes on from what a crash left in a file, and the file has what a closed log
+// has.
 fn goes_on_in_a_file<R: Threads + Sync + AllocGlobal>(
     rt: &R,
     left: &[u8],

@@ -23,7 +23,8 @@ done-requires c =
 
 pub returns-clause-taken : goal.returns-clause-taken
 returns-clause-taken c =
-    subst (λ (r : Record). IfOk c.done.result (λ (id : Option ElemId). KernelTakes c.args.self.now c.done.new.self r id))
+    subst (λ (r : Record). IfOk c.done.result
+    (λ (id : Option ElemId). KernelTakes c.args.self.now c.done.new.self r id))
     (ap record_of c.in-Ok-of.ensures.kept) c.done.ensures.taken
 
 pub returns-clause-refused : goal.returns-clause-refused

@@ -9,8 +9,11 @@ returns-in-Some c =
     let a = c.args.self.now in
     let r = record_of c.args.kept.now in
     let e = c.in-Some.ensures.exact in
-    let breaks : is_lawful (version_of a.version) a.machine r ≡ false = grind (arith, e) in
-    (λ version rs w h. h, λ version rs w h. breaks_at version rs w r a c.in-Some.rule h (breaks, c.in-Some.ensures.which))
+    let breaks : is_lawful (version_of a.version) a.machine r ≡ false = grind (arith, e) in (
+      λ version rs w h. h,
+      λ version rs w h. breaks_at version rs w r a c.in-Some.rule h
+          (breaks, c.in-Some.ensures.which),
+    )
 
 pub returns-in-None : goal.returns-in-None
 returns-in-None c =

@@ -10,4 +10,5 @@ returns-in-Ok-clause-done g c = λ version rs m.
 pub returns-clause-refused : goal.returns-clause-refused
 returns-clause-refused g c =
     abort_stops (stand_of g.D.Device.written g.D.Device.synced g.D.Device.doubted g.D.Device.failed c.args.self.now)
-    (stand_of g.D.Device.written g.D.Device.synced g.D.Device.doubted g.D.Device.failed c.take.new.self) c.args.unit.0 c.in-Err.why c.in-Err.ensures.refused
+    (stand_of g.D.Device.written g.D.Device.synced g.D.Device.doubted g.D.Device.failed c.take.new.self) c.args.unit.0
+    c.in-Err.why c.in-Err.ensures.refused

@@ -1,6 +1,6 @@
 use Rattle.std.proofs.Common.{◌≡◌, ◌+◌, ◌++◌, ◌∷◌, [], ◌∙◌, List, ℕ, get_or, map, take, ap, sym, subst}
 use Rattle.std.proofs.lemmas.List.{map_more, map_push}
-use Rattle.rq_model.specs.Records.{Record, Abort}
+use Rattle.rq_model.specs.Records.{Abort}
 use Rattle.rq_record.specs.declared.record.UnitNo.{UnitNo}
 use Rattle.rq_state.specs.Views.{unit_of}
 use Rattle.rq_live.specs.Managers.{DoesEach, stand_of}
@@ -8,8 +8,12 @@ use Rattle.rq_live.proofs.Managing.{does_none, does_one_more}
 use Rattle.rq_live.proofs.manager.Manager.abort_each.Goals as goal
 
 pub loop-unit-init : goal.loop-unit-init
-loop-unit-init g c =
-    (c.requires, does_none (stand_of g.D.Device.written g.D.Device.synced g.D.Device.doubted g.D.Device.failed c.args.self.now), λ left h. h)
+loop-unit-init g c = (
+  c.requires,
+  does_none (stand_of g.D.Device.written g.D.Device.synced g.D.Device.doubted g.D.Device.failed
+      c.args.self.now),
+  λ left h. h,
+)
 
 pub loop-unit-preserved : goal.loop-unit-preserved
 loop-unit-preserved g c =

@@ -9,7 +9,8 @@ use Rattle.rq_live.proofs.manager.Manager.abort_open.Goals as goal
 pub returns-in-Ok-abort_each-clause-done : goal.returns-in-Ok-abort_each-clause-done
 returns-in-Ok-abort_each-clause-done g c =
     let a = (stand_of g.D.Device.written g.D.Device.synced g.D.Device.doubted g.D.Device.failed c.args.self.now) in
-    let b = (stand_of g.D.Device.written g.D.Device.synced g.D.Device.doubted g.D.Device.failed c.abort_each.new.self) in
+    let b = (stand_of g.D.Device.written g.D.Device.synced g.D.Device.doubted g.D.Device.failed
+    c.abort_each.new.self) in
     aborts_so a b (map unit_of c.in-Ok.units.items) c.in-Ok.ensures.units
     (subst (λ (us : List UnitNo). DoesEach a b (map Abort (map unit_of us))) c.deref.ensures.value
     c.in-Ok-abort_each.ensures.done)

@@ -16,5 +16,7 @@ returns-in-Ok-clause-begun g c = λ version rs m.
 pub returns-clause-refused : goal.returns-clause-refused
 returns-clause-refused g c =
     begin_stops (stand_of g.D.Device.written g.D.Device.synced g.D.Device.doubted g.D.Device.failed c.args.self.now)
-    (stand_of g.D.Device.written g.D.Device.synced g.D.Device.doubted g.D.Device.failed c.take.new.self) c.greatest-greatest.result
-    c.in-Err.why (λ version rs m. c.greatest-greatest.ensures ∙ ap (λ (s : State). s.greatest) m.at.state) c.in-Err.ensures.refused
+    (stand_of g.D.Device.written g.D.Device.synced g.D.Device.doubted g.D.Device.failed c.take.new.self)
+    c.greatest-greatest.result
+    c.in-Err.why (λ version rs m. c.greatest-greatest.ensures ∙ ap (λ (s : State). s.greatest) m.at.state)
+    c.in-Err.ensures.refused

@@ -8,7 +8,8 @@ use Rattle.rq_live.proofs.manager.Manager.done.Goals as goal
 
 pub returns-in-Ok-clause-taken : goal.returns-in-Ok-clause-taken
 returns-in-Ok-clause-taken g c =
-    managed_on (stand_of g.D.Device.written g.D.Device.synced g.D.Device.doubted g.D.Device.failed c.args.self.now) c.take.new.self
+    managed_on (stand_of g.D.Device.written g.D.Device.synced g.D.Device.doubted g.D.Device.failed c.args.self.now)
+    c.take.new.self
     (record_of c.args.next.now) c.in-Ok.id c.in-Ok.ensures.taken
 
 pub returns-in-Err-Unlawful-clause-refused : goal.returns-in-Err-Unlawful-clause-refused

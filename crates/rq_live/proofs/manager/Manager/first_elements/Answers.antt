@@ -19,7 +19,8 @@ first_elements-requires g c =
 pub returns-clause-elements : goal.returns-clause-elements
 returns-clause-elements g c =
     let es : List Element = map (λ (e : Bor Element). e.now) c.in_ok-first.first.items in
-    first_free (stand_of g.D.Device.written g.D.Device.synced g.D.Device.doubted g.D.Device.failed c.args.self.now) c.args.queue.0 c.args.most es
+    first_free (stand_of g.D.Device.written g.D.Device.synced g.D.Device.doubted g.D.Device.failed c.args.self.now)
+    c.args.queue.0 c.args.most es
     (subst (λ (p : Part). AreFirst c.args.most p.queue p.elements es) c.part.ensures c.in_ok-first.ensures.first)
 
 pub returns-then-queue-definitions-clause-elements : goal.returns-then-queue-definitions-clause-elements

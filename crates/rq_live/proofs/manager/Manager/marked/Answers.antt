@@ -8,7 +8,8 @@ use Rattle.rq_live.proofs.manager.Manager.marked.Goals as goal
 
 pub returns-in-Ok-clause-marked : goal.returns-in-Ok-clause-marked
 returns-in-Ok-clause-marked g c =
-    managed_marks (stand_of g.D.Device.written g.D.Device.synced g.D.Device.doubted g.D.Device.failed c.args.self.now) c.mark.new.self c.len-offset.result
+    managed_marks (stand_of g.D.Device.written g.D.Device.synced g.D.Device.doubted g.D.Device.failed c.args.self.now)
+    c.mark.new.self c.len-offset.result
     c.in-Ok.ensures.marked c.len-offset.ensures (λ version rs m. m.at.framer.len ∙ sym (log_long version rs))
 
 pub returns-in-Err-Full-clause-refused : goal.returns-in-Err-Full-clause-refused
@@ -20,11 +21,13 @@ returns-in-Err-Full-clause-refused g c =
 pub returns-in-Err-Large-clause-refused : goal.returns-in-Err-Large-clause-refused
 returns-in-Err-Large-clause-refused g c =
     let a = (stand_of g.D.Device.written g.D.Device.synced g.D.Device.doubted g.D.Device.failed c.args.self.now) in
-    let why = subst (KernelStopsMark a.kernel c.mark.new.self) c.in-Err-Large.field-0-is c.in-Err-Large.ensures.refused in
+    let why = subst (KernelStopsMark a.kernel c.mark.new.self) c.in-Err-Large.field-0-is
+    c.in-Err-Large.ensures.refused in
     stops_there a c.mark.new.self Large why.0 why.1
 
 pub returns-in-Err-Ended-clause-refused : goal.returns-in-Err-Ended-clause-refused
 returns-in-Err-Ended-clause-refused g c =
     let a = (stand_of g.D.Device.written g.D.Device.synced g.D.Device.doubted g.D.Device.failed c.args.self.now) in
-    let why = subst (KernelStopsMark a.kernel c.mark.new.self) c.in-Err-Ended.field-0-is c.in-Err-Ended.ensures.refused in
+    let why = subst (KernelStopsMark a.kernel c.mark.new.self) c.in-Err-Ended.field-0-is
+    c.in-Err-Ended.ensures.refused in
     stops_there a c.mark.new.self Ended why.0 why.1

@@ -20,7 +20,9 @@ returns-in-Ok-clause-secured g c =
     let d = c.keep_front.new.device in
     let e = c.has_room_for_ends.ensures in
     let some = c.if-not-has_room_for_ends.false in
-    let room : a.kernel.framer.len + 45 * length a.kernel.machine.units ≤ log_limit = grind (arith, nat_tests, e, some) in
-    secures_so a (g.D.Device.written d) (g.D.Device.synced d) (g.D.Device.doubted d) (g.D.Device.failed d) c.requires.unspent
+    let room : a.kernel.framer.len + 45 * length a.kernel.machine.units ≤ log_limit =
+    grind (arith, nat_tests, e, some) in
+    secures_so a (g.D.Device.written d) (g.D.Device.synced d) (g.D.Device.doubted d)
+    (g.D.Device.failed d) c.requires.unspent
     c.in-Ok.ensures.fails c.in-Ok.ensures.sure c.in-Ok.ensures.synced
     (c.in-Ok.ensures.bytes ∙ ap (λ n. cut_known n a.written) c.len.ensures) room

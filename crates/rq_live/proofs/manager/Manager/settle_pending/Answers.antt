@@ -9,5 +9,6 @@ returns-in-Ok-clause-safe g c =
     let a = (stand_of g.D.Device.written g.D.Device.synced g.D.Device.doubted g.D.Device.failed c.args.self.now) in
     let d = c.settle.new.device in
     settles a (g.D.Device.written d) (g.D.Device.synced d) (g.D.Device.doubted d) (g.D.Device.failed d) c.clear.new.self
-    c.in-Ok.ensures.fails c.in-Ok.ensures.doubts (c.in-Ok.ensures.bytes ∙ ap (append_known a.written) c.deref.ensures.value)
+    c.in-Ok.ensures.fails c.in-Ok.ensures.doubts
+    (c.in-Ok.ensures.bytes ∙ ap (append_known a.written) c.deref.ensures.value)
     c.in-Ok.ensures.synced c.clear.ensures.items

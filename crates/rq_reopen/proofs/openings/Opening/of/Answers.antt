@@ -21,7 +21,8 @@ returns-in-Ok-clause-opens g c =
 
 pub returns-in-Ok-clause-within : goal.returns-in-Ok-clause-within
 returns-in-Ok-clause-within g c =
-    opened_so (λ (l : FoundLog). StandsWithin l.kernel (length c.args.left.now)) c.args.left.now c.in-Ok.found c.args.drops
+    opened_so (λ (l : FoundLog). StandsWithin l.kernel (length c.args.left.now)) c.args.left.now c.in-Ok.found
+    c.args.drops
     c.opened_behind.result
     (subst (λ (b : List ℕ). OpensBehind b c.in-Ok.found c.args.drops c.opened_behind.result) c.as_slice.ensures
     c.opened_behind.ensures)
