@@ -21,9 +21,15 @@ fn resumed(
         return Err(Unanswered::Line);
     }
     let mut m = Manager::over(Memory::left_by_crash(left, synced), opening.found.kernel);
-    m.resume(alloc, stands)?;
-    let unit = m.begin(alloc)?;
-    m.settle()?;
+    let is_resumed = m.resume(alloc, stands).is_ok();
+    let begun = m.begin(alloc);
+    let is_settled = m.settle().is_ok();
+    let Ok(unit) = begun else {
+        return Err(Unanswered::Line);
+    };
+    if !is_resumed || !is_settled {
+        return Err(Unanswered::Line);
+    }
     let bytes = hex::encode(alloc, m.device().bytes())?;
     Ok(format!(in alloc;
         "opened {} {} {} {bytes}",
