@@ -20,7 +20,7 @@ use Rattle.rq_model.proofs.StateCodes.{one_state}
 use Rattle.rq_found.specs.Ends.{IsRestartFrom}
 use Rattle.rq_found.specs.Records.{front_at, queues_behind}
 use Rattle.rq_look.specs.declared.wanted.Wanted.{Wanted}
-use Rattle.rq_look.specs.Dumps.{AreFrontLines, AreLines, IsFrameLine, IsLineIf, first_wanted}
+use Rattle.rq_look.specs.Dumps.{AreFrontLines, AreLines, IsBodyLine, IsFrameLine, IsLineIf, first_wanted}
 use Rattle.rq_look.specs.Entries.{LogEntry, entries, entry_at, fits, is_wanted}
 use Rattle.rq_look.specs.Looks.{Gathers}
 use Rattle.rq_look.proofs.Gathered.{none_gathered, both_gathered}
@@ -156,18 +156,12 @@ counts_on version s (model.Abort unit) few lawful = (refl, few)
 counts_on version s (model.Checkpoint bytes) few lawful = (refl, few)
 counts_on version s (model.Kill queue element) few lawful = (refl, few)
 
--- the line of a frame that does not begin too early: that of its record
+-- the line of a frame whose body spells the record that is shown
 pub of_record : (w : Wanted) (version : Version) (offset : ℕ) (place : Option (ℕ × ℕ)) (body : List ℕ) (r : Record)
-    (e : LogEntry) (wanted : Bool) (line : List ℕ) → w.from ≤ offset → Spells version r body → e ≡ entry_at offset place r
-    → wanted ≡ fits w e → IsLineIf wanted w e line → IsFrameLine w version offset place body wanted line
-of_record w version offset place body r e wanted line late spelled is asked told =
-    let after : nat_le w.from offset ≡ true = le-leb w.from offset late in
-    inr (inl (
-      r,
-      spelled,
-      asked ∙ ap (fits w) is ∙ sym (ap (λ (x : Bool). x && fits w (entry_at offset place r)) after),
-      subst (λ (x : LogEntry). IsLineIf wanted w x line) is told,
-    ))
+    (e : LogEntry) (wanted : Bool) (line : List ℕ) → Spells version r body → e ≡ entry_at offset place r
+    → wanted ≡ fits w e → IsLineIf wanted w e line → IsBodyLine w version offset place body wanted line
+of_record w version offset place body r e wanted line spelled is asked told =
+    inl (r, spelled, asked ∙ ap (fits w) is, subst (λ (x : LogEntry). IsLineIf wanted w x line) is told)
 
 -- the line of a frame whose body spells a record is that of the record
 line_of : (w : Wanted) (offset : ℕ) (place : ℕ × ℕ) (body : List ℕ) (wanted : Bool) (line : List ℕ) (r : Record)
@@ -178,12 +172,14 @@ line_of w offset place body wanted line r spelled (inl early) =
       early.1 ∙ sym (ap (λ (x : Bool). x && fits w (entry_at offset (Some place) r)) before),
       subst (λ (x : Bool). IsLineIf x w (entry_at offset (Some place) r) line) (sym early.1) early.2,
     )
-line_of w offset place body wanted line r spelled (inr (inl told)) =
+line_of w offset place body wanted line r spelled (inr (late, inl told)) =
+    let after : nat_le w.from offset ≡ true = le-leb w.from offset late in
     let same : told.0 ≡ r = one_record Two told.0 r body told.1 spelled in (
-      told.2 ∙ ap (λ (x : Record). is_wanted w (entry_at offset (Some place) x)) same,
+      told.2 ∙ ap (λ (x : Record). fits w (entry_at offset (Some place) x)) same
+          ∙ sym (ap (λ (x : Bool). x && fits w (entry_at offset (Some place) r)) after),
       subst (λ (x : Record). IsLineIf wanted w (entry_at offset (Some place) x) line) same told.3,
     )
-line_of w offset place body wanted line r spelled (inr (inr none)) = absurd (none.0 r spelled)
+line_of w offset place body wanted line r spelled (inr (late, inr none)) = absurd (none.0 r spelled)
 
 -- the same frame, by what is known of it
 pub same_frame : (w : Wanted) (v u : Version) (offset o : ℕ) (place p : Option (ℕ × ℕ)) (body c : List ℕ) (wanted : Bool)

@@ -31,3 +31,7 @@ both_gathered a b text mid left old now new (p, pp, e) (q, qq, f) = (
 pub all_written : (put left : List ℕ) (old now new : Option (List ℕ)) → Gathers put [] old left now
     → Appends now new left → Appends old new put
 all_written put left old now new (p, pp, e) q = rw e (Appends-trans old now new p left pp q)
+
+-- one text behind the other, of which all is gathered
+pub put_more : (old mid new a b : List ℕ) → mid ≡ old ++ a → new ≡ mid ++ b → new ≡ old ++ (a ++ b)
+put_more old mid new a b e f = f ∙ ap (λ (x : List ℕ). x ++ b) e ∙ append_assoc old a b

@@ -1,6 +1,6 @@
 -- What a dump writes.
 use Rattle.std.specs.Prelude.{◌≡◌, ℕ, Bool, true, false, if◌then◌else◌, List, [], ◌∷◌, ◌++◌, filter, take, codes}
-use Rattle.std.specs.Prelude.{◌⊎◌, ◌<◌, Option}
+use Rattle.std.specs.Prelude.{◌⊎◌, ◌<◌, ◌≤◌, Option}
 use Rattle.std.specs.Fmt.{decimal}
 use Rattle.std.specs.Io.KnownBytes.{Appends}
 use Rattle.rq_model.specs.Records.{Record, Version}
@@ -9,7 +9,7 @@ use Rattle.rq_model.specs.States.{State}
 use Rattle.rq_found.specs.Ends.{beginning_text}
 use Rattle.rq_found.specs.Records.{front_at}
 use Rattle.rq_look.specs.declared.wanted.Wanted.{Wanted}
-use Rattle.rq_look.specs.Entries.{LogEntry, entries, entry_at, fits_none, is_wanted}
+use Rattle.rq_look.specs.Entries.{LogEntry, entries, entry_at, fits, fits_none, is_wanted}
 use Rattle.rq_look.specs.Lines.{record_line}
 use Rattle.rq_look.specs.Looks.{IsClosing}
 use Rattle.rq_look.specs.Scripts.{IsShownFront}
@@ -30,26 +30,35 @@ abbrev pub IsLineIf : Bool → Wanted → LogEntry → List ℕ → Type 0
 IsLineIf true w e line = IsLineOf w.json w.full e line
 IsLineIf false w e line = line ≡ []
 
--- a line of a frame whose body spells no record: some object of JSON, or its offset and some reason
+-- the line of a frame whose body spells no record, and why
+abbrev pub formless_line : ℕ → List ℕ → List ℕ
+formless_line offset reason =
+    decimal offset ++ (codes " behind no record: " ++ (reason ++ codes "\n"))
+
+-- a line of such a frame: some object of JSON, or this line with some reason
 abbrev pub IsFormless : Bool → ℕ → List ℕ → Type 0
 IsFormless true offset line = (object : List ℕ) × (line ≡ object ++ codes "\n")
-IsFormless false offset line = (reason : List ℕ)
-    × (line ≡ decimal offset ++ (codes " behind no record: " ++ (reason ++ codes "\n")))
+IsFormless false offset line = (reason : List ℕ) × (line ≡ formless_line offset reason)
 
 -- this line if it is wanted, else nothing
 abbrev pub IsFormlessIf : Bool → Wanted → ℕ → List ℕ → Type 0
 IsFormlessIf true w offset line = IsFormless w.json offset line
 IsFormlessIf false w offset line = line ≡ []
 
--- whether the frame at an offset is wanted, and its line: it begins too early; or that of the record
--- that its body spells, or that of a frame whose body spells none
+-- whether a frame is wanted, wherever it begins, and its line: as the record is that its body spells;
+-- or, if it spells none, as such a frame is
+abbrev pub IsBodyLine : Wanted → Version → ℕ → Option (ℕ × ℕ) → List ℕ → Bool → List ℕ → Type 0
+IsBodyLine w version offset place body wanted line =
+    ((r : Record) × Spells version r body × (wanted ≡ fits w (entry_at offset place r))
+    × IsLineIf wanted w (entry_at offset place r) line)
+    ⊎ (((r : Record) → Spells version r body → ⊥) × (wanted ≡ fits_none w)
+    × IsFormlessIf wanted w offset line)
+
+-- whether a frame is wanted, and its line: it is not if it begins too early
 abbrev pub IsFrameLine : Wanted → Version → ℕ → Option (ℕ × ℕ) → List ℕ → Bool → List ℕ → Type 0
 IsFrameLine w version offset place body wanted line =
     ((offset < w.from) × (wanted ≡ false) × (line ≡ []))
-    ⊎ (((r : Record) × Spells version r body × (wanted ≡ is_wanted w (entry_at offset place r))
-    × IsLineIf wanted w (entry_at offset place r) line)
-    ⊎ (((r : Record) → Spells version r body → ⊥)
-    × (wanted ≡ fits_none w) × IsFormlessIf wanted w offset line))
+    ⊎ ((w.from ≤ offset) × IsBodyLine w version offset place body wanted line)
 
 -- the first of the records that are wanted, as many as are wanted at most
 abbrev pub first_wanted : Wanted → ℕ → List LogEntry → List LogEntry

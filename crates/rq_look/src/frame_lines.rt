@@ -5,6 +5,7 @@ ghost use Rattle.rq_record.specs.Views.{version_of};
 ghost use Rattle.rq_record.specs.declared.fault.Fault.TheVariants.{Resources};
 ghost use Rattle.rq_found.specs.Refusals.{CountsFaults, IsBroken};
 ghost use Rattle.rq_look.specs.Dumps.{IsFormless, IsFormlessIf, IsFrameLine, IsLineIf, IsLineOf};
+ghost use Rattle.rq_look.specs.Dumps.{formless_line};
 ghost use Rattle.rq_look.specs.Entries.{fits, fits_none, shown_entry};
 ghost use Rattle.rq_look.specs.Looks.{Gathers};
 
@@ -44,13 +45,22 @@ fn put_if_wanted(
         × (string_bytes text.new ≡ string_bytes text.old ++ line)) }
 {
     let is_wanted = wanted.wants(it);
-    if is_wanted {
-        put_shown(alloc, text, it, wanted)?;
+    if !is_wanted {
+        return Ok(false);
     }
-    Ok(is_wanted)
+    put_shown(alloc, text, it, wanted)?;
+    Ok(true)
 }
 
-// Puts a frame whose body spells no record, and why, in the form that is wanted.
+// Puts the line of a frame whose body spells no record, and why.
+fn put_reason(text: &mut String, offset: u64, reason: &str) -> Put
+    ensures { OnOk result
+        (string_bytes text.new ≡ string_bytes text.old ++ formless_line offset reason.now) }
+{
+    write!(text, "{offset} behind no record: {reason}\n")
+}
+
+// Puts such a frame in the form that is wanted.
 fn put_formless(alloc: Global, text: &mut String, it: &ShownFrame<'_>, wanted: &Wanted<'_>) -> Put
     ensures { OnOk result ((line : List ℕ) × IsFormless wanted.now.json it.now.offset line
         × (string_bytes text.new ≡ string_bytes text.old ++ line)) }
@@ -59,8 +69,7 @@ fn put_formless(alloc: Global, text: &mut String, it: &ShownFrame<'_>, wanted: &
     if wanted.json {
         return put_unspelled(alloc, text, it.offset, reason.as_str());
     }
-    let offset = it.offset;
-    write!(text, "{offset} behind no record: {reason}\n")
+    put_reason(text, it.offset, reason.as_str())
 }
 
 // Puts the line of such a frame, if it is wanted. Answers whether it is.
@@ -76,10 +85,11 @@ fn put_formless_if_wanted(
         × (string_bytes text.new ≡ string_bytes text.old ++ line)) }
 {
     let is_wanted = wanted.wants_no_record();
-    if is_wanted {
-        put_formless(alloc, text, it, wanted)?;
+    if !is_wanted {
+        return Ok(false);
     }
-    Ok(is_wanted)
+    put_formless(alloc, text, it, wanted)?;
+    Ok(true)
 }
 
 // Puts the line of a frame, if it is wanted. Answers whether it is.
@@ -94,12 +104,13 @@ fn put_frame(
         × (string_bytes text.new ≡ string_bytes text.old ++ line)) }
     ensures refused { IfErr result (λ e. e ≡ Resources) }
 {
-    if it.offset < wanted.from {
+    let is_early = it.offset < wanted.from;
+    if is_early {
         return Ok(false);
     }
-    let record = it.record(alloc)?;
-    match &record {
-        Some(record) => Ok(put_if_wanted(alloc, text, &it.shown(record), wanted)?),
+    let found = it.record(alloc)?;
+    match &found {
+        Some(r) => Ok(put_if_wanted(alloc, text, &it.shown(r), wanted)?),
         None => Ok(put_formless_if_wanted(alloc, text, it, wanted)?),
     }
 }

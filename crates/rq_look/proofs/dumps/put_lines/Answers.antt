@@ -28,13 +28,13 @@ returns-clause-told g c =
     (kept_back closing.0 text_began text_last last closing.2) in
     let rest : Gathers (behind.0 ++ (began ++ closing.0)) text_first first text_last last =
     both_gathered behind.0 (began ++ closing.0) text_first text_behind text_last first last last behind.2 ends in
-    let whole = both_gathered front.0 (behind.0 ++ (began ++ closing.0)) _ text_first text_last
+    let whole = both_gathered front.0 (behind.0 ++ (began ++ closing.0)) (string_bytes c.args.text.now) text_first text_last
     old first last front.2 rest in
     let text : List ℕ = front.0 ++ (behind.0 ++ (began ++ closing.0)) in (
       text,
       (front.0, behind.0, closing.0, front.1, behind.1, closing.1, refl),
       all_written text text_last old last (held c.write_out.new.output)
-          (subst (λ (x : List ℕ). Gathers text x old text_last last) c.new-text.ensures.bytes whole)
+          (subst (λ (x : List ℕ). Gathers text x old text_last last) c.requires.nothing whole)
           c.in_ok-write_out.ensures.written.0,
     )
 

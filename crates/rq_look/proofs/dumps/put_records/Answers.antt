@@ -1,4 +1,5 @@
-use Rattle.std.proofs.Common.{ℕ, suc, ◌-◌, ◌≡◌, ◌∙◌, Some, length, string_bytes, drop, take, ap, sym, arith, refl, Bool, if◌then◌else◌}
+use Rattle.std.proofs.Common.{ℕ, suc, ◌+◌, ◌-◌, ◌≡◌, ◌∙◌, Some, length, string_bytes, drop, take, ap, sym, arith, refl, Bool, if◌then◌else◌}
+use Rattle.std.specs.Prelude.{min}
 use Rattle.rq_model.specs.Records.{Two}
 use Rattle.rq_record.specs.Views.{version_of}
 use Rattle.rq_found.specs.Records.{front_at}
@@ -24,8 +25,7 @@ loop-placed-init g c =
           restart.1 (first_is at b s c.requires.start c.requires.there)
           (ap (λ (w : PlacedFrames). w.rest.now) same ∙ walk.0 (omega (arith, fits.1, used))
           ∙ ap (λ (n : ℕ). drop (front_at at) (take n b)) used)
-          (ap (λ (w : PlacedFrames). w.offset) same ∙ walk.2)
-          (ap (λ (w : PlacedFrames). w.number) same ∙ walk.1)
+          c.first_offset-offset.ensures (ap (λ (w : PlacedFrames). w.number) same ∙ walk.1)
           (omega (arith, c.queues_of-queues.ensures, ap length c.definitions.ensures)),
       refl,
     )
@@ -41,17 +41,20 @@ loop-placed-preserved g c =
     let put = c.in_ok-is_wanted.ensures in
     let wanted = c.in_ok-is_wanted.is_wanted in
     let most = c.loop-placed.left in
+    let offset = c.loop-placed.offset in
     let queues = c.loop-placed.queues in
     let frame = c.of-frame.ensures in
     let some : most ≡ suc (most - 1) = omega arith in
-    let line = same_frame c.args.wanted.now _ Two _ it.offset _ (Some (it.number, queues)) _ placed.body.now wanted
-    put.line.0 (ap version_of frame.version) (frame.offset ∙ step.5)
+    let line = same_frame c.args.wanted.now _ Two _ offset _ (Some (it.number, queues)) _ placed.body.now wanted
+    put.line.0 (ap version_of frame.version) frame.offset
     (frame.place ∙ ap (λ (n : ℕ). Some (n, queues)) step.3) frame.body put.line.1 in (
-      goes_on log.at log.bytes.now c.args.wanted.now most it.rest.now it.offset it.number queues
+      goes_on log.at log.bytes.now c.args.wanted.now most it.rest.now offset it.number queues
           (string_bytes c.args.text.now) (string_bytes c.loop-placed.text) (held c.args.output.now)
-          (held c.loop-placed.output) c.next.new.self.rest.now c.next.new.self.offset c.next.new.self.number
+          (held c.loop-placed.output) c.next.new.self.rest.now c.end.result c.next.new.self.number
           c.queues_behind.result (most - 1) _ (string_bytes c.put_entry.new.text) (held c.put_entry.new.output)
-          placed.body.now put.line.0 wanted inv.0 step.0 step.1 step.2 step.6 step.4 c.queues_behind.ensures some
+          placed.body.now put.line.0 wanted inv.0 step.0 step.1 step.2
+          (c.end.ensures ∙ (λ i. min (frame.offset i + (36 + length (frame.body i))) 18446744073709551615))
+          step.4 c.queues_behind.ensures some
           (elim c.if-is_wanted.branch [
             | then-is_wanted w ↦ w.left-is ∙ sym (ap (λ (x : Bool). if x then most - 1 else most) w.if-is_wanted.true)
             | else-is_wanted w ↦ w.left-is ∙ sym (ap (λ (x : Bool). if x then most - 1 else most) w.if-is_wanted.false)
@@ -64,7 +67,7 @@ returns-then-left-eq0-clause-lines g c =
     let held = g.W.Output.contents in
     let log = c.args.log.now in
     let it = c.loop-placed.placed-iterator in
-    enough log.at log.bytes.now c.args.wanted.now c.loop-placed.left it.rest.now it.offset it.number
+    enough log.at log.bytes.now c.args.wanted.now c.loop-placed.left it.rest.now c.loop-placed.offset it.number
     c.loop-placed.queues (string_bytes c.args.text.now) (string_bytes c.loop-placed.text) (held c.args.output.now)
     (held c.loop-placed.output) c.loop-placed.invariant.0 (omega arith)
 
@@ -73,6 +76,6 @@ returns-clause-lines g c =
     let held = g.W.Output.contents in
     let log = c.args.log.now in
     let it = c.loop-placed.placed-iterator in
-    ended log.at log.bytes.now c.args.wanted.now c.loop-placed.left it.rest.now it.offset it.number c.loop-placed.queues
-    (string_bytes c.args.text.now) (string_bytes c.loop-placed.text) (held c.args.output.now)
+    ended log.at log.bytes.now c.args.wanted.now c.loop-placed.left it.rest.now c.loop-placed.offset it.number
+    c.loop-placed.queues (string_bytes c.args.text.now) (string_bytes c.loop-placed.text) (held c.args.output.now)
     (held c.loop-placed.output) c.loop-placed.invariant.0 c.in-None.ensures.steps
