@@ -1,5 +1,6 @@
 -- Text that is gathered and then written, part by part.
-use Rattle.std.proofs.Common.{◌≡◌, ◌∙◌, ℕ, List, [], ◌++◌, Option, sym, ap, append_assoc, append-nil}
+use Rattle.std.proofs.Common.{◌≡◌, ◌∙◌, ℕ, List, [], ◌++◌, Option, Result, Ok, Err, OnOk, sym, ap, append_assoc, append-nil}
+use Rattle.std.specs.Prelude.{if◌then◌else◌, is_ok}
 use Rattle.std.specs.Io.KnownBytes.{Appends}
 use Rattle.std.proofs.KnownBytes.{Appends-nil, Appends-trans}
 use Rattle.rq_look.specs.Looks.{Gathers}
@@ -35,3 +36,9 @@ all_written put left old now new (p, pp, e) q = rw e (Appends-trans old now new 
 -- one text behind the other, of which all is gathered
 pub put_more : (old mid new a b : List ℕ) → mid ≡ old ++ a → new ≡ mid ++ b → new ≡ old ++ (a ++ b)
 put_more old mid new a b e f = f ∙ ap (λ (x : List ℕ). x ++ b) e ∙ append_assoc old a b
+
+-- what is put once it is done
+pub once_put : {A E : Type 0} (r : Result A E) (old new put : List ℕ) → new ≡ (if is_ok r then old ++ put else old)
+    → OnOk r (new ≡ old ++ put)
+once_put (Ok x) old new put h = h
+once_put (Err x) old new put h = tt

@@ -66,10 +66,11 @@ fn put_formless(alloc: Global, text: &mut String, it: &ShownFrame<'_>, wanted: &
         × (string_bytes text.new ≡ string_bytes text.old ++ line)) }
 {
     let reason = form_reason(alloc, it.version, it.body)?;
+    let word = reason.as_str();
     if wanted.json {
-        return put_unspelled(alloc, text, it.offset, reason.as_str());
+        return put_unspelled(alloc, text, it.offset, word);
     }
-    put_reason(text, it.offset, reason.as_str())
+    put_reason(text, it.offset, word)
 }
 
 // Puts the line of such a frame, if it is wanted. Answers whether it is.

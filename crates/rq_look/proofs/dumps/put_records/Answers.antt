@@ -50,11 +50,11 @@ loop-placed-preserved g c =
     (frame.place ∙ ap (λ (n : ℕ). Some (n, queues)) step.3) frame.body put.line.1 in (
       goes_on log.at log.bytes.now c.args.wanted.now most it.rest.now offset it.number queues
           (string_bytes c.args.text.now) (string_bytes c.loop-placed.text) (held c.args.output.now)
-          (held c.loop-placed.output) c.next.new.self.rest.now c.end.result c.next.new.self.number
-          c.queues_behind.result (most - 1) _ (string_bytes c.put_entry.new.text) (held c.put_entry.new.output)
+          (held c.loop-placed.output) c.next.new.self.rest.now c.end-offset.result c.next.new.self.number
+          c.queues_behind-queues.result (most - 1) _ (string_bytes c.put_entry.new.text) (held c.put_entry.new.output)
           placed.body.now put.line.0 wanted inv.0 step.0 step.1 step.2
-          (c.end.ensures ∙ (λ i. min (frame.offset i + (36 + length (frame.body i))) 18446744073709551615))
-          step.4 c.queues_behind.ensures some
+          (c.end-offset.ensures ∙ (λ i. min (frame.offset i + (36 + length (frame.body i))) 18446744073709551615))
+          step.4 c.queues_behind-queues.ensures some
           (elim c.if-is_wanted.branch [
             | then-is_wanted w ↦ w.left-is ∙ sym (ap (λ (x : Bool). if x then most - 1 else most) w.if-is_wanted.true)
             | else-is_wanted w ↦ w.left-is ∙ sym (ap (λ (x : Bool). if x then most - 1 else most) w.if-is_wanted.false)

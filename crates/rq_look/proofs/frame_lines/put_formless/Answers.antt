@@ -15,7 +15,7 @@ returns-then-wanted c =
 pub returns : goal.returns
 returns c =
     let offset = c.args.it.now.offset in
-    let reason = c.as_str.result.now in
+    let reason = c.as_str-word.result.now in
     let line = formless_line offset reason in
     then_ok _ _ (λ put. (
       line,

@@ -1,5 +1,5 @@
 use Rattle.std.proofs.Common.{[], inl, inr, refl, sym, subst, append-nil, arith, string_bytes}
-use Rattle.rq_record.specs.Views.{Record, record_of, version_of}
+use Rattle.rq_record.specs.Views.{record_of, version_of}
 use Rattle.rq_look.specs.Entries.{FindsRecord, shown_entry}
 use Rattle.rq_look.proofs.Dumped.{of_record}
 use Rattle.rq_look.proofs.frame_lines.put_frame.Goals as goal
@@ -15,7 +15,7 @@ returns-in-Some-clause-line c =
     let spelled = subst (FindsRecord (version_of it.version) it.body.now) c.in-Some.is c.in_ok-found.ensures.record in (
       put.line.0,
       inr (omega (arith, c.if-is_early.false), of_record c.args.wanted.now (version_of it.version) it.offset it.place
-          it.body.now (record_of c.in-Some.r) (shown_entry c.shown.result) _ put.line.0 spelled c.shown.ensures put.asked
+          it.body.now (record_of c.in-Some.r.now) (shown_entry c.shown.result) _ put.line.0 spelled c.shown.ensures put.asked
           put.line.1),
       put.line.2,
     )

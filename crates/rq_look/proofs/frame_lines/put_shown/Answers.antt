@@ -2,7 +2,7 @@ use Rattle.std.proofs.Common.{◌++◌, Bool, codes, refl, sym, subst, string_by
 use Rattle.rq_look.specs.Dumps.{IsLineOf}
 use Rattle.rq_look.specs.Entries.{shown_entry}
 use Rattle.rq_look.specs.Lines.{record_line}
-use Rattle.rq_look.proofs.Gathered.{put_more}
+use Rattle.rq_look.proofs.Gathered.{once_put, put_more}
 use Rattle.rq_look.proofs.Puts.{then_ok}
 use Rattle.rq_look.proofs.frame_lines.put_shown.Goals as goal
 
@@ -26,4 +26,5 @@ returns c =
       subst (λ (json : Bool). IsLineOf json full e (line ++ codes "\n")) (sym c.if-wanted.false) refl,
       put_more (string_bytes c.args.text.now) (string_bytes c.put_record.new.text) (string_bytes c.push_str.new.text)
           line (codes "\n") c.in_ok-put_record.ensures ended,
-    )) c.push_str.result c.push_str.ensures.bytes
+    )) c.push_str.result (once_put c.push_str.result (string_bytes c.put_record.new.text)
+    (string_bytes c.push_str.new.text) (codes "\n") c.push_str.ensures.bytes)
