@@ -1,4 +1,4 @@
-use Rattle.std.proofs.Common.{◌++◌, List, ℕ, subst, string_bytes}
+use Rattle.std.proofs.Common.{◌++◌, List, ℕ, refl, subst, string_bytes}
 use Rattle.rq_look.specs.Dumps.{origin}
 use Rattle.rq_look.specs.Looks.{Gathers}
 use Rattle.rq_look.proofs.Gathered.{kept_back, both_gathered, all_written}

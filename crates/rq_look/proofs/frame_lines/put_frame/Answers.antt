@@ -11,21 +11,14 @@ returns-then-is_early-clause-line c =
 pub returns-in-Some-clause-line : goal.returns-in-Some-clause-line
 returns-in-Some-clause-line c =
     let it = c.args.it.now in
-    let put = c.in_ok-put_if_wanted.ensures in
+    let put = c.in_ok-put_if_wanted-in-Some.ensures in
     let spelled = subst (FindsRecord (version_of it.version) it.body.now) c.in-Some.is c.in_ok-found.ensures.record in (
       put.line.0,
-      inr (omega (arith, c.if-is_early.false), of_record c.args.wanted.now (version_of it.version) it.offset it.place
-          it.body.now (record_of c.in-Some.r.now) (shown_entry c.shown.result) _ put.line.0 spelled c.shown.ensures put.asked
-          put.line.1),
-      put.line.2,
-    )
-
-pub returns-in-None-clause-line : goal.returns-in-None-clause-line
-returns-in-None-clause-line c =
-    let it = c.args.it.now in
-    let put = c.in_ok-put_formless_if_wanted.ensures in
-    let none = subst (FindsRecord (version_of it.version) it.body.now) c.in-None.is c.in_ok-found.ensures.record in (
-      put.line.0,
-      inr (omega (arith, c.if-is_early.false), inr (none, put.asked, put.line.1)),
+      inr (
+        omega (arith, c.if-is_early.false),
+        of_record c.args.wanted.now (version_of it.version) it.offset it.place
+            it.body.now (record_of c.in-Some.r) (shown_entry c.shown.result) _ put.line.0 spelled c.shown.ensures put.asked
+            put.line.1,
+      ),
       put.line.2,
     )

@@ -24,7 +24,7 @@ returns c =
     then_ok _ _ (λ ended. (
       line ++ codes "\n",
       subst (λ (json : Bool). IsLineOf json full e (line ++ codes "\n")) (sym c.if-wanted.false) refl,
-      put_more (string_bytes c.args.text.now) (string_bytes c.put_record.new.text) (string_bytes c.push_str.new.text)
+      put_more (string_bytes c.args.text.now) (string_bytes c.put_record.new.text) (string_bytes c.push_str.new.self)
           line (codes "\n") c.in_ok-put_record.ensures ended,
     )) c.push_str.result (once_put c.push_str.result (string_bytes c.put_record.new.text)
-    (string_bytes c.push_str.new.text) (codes "\n") c.push_str.ensures.bytes)
+    (string_bytes c.push_str.new.self) (codes "\n") c.push_str.ensures.bytes)
