@@ -1,5 +1,5 @@
 use Rattle.std.proofs.Common.{◌++◌, ◌∙◌, ◌≡◌, [], refl, sym, true, string_bytes}
-use Rattle.std.proofs.lemmas.Bool.{true≢false, not-false}
+use Rattle.std.proofs.lemmas.Bool.{true≢false}
 use Rattle.rq_look.proofs.Gathered.{none_gathered, kept_back, both_gathered}
 use Rattle.rq_look.proofs.dumps.put_wanted_behind.Goals as goal
 

@@ -1,4 +1,4 @@
-use Rattle.std.proofs.Common.{◌++◌, ◌∙◌, ℕ, List, Bool, ap, codes, refl, sym, subst, string_bytes}
+use Rattle.std.proofs.Common.{◌++◌, Bool, codes, refl, sym, subst}
 use Rattle.rq_look.specs.Dumps.{IsFormless, formless_line}
 use Rattle.rq_look.proofs.Puts.{then_ok}
 use Rattle.rq_look.proofs.frame_lines.put_formless.Goals as goal
