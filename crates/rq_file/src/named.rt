@@ -121,6 +121,11 @@ impl<F> NamedFile<F> {
         &mut self.file
     }
 
+    /// The file alone, which stays open.
+    pub fn into_file(self) -> F {
+        self.file
+    }
+
     /// Whether the file still has its name.
     pub fn is_there<R: Files<File = F>>(&self, rt: &R) -> bool {
         is_under(rt, &self.file, &self.name)

@@ -101,6 +101,13 @@ impl Kernel {
         }
     }
 
+    /// How many units are open.
+    pub fn open_count(&self) -> usize
+        ensures { result ≡ length self.now.machine.units }
+    {
+        self.machine.open_count()
+    }
+
     /// The element that the next DEQUEUE takes from a queue, if one is free; a copy.
     pub(crate) fn first(&self, queue: QueueNo) -> Result<Option<KeptElement>, NotDone>
         ensures { IfOk result (λ e. e ≡ best queue.0 self.now.machine.elements) }
