@@ -197,7 +197,7 @@ module _ (version : Version) (laws : AnswerLaws) where
       omega (
         arith,
         longer (before ++ h.0 ∷ []) ls after h.2,
-        ap length (log_added version laws.joins before h.0),
+        ap length (log_added version before h.0),
         length-append (log_of version before) (frame (last_of (start version) before) (body_of h.0)),
       )
 

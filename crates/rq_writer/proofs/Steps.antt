@@ -5,18 +5,19 @@ use Rattle.std.specs.Prelude.{⊤, OnOk, IfErr}
 use Rattle.std.proofs.lemmas.List.{length-append, drop_at, append-nil, flat_map_more}
 use Rattle.rq_model.specs.Records.{Record, Version}
 use Rattle.rq_model.specs.Spelling.{IsRecord, body_of}
-use Rattle.rq_model.specs.Frames.{log_limit, frame, start, header, log_of, last_of}
+use Rattle.rq_model.specs.Frames.{log_limit, digest, frame, start, header, frames_of, log_of, last_of}
 use Rattle.rq_model.specs.States.{State}
 use Rattle.rq_model.specs.StateSpelling.{state_bytes}
-use Rattle.rq_model.specs.LogLaws.{LogJoins, LogEnds}
 use Rattle.rq_model.proofs.Lists.{each_append}
+use Rattle.rq_model.proofs.Longest.{log_joins, last_of_join}
 use Rattle.rq_model.proofs.Restarts.{header_long}
 use Rattle.rq_model.proofs.Runs.{frame_long}
 use Rattle.rq_record.specs.Views.{record_of}
-use Rattle.rq_record.specs.Writing.{Appends}
 use Rattle.rq_record.specs.declared.fault.Fault.{Fault}
 use Rattle.rq_record.specs.declared.fault.Fault.TheVariants as faults
 use Rattle.rq_record.specs.Views as code
+use Rattle.rq_front.specs.Framers.{Frames, IsFramerAt, behind_header, length_with}
+use Rattle.rq_front.specs.declared.framer.Framer.{Framer}
 use Rattle.rq_writer.specs.Script.{Line, Told, Spelled, IsLine, Tells, line_text}
 use Rattle.rq_writer.specs.Reading.{cut_at}
 use Rattle.rq_writer.specs.Made.{Adds, AreAdded, BeginsWithLines, Stops, Swells, PassesLimit, Made, IsStateOf, NoLine}
@@ -28,55 +29,58 @@ use Rattle.rq_writer.specs.declared.log.Log.{Log}
 use Rattle.rq_writer.proofs.Parts.{cut_takes, cut_shorter}
 use Rattle.rq_writer.proofs.Ends.{no_lf, no_tale}
 
--- The last 32 bytes.
-
-pub log_tail : (version : Version) → LogEnds → (rs : List Record) (out : List ℕ) → out ≡ log_of version rs
-    → drop (length out - 32) out ≡ last_of (start version) rs
-log_tail version ends rs out e =
-    let end = ends version rs in
-    let last = last_of (start version) rs in
-    ap (λ (l : List ℕ). drop (length l - 32) l) (e ∙ end.1)
-    ∙ drop_at end.0 last (length (end.0 ++ last) - 32) (omega (arith, end.2, length-append end.0 last))
-
 -- The log without records.
 
 pub none_logged : (version : Version) → AreLogged version []
 none_logged version =
     record { records = tt; fits = omega (arith, header_long version, length-append (header version) []) }
 
-pub starts : (version : Version) → LogEnds → (log : Log) → log.out.items ≡ header version
-    → log.last ≡ drop (length log.out.items - 32) log.out.items → IsFrontAfter version log.front []
+pub starts : (version : Version) (log : Log) → log.out.items ≡ header version
+    → IsFramerAt (behind_header version) [] log.framer → IsFrontAfter version log.front []
     → HoldsRecords version log []
-starts version ends log out last front =
-    let made : log.out.items ≡ log_of version [] = out ∙ sym (append-nil (header version)) in
-    record {
-      made = made;
-      last = last ∙ log_tail version ends [] log.out.items made;
-      logged = none_logged version;
-      front = front;
-    }
+starts version log out framer front = record {
+  made = out ∙ sym (append-nil (header version));
+  framer = framer;
+  logged = none_logged version;
+  front = front;
+}
 
 -- One frame.
 
-pub framed_length : (old p body : List ℕ) → length (old ++ frame p body) ≡ length old + length body + 36
-framed_length old p body = omega (arith, length-append old (frame p body), frame_long p body)
+log_long : (version : Version) (rs : List Record)
+    → length (log_of version rs) ≡ length_with (behind_header version) rs
+log_long version rs = omega (arith, length-append (header version) (frames_of (start version) rs), header_long version)
 
-pub framed_from : {A : Type 0} (old new p body : List ℕ) (r : Record) (res : Result A Fault)
-    → Appends old new (frame p body) res → body ≡ body_of r → length old + length body + 36 ≤ 4294967295
-    → Framed old new p r res
-framed_from old new p body r (Ok x) a e short =
-    (a ∙ ap (λ (b : List ℕ). old ++ frame p b) e, omega (arith, short, framed_length old p body, ap length a))
-framed_from old new p body r (Err f) a e short = rw a.0 tt
-
-pub log_added : (version : Version) → LogJoins → (rs : List Record) (r : Record)
+pub log_added : (version : Version) (rs : List Record) (r : Record)
     → log_of version (rs ++ r ∷ []) ≡ log_of version rs ++ frame (last_of (start version) rs) (body_of r)
-log_added version joins rs r = joins version rs (r ∷ [])
+log_added version rs r = log_joins version rs (r ∷ [])
     ∙ ap (λ (l : List ℕ). log_of version rs ++ l) (append-nil (frame (last_of (start version) rs) (body_of r)))
 
-framed_log : (version : Version) → LogJoins → (log : Log) (rs : List Record) (r : Record) → HoldsRecords version log rs
-    → log.out.items ++ frame log.last (body_of r) ≡ log_of version (rs ++ r ∷ [])
-framed_log version joins log rs r h = (λ i. h.made i ++ frame (h.last i) (body_of r))
-    ∙ sym (log_added version joins rs r)
+one_longer : (version : Version) (rs : List Record) (r : Record)
+    → length (log_of version (rs ++ r ∷ [])) ≡ length_with (behind_header version) rs + (36 + length (body_of r))
+one_longer version rs r =
+    let last = last_of (start version) rs in
+    omega (
+      arith,
+      ap length (log_added version rs r),
+      length-append (log_of version rs) (frame last (body_of r)),
+      frame_long last (body_of r),
+      log_long version rs,
+    )
+
+framed_on : (version : Version) (rs : List Record) (r : Record) (a b : Framer) (old new : List ℕ)
+    → IsFramerAt (behind_header version) rs a → Frames a b (body_of r) old new
+    → IsFramerAt (behind_header version) (rs ++ r ∷ []) b
+framed_on version rs r a b old new h framed = record {
+  last = framed.last ∙ ap (λ (q : List ℕ). digest q (body_of r)) h.last
+      ∙ sym (last_of_join (start version) rs (r ∷ []));
+  len = omega (arith, framed.len, h.len, one_longer version rs r, log_long version (rs ++ r ∷ []));
+}
+
+framed_log : (version : Version) (log : Log) (rs : List Record) (r : Record) → HoldsRecords version log rs
+    → log.out.items ++ frame log.framer.last (body_of r) ≡ log_of version (rs ++ r ∷ [])
+framed_log version log rs r h = (λ i. h.made i ++ frame (h.framer.last i) (body_of r))
+    ∙ sym (log_added version rs r)
 
 -- One record.
 
@@ -94,47 +98,46 @@ logged_more version rs l r logged is adds fits = record {
   fits = fits;
 }
 
-module _ (version : Version) (joins : LogJoins) (number : ℕ) (text : List ℕ) (old new : Log) (front : MadeFront)
+module _ (version : Version) (number : ℕ) (text : List ℕ) (old new : Log) (front : MadeFront)
     (r : code.Record) (line : RecordOf version number text old.front front (Ok r)) where
-  pub no_frame : (A B : Type 0) (out : List ℕ) (e : Fault)
-      → Framed {A = B} old.out.items out old.last (record_of r) (Err e)
+  pub no_frame : (A B : Type 0) (framer : Framer) (out : List ℕ) (e : Fault)
+      → Framed {A = B} old.framer framer old.out.items out (record_of r) (Err e)
       → LineMade {A = A} version number text old new (Err e)
-  no_frame A B out faults.TooLong f = (
+  no_frame A B framer out faults.TooLong f = (
     line.0,
     line.1,
     λ rs h. (
       record_of r,
       (line.2 rs h.front h.logged).1,
-      rw (framed_log version joins old rs (record_of r) h) at f,
+      omega (arith, f, h.framer.len, one_longer version rs (record_of r)),
     ),
   )
-  no_frame A B out faults.Resources f = tt
-  no_frame A B out _ f = absurd f
+  no_frame A B framer out faults.Resources f = tt
+  no_frame A B framer out _ f = absurd f
 
-  pub line_kept : {A : Type 0} (res : Result A Fault) → LogEnds
-      → Framed {A = ⊤} old.out.items new.out.items old.last (record_of r) (Ok tt)
-      → new.last ≡ drop (length new.out.items - 32) new.out.items
+  pub line_kept : {A : Type 0} (res : Result A Fault)
+      → Framed {A = ⊤} old.framer new.framer old.out.items new.out.items (record_of r) (Ok tt)
       → OnOk res ((every : Version) (rs : List Record) → IsFrontAfter every front rs
       → IsFrontAfter every new.front (rs ++ record_of r ∷ [])) → IfErr res (λ e. e ≡ faults.Resources)
       → LineMade version number text old new res
-  line_kept (Ok x) ends framed last kept refused = (
+  line_kept (Ok x) framed kept refused = (
     line.0,
     line.1,
     λ rs h.
-        let f = line.2 rs h.front h.logged in
-        let made : new.out.items ≡ log_of version (rs ++ record_of r ∷ []) =
-        framed.0 ∙ framed_log version joins old rs (record_of r) h in (
+        let f = line.2 rs h.front h.logged in (
           record_of r,
           f.1,
           record {
-            made = made;
-            last = last ∙ log_tail version ends (rs ++ record_of r ∷ []) new.out.items made;
-            logged = logged_more version rs line.0 (record_of r) h.logged line.1.0 f.1 (rw made at framed.1);
+            made = framed.0.bytes ∙ framed_log version old rs (record_of r) h;
+            framer = framed_on version rs (record_of r) old.framer new.framer old.out.items new.out.items h.framer
+                framed.0;
+            logged = logged_more version rs line.0 (record_of r) h.logged line.1.0 f.1
+                (omega (arith, framed.1, h.framer.len, one_longer version rs (record_of r)));
             front = kept version rs f.0;
           },
         ),
   )
-  line_kept (Err e) ends framed last kept refused = rw refused tt
+  line_kept (Err e) framed kept refused = rw refused tt
 
 -- One line.
 

@@ -2,13 +2,15 @@
 use Rattle.std.specs.Prelude.{◌≡◌, ℕ, ◌+◌, ◌<◌, ◌≤◌, ⊤, List, [], ◌∷◌, ◌++◌, length, Some, None, Result, Ok, Err}
 use Rattle.rq_model.specs.Records.{Record, Version}
 use Rattle.rq_model.specs.Spelling.{body_of}
-use Rattle.rq_model.specs.Frames.{log_limit, frame, start, log_of, last_of}
+use Rattle.rq_model.specs.Frames.{log_limit, log_of}
 use Rattle.rq_model.specs.States.{State}
 use Rattle.rq_model.specs.StateSpelling.{state_bytes}
 use Rattle.rq_record.specs.Views.{record_of}
 use Rattle.rq_record.specs.declared.fault.Fault.{Fault}
 use Rattle.rq_record.specs.declared.fault.Fault.TheVariants as faults
 use Rattle.rq_record.specs.Views as code
+use Rattle.rq_front.specs.Framers.{Frames, IsFramerAt, behind_header}
+use Rattle.rq_front.specs.declared.framer.Framer.{Framer}
 use Rattle.rq_writer.specs.Script.{Line, Spelled, Tells, line_text}
 use Rattle.rq_writer.specs.Reading.{cut_at}
 use Rattle.rq_writer.specs.Made.{BeginsWithLines, Adds, IsStateOf, spelling_limit}
@@ -16,10 +18,10 @@ use Rattle.rq_writer.specs.Fronts.{IsFrontAfter, AreLogged}
 use Rattle.rq_writer.specs.declared.front.MadeFront.{MadeFront}
 use Rattle.rq_writer.specs.declared.log.Log.{Log}
 
--- the log of the records, with its last 32 bytes and its front
+-- the log of the records, with what frames the next one and its front
 pub record HoldsRecords (version : Version) (log : Log) (rs : List Record) : Type 0 where
   pub made : log.out.items ≡ log_of version rs
-  pub last : log.last ≡ last_of (start version) rs
+  pub framer : IsFramerAt (behind_header version) rs log.framer
   pub logged : AreLogged version rs
   pub front : IsFrontAfter version log.front rs
 
@@ -56,11 +58,13 @@ RecordOf version number text old new (Err faults.Resources) = ⊤
 RecordOf version number text old new (Err _) = ⊥
 
 -- one frame more, or the log would pass its limit
-abbrev pub Framed : {A : Type 0} → List ℕ → List ℕ → List ℕ → Record → Result A Fault → Type 0
-Framed old new p r (Ok x) = (new ≡ old ++ frame p (body_of r)) × (length new ≤ log_limit)
-Framed old new p r (Err faults.TooLong) = log_limit < length (old ++ frame p (body_of r))
-Framed old new p r (Err faults.Resources) = ⊤
-Framed old new p r (Err _) = ⊥
+abbrev pub Framed : {A : Type 0} → Framer → Framer → List ℕ → List ℕ → Record → Result A Fault
+    → Type 0
+Framed a b old new r (Ok x) = Frames a b (body_of r) old new
+    × (a.len + (36 + length (body_of r)) ≤ log_limit)
+Framed a b old new r (Err faults.TooLong) = log_limit < a.len + (36 + length (body_of r))
+Framed a b old new r (Err faults.Resources) = ⊤
+Framed a b old new r (Err _) = ⊥
 
 -- the log with the record that a line adds, or why there is none
 abbrev pub LineMade : {A : Type 0} → Version → ℕ → List ℕ → Log → Log → Result A Fault → Type 0

@@ -1,6 +1,6 @@
 //! The log that is being made.
 
-ghost use Rattle.std.specs.Prelude.{◌≡◌, ◌+◌, ◌≤◌, ◌-◌, List, length, drop};
+ghost use Rattle.std.specs.Prelude.{List};
 ghost use Rattle.rq_model.specs.Records as model;
 ghost use Rattle.rq_record.specs.Views.{record_of, version_of};
 ghost use Rattle.rq_writer.specs.Fronts.{IsFrontAfter, AreLogged};
@@ -8,17 +8,17 @@ ghost use Rattle.rq_writer.specs.Making.{HoldsRecords, RecordOf, Framed, LineMad
 
 use crate::front::MadeFront;
 use crate::readers::ScriptLine;
-use rq_front::{FRAME_LEN, LOG_LIMIT, frame, header_of};
+use rq_front::{Framer, header_of};
 use rq_plan::Plan;
 use rq_record::{Fault, Record, Version, encode};
 use std::alloc::Global;
 use std::thread::Threads;
 
-/// The log of the lines so far, its last 32 bytes, and its front.
+/// The log of the lines so far, what frames the next record, and its front.
 #[derive(Drop)]
 pub(crate) struct Log {
     pub(crate) out: Vec<u8>,
-    last: [u8; 32],
+    framer: Framer,
     front: MadeFront,
 }
 
@@ -44,35 +44,17 @@ fn record_at<R: Threads + Sync>(
     }
 }
 
-fn last_32(bytes: &[u8]) -> [u8; 32]
-    requires { 32 ≤ length bytes.now }
-    ensures { result ≡ drop (length bytes.now - 32) bytes.now }
-{
-    let mut kept = [0; 32];
-    kept.copy_from_slice(&bytes[bytes.len() - 32..]);
-    kept
-}
-
-fn framed_len(out: &[u8], body: &[u8]) -> usize
-    requires out { length out.now ≤ 4294967295 }
-    requires body { length body.now ≤ 268435456 }
-    ensures { result ≡ length out.now + length body.now + 36 }
-{
-    out.len() + body.len() + FRAME_LEN
-}
-
 // Appends the frame of a record. `TooLong` if the log would pass 4,294,967,295 bytes.
-fn append(alloc: Global, out: &mut Vec<u8>, last: &[u8; 32], r: &Record) -> Result<(), Fault>
-    requires { length out.old.items ≤ 4294967295 }
-    ensures { Framed out.old.items out.new.items last.now (record_of r.now) result }
+fn append(alloc: Global, out: &mut Vec<u8>, framer: &mut Framer, r: &Record) -> Result<(), Fault>
+    ensures { Framed framer.old framer.new out.old.items out.new.items (record_of r.now) result }
 {
     rq_model::one_spelling();
     let mut body = Vec::new(alloc);
     encode(r, &mut body)?;
-    if framed_len(out, &body) > LOG_LIMIT {
+    if !framer.has_room(body.len()) {
         return Err(Fault::TooLong);
     }
-    frame(last, &body, out)
+    framer.put(&body, out)
 }
 
 impl Log {
@@ -80,12 +62,11 @@ impl Log {
     pub(crate) fn start(alloc: Global, version: Version) -> Result<Log, Fault>
         ensures { Starts (version_of version) result }
     {
-        rq_model::frames_join();
         let mut out = Vec::new(alloc);
         header_of(version, &mut out)?;
-        let last = last_32(&out);
+        let framer = Framer::new(version);
         let front = MadeFront::start(alloc);
-        Ok(Log { out, last, front })
+        Ok(Log { out, framer, front })
     }
 
     /// Adds the record of the next line.
@@ -101,10 +82,8 @@ impl Log {
         requires { (rs : List model.Record) × HoldsRecords (version_of version) self.old rs }
         ensures { LineMade (version_of version) number text.now self.old self.new result }
     {
-        rq_model::frames_join();
         let r = record_at(rt, alloc, &mut self.front, version, plan, number, text)?;
-        append(alloc, &mut self.out, &self.last, &r)?;
-        self.last = last_32(&self.out);
+        append(alloc, &mut self.out, &mut self.framer, &r)?;
         self.front.keep(alloc, &r)
     }
 }
