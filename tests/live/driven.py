@@ -11,7 +11,7 @@ import argparse, multiprocessing, os, random, struct, subprocess
 from collections.abc import Iterable
 
 import frames as records
-from frames import chained, header_of, listed
+from frames import HEADER, header_of, listed
 from second import DRAWN, Machine, Note, Restart, record_of
 from trying import TOP, check
 
@@ -19,8 +19,8 @@ from trying import TOP, check
 LENGTH = 40
 # How often other lines are drawn than those of second.py, which has the kinds of records.
 OTHERS = {"take": 3, "later": 6, "settle": 3, "queues": 1, "units": 3, "first": 6, "last": 4, "logged": 3}
-# So many crashes are tried, and so long is the garbage that one may leave.
-CRASHES, GARBAGE = 6, 200
+# So many crashes are tried, but of one sequence of so many a crash at each length; and so long is the garbage that one may leave.
+CRASHES, EACH, GARBAGE = 6, 100, 200
 GREATEST = 2**64 - 1
 NAMES = [b"ann", b"an", b"b-1", b"c.d_e"]
 
@@ -225,29 +225,40 @@ class Sequence:
 
     # --- crashes ---------------------------------------------------------------------------------------------------
 
-    def left(self) -> bytes | None:
-        """What a crash leaves, if its header was written: what was safe, whatever was written since or a part of it, and garbage."""
-        at = self.draw.randrange(records.HEADER, len(self.log) + 1)
+    def left(self, at: int, garbage: bytes) -> bytes | None:
+        """Lets another manager go on behind so many bytes and garbage. What a crash left, if not all that was safe is found there."""
         synced = max(it for it in self.safe if it <= at)
-        garbage = self.draw.choice([b"", bytes(self.draw.randrange(GARBAGE)), self.draw.randbytes(self.draw.randrange(GARBAGE))])
         left = self.log[:at] + garbage
         found = Restart(left)
         unit = found.machine.greatest + 1
-        if unit > GREATEST:
-            return None
-        goes_on = records.framed(found.closed, records.begin(unit))
-        self.add(b"left %d %b" % (synced, left.hex().encode()), f"opened {len(left) - found.used} {unit} {len(goes_on)} {goes_on.hex()}")
+        if unit <= GREATEST:
+            goes_on = records.framed(found.closed, records.begin(unit))
+            self.add(b"left %d %b" % (synced, left.hex().encode()), f"opened {len(left) - found.used} {unit} {len(goes_on)} {goes_on.hex()}")
         return None if found.used >= synced else left
 
+    def crashes(self, count: int) -> list[bytes]:
+        """What was lost by drawn crashes: each leaves what was safe, whatever was written since or a part of it, and garbage."""
+        drawn = ((self.draw.randrange(HEADER, len(self.log) + 1), self.garbage()) for _ in range(count))
+        return self.lost(drawn)
 
-def driven(task: tuple[str, int, int]) -> list[tuple[str, str, str]]:
+    def each_crash(self) -> list[bytes]:
+        """The same of each length."""
+        return self.lost((at, garbage) for at in range(HEADER, len(self.log) + 1) for garbage in (b"", bytes(GARBAGE), self.garbage()))
+
+    def garbage(self) -> bytes:
+        return self.draw.choice([b"", bytes(self.draw.randrange(GARBAGE)), self.draw.randbytes(self.draw.randrange(GARBAGE))])
+
+    def lost(self, crashes: Iterable[tuple[int, bytes]]) -> list[bytes]:
+        return [left for left in (self.left(*it) for it in crashes) if left is not None]
+
+
+def driven(task: tuple[str, int, bool]) -> list[tuple[str, str, str]]:
     """Drives a sequence: each line that is answered otherwise, its answer, and the right one."""
-    program, number, crashes = task
-    draw = random.Random(number)
-    it = Sequence(draw, 1 + number % 2)
+    program, number, tries_each = task
+    it = Sequence(random.Random(number), 1 + number % 2)
     it.settle()
     it.logged()
-    lost = [left for left in (it.left() for _ in range(crashes)) if left is not None]
+    lost = it.each_crash() if tries_each else it.crashes(CRASHES)
     ended = subprocess.run([program], input=b"".join(line + b"\n" for line in it.lines), stdout=subprocess.PIPE)
     got = ended.stdout.decode().split("\n")[:-1]
     name = f"sequence {number}"
@@ -265,7 +276,8 @@ def takes(line: argparse.ArgumentParser) -> None:
 
 
 def main(options: argparse.Namespace) -> None:
-    tasks = ((os.path.abspath(options.drive), options.first + number, CRASHES) for number in range(options.sequences))
+    program = os.path.abspath(options.drive)
+    tasks = ((program, options.first + number, number % EACH == 0) for number in range(options.sequences))
     with multiprocessing.Pool(len(os.sched_getaffinity(0))) as pool:
         for wrong in pool.imap(driven, tasks, chunksize=8):
             for name, got, want in wrong or [("all answers", "", "")]:

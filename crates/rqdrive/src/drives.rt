@@ -154,8 +154,11 @@ where
     requires { IsInOrder (stand_of D.written D.synced D.doubted D.failed m.old) }
 {
     let mut rest = lines;
-    while !rest.is_empty() {
-        let (text, after) = line_at(1, rest)?;
+    for number in 1..u64::MAX {
+        if rest.is_empty() {
+            break;
+        }
+        let (text, after) = line_at(number, rest)?;
         let answer = answered(rt, m, version, text)?;
         println!(rt; "{answer}")?;
         rest = after;

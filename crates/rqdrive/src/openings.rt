@@ -1,5 +1,8 @@
 //! Opening what a crash left.
 
+ghost use Rattle.std.specs.Prelude.{length};
+ghost use Rattle.rq_live.specs.Kernels.{StandsWithin};
+
 use crate::words::{Unanswered, first_word, number_in};
 use rq_device::{Memory, WINDOW};
 use rq_journal::Plan;
@@ -15,15 +18,23 @@ fn resumed(
     opening: Opening,
     left: Vec<u8>,
     synced: usize,
-) -> Result<String, Unanswered> {
+) -> Result<String, Unanswered>
+    requires { StandsWithin opening.found.kernel (length left.items) }
+{
     let stands = left.len();
-    if stands.saturating_sub(synced) > WINDOW {
+    if stands < synced || WINDOW < stands - synced {
         return Err(Unanswered::Line);
     }
     let mut m = Manager::over(Memory::left_by_crash(left, synced), opening.found.kernel);
-    m.resume(alloc, stands)?;
-    let unit = m.begin(alloc)?;
-    m.settle()?;
+    let is_resumed = m.resume(alloc, stands).is_ok();
+    let begun = m.begin(alloc);
+    let is_settled = m.settle().is_ok();
+    let Ok(unit) = begun else {
+        return Err(Unanswered::Line);
+    };
+    if !is_resumed || !is_settled {
+        return Err(Unanswered::Line);
+    }
     let bytes = hex::encode(alloc, m.device().bytes())?;
     Ok(format!(in alloc;
         "opened {} {} {} {bytes}",

@@ -9,7 +9,7 @@ use rq_device::{Device, Memory, WINDOW};
 use rq_lawful::Rule;
 use rq_live::{Manager, NotDone};
 use rq_record::{By, ElemId, Fault, KeptName, LogBytes, Name, Payload, QueueNo, UnitNo, Version};
-use rq_reopen::Opening;
+use rq_reopen::{FoundLog, Opening};
 use rq_restart::{Plan, closed};
 use std::alloc::Global;
 use std::test::Fail;
@@ -192,6 +192,13 @@ fn what_is_not_lawful_is_refused(rt: HostRuntime) -> Result<(), Fail> {
     Ok(())
 }
 
+// Where a manager goes on; what is cut off goes.
+pub(crate) fn found_in(opened: Opening) -> FoundLog
+    ensures { result ≡ opened.found }
+{
+    opened.found
+}
+
 // Whether a manager goes on from what a crash left, of which nothing was synced: it aborts what is
 // open there, and then the device has what a closed log has.
 fn goes_on_from<R: Threads + Sync + AllocGlobal>(
@@ -206,8 +213,9 @@ fn goes_on_from<R: Threads + Sync + AllocGlobal>(
     if left.len() > WINDOW || left.get(opened.found.end.used..) != Some(opened.cut.as_slice()) {
         return Ok(false);
     }
+    let found = found_in(opened);
     let device = Memory::left_by_crash(Vec::from_slice(rt.alloc(), left)?, 0);
-    let mut m = Manager::over(device, opened.found.kernel);
+    let mut m = Manager::over(device, found.kernel);
     let resumed = m.resume(rt.alloc(), left.len());
     let bytes = m.device().bytes();
     Ok(resumed.is_ok() && bytes == want.as_slice() && m.device().synced() == bytes.len())

@@ -1,6 +1,6 @@
 //! A manager over a file: what is written, cut and synced there, and what a failed call leaves.
 
-use super::live::committed_of;
+use super::live::{committed_of, found_in};
 use super::{ONE_ELEMENT, RETURN_AND_ARRIVAL, log_of};
 use rq_live::Manager;
 use rq_log_file::LogFile;
@@ -147,8 +147,9 @@ fn goes_on_in_a_file<R: Threads + Sync + AllocGlobal>(
     let Ok(opened) = Opening::of(rt, rt.alloc(), &LogBytes::borrowed(left), plan, false) else {
         return Ok(false);
     };
+    let found = found_in(opened);
     let held = HeldFile::of(Vec::from_slice(rt.alloc(), left)?, u64::MAX);
-    let mut m = Manager::over(LogFile::new(held, left.len()), opened.found.kernel);
+    let mut m = Manager::over(LogFile::new(held, left.len()), found.kernel);
     let resumed = m.resume(rt.alloc(), left.len());
     Ok(resumed.is_ok() && m.device().file().all() == want.as_slice())
 }
