@@ -1,6 +1,6 @@
-"""By hand. Times what makes a log of a log, restarts from checkpoints, and the reading and spelling of states."""
+"""By hand. Times what makes a log of a log, restarts from checkpoints, the reading and spelling of states, and a queue manager."""
 from __future__ import annotations
-import argparse, hashlib, os, sys
+import argparse, hashlib, os, statistics, subprocess, sys
 from collections.abc import Iterator
 
 from frames import begin, define, enqueue, header_of, spans_of, write_log
@@ -206,3 +206,23 @@ def states() -> None:
         early, late = (best([options.program, "restart-at", path, str(frame), "1", "1000"], 1) for path in files)
         read, spelled = late - early, twice - once
         print(f"| {payload} bytes | {size:.0f} MB | {read:.2f} s, {size / read:.0f} MB/s | {spelled:.2f} s, {size / spelled:.0f} MB/s |")
+
+
+def live() -> None:
+    """Times a queue manager over memory: how many records a second it does.
+
+    usage: python3 bench live RQDRIVE [--elements N] [--runs N]
+    Each element is put in by one unit and taken out by another: six records, payloads of 100 bytes. The units are made safe at the end,
+    and the log stays in memory. The median and the best of the runs.
+    """
+    words = parser()
+    words.add_argument("--elements", type=int, default=500_000)
+    words.add_argument("--runs", type=int, default=5)
+    options = parsed(words)
+    took = []
+    for _ in range(options.runs):
+        done = subprocess.run([options.program], input=f"time {options.elements}\n", capture_output=True, text=True, check=True)
+        took.append(int(done.stdout.split()[2]) / 1000)
+    records = 6 * options.elements + 1
+    print(f"{records} records: median {statistics.median(took):.2f} s, {records / statistics.median(took) / 1e6:.2f} million a second; "
+          f"best {min(took):.2f} s, {records / min(took) / 1e6:.2f} million a second")

@@ -14,7 +14,7 @@ from types import ModuleType
 # A run leaves nothing in the clone.
 sys.dont_write_bytecode = True
 HERE = os.path.dirname(os.path.abspath(__file__))
-FOLDERS = ("programs", "faults", "others", "many", "lint", "tools")
+FOLDERS = ("programs", "faults", "others", "many", "live", "lint", "tools")
 sys.path[:0] = [HERE, *(os.path.join(HERE, it) for it in FOLDERS)]
 import trying  # noqa: E402
 

@@ -35,7 +35,7 @@ from trying import TOP, text_in
 CRATES = os.path.join(TOP, "crates")
 # The wrong bodies without which the program would be worth nothing, and how many there are at least of all.
 PINNED, LEAST = os.path.join(TOP, "tests", "lint", "pinned.txt"), 700
-TESTS, PROGRAMS = {"rq_rows"}, {"rq", "rqlook", "rqlog"}
+TESTS, PROGRAMS = {"rq_rows", "rqdrive"}, {"rq", "rqlook", "rqlog"}
 # The head of a definition, or of a module with parameters, in which some stand.
 HEAD = re.compile(r"^(?:abbrev |unfolding |unfoldable |pub |record |data )*(?!use |open |infix|ruleset |pub mod |mod )([^\s(){}:]+)(?= [^=\n]*(?::|where)| :)", re.M)
 INNER = re.compile(r"^  (?:abbrev |unfolding |pub |record |data )*([^\s(){}:]+)(?: [^=\n]*?)? :", re.M)
@@ -75,31 +75,36 @@ ONE_THING = {
     "state": ("rq_restart rq_standing", "the state in which a value stands, or that an answer has"),
     "front_of": ("rq_judged rqlog", "the front of a log"),
     "end_of": ("rq_found rq_judged", "where the front of a log ends"),
-    "abort": ("rq_catalog rq_found rq_queue", "aborts a unit, in the catalogue or in the queues"),
+    "abort": ("rq_catalog rq_found rq_live rq_queue", "aborts a unit, in the catalogue or in the queues"),
+    "commit": ("rq_live rq_queue", "commits a unit, in the manager or in the queues"),
+    "dequeue": ("rq_live rq_queue", "takes the best element of a queue"),
+    "kill": ("rq_live rq_queue", "takes a free element out of a queue"),
+    "settle": ("rq_file rq_live", "ends the work on what was written, so that it stays"),
     "aborted": ("rq_catalog rq_restart rq_state", "how many units were aborted"),
-    "definitions": ("rq_catalog rq_standing rq_state", "the definitions of all queues, by number"),
+    "definitions": ("rq_catalog rq_live rq_standing rq_state", "the definitions of all queues, by number"),
     "greatest": ("rq_catalog rq_standing rq_state", "the greatest unit that began"),
     "committed": ("rq_catalog rq_restart rq_state", "how many units were committed"),
     "broken": ("rq_catalog rq_journal rq_lawful rq_standing", "a rule that the record breaks: an appender asks its judge"),
-    "bytes": ("rq_record rq_writer", "the bytes of a value"),
+    "bytes": ("rq_device rq_record rq_writer", "the bytes of a value"),
     "compare": ("rq_queue rq_standing rq_state", "the value's spelling is to come next in the bytes"),
     "count": ("rq_queue rq_standing", "how many members there are"),
     "lent": ("rq_queue rq_record rq_state", "the same value, lent"),
     "registrant_count": ("rq_queue rq_state", "how many registrants there are"),
     "copied": ("rq_record rq_state", "the same value again"),
-    "register": ("rq_catalog rq_queue", "registers a name with a queue"),
-    "deregister": ("rq_catalog rq_queue", "ends a registration"),
+    "register": ("rq_catalog rq_live rq_queue", "registers a name with a queue"),
+    "deregister": ("rq_catalog rq_live rq_queue", "ends a registration"),
     "empty": ("rq_standing rq_state", "the state before the first record"),
     "engage": ("rq_catalog rq_standing", "a unit engages a queue"),
-    "first": ("rq_queue rq_standing", "the element of a queue that the next DEQUEUE takes"),
-    "file": ("rq_file rqlog", "the file that is held"),
+    "first": ("rq_live rq_queue rq_standing", "the element of a queue that the next DEQUEUE takes"),
+    "first_elements": ("rq_live rq_queue", "the first free elements of a queue, in the order in which they would be taken"),
+    "file": ("rq_file rq_log_file rqlog", "the file that is held"),
     "hear": ("rq_queue rq_state", "hears of an operation that is committed"),
     "is_by": ("rq_queue rq_state", "whether a note is of the unit"),
     "is_of": ("rq_queue rq_state", "whether a note is of the registrant"),
     "key": ("rq_queue rq_state", "what a member is in order by"),
     "marked_by": ("rq_queue rq_standing", "what a unit put in or took of a queue"),
     "note": ("rq_queue rq_state", "the note of an operation"),
-    "open_units": ("rq_catalog rq_found rq_standing", "the units that are open"),
+    "open_units": ("rq_catalog rq_found rq_live rq_standing", "the units that are open"),
     "place": ("rq_queue rq_state", "the record's number in the log"),
     "queue": ("rq_found rq_queue rq_state", "the queue that a value is of"),
     "record": ("rq_look rq_queue rq_record", "the record that a value holds or spells"),

@@ -5,9 +5,10 @@ With --everyday one log of an everyday size, with nothing odd about it, is resta
 recovered and upgraded, with one worker and with four, and appended whole to a log without records. It has 4,096 queues, 1.2 million records,
 100,000 elements and 300 MB, and 100 units are open at its end.
 With --share it has so many of a hundred parts of all but its queues. It needs two gigabytes of memory and of disk.
+A log that has room for 44 bytes more refuses a record of 45. That log is of checkpoints that are nothing but zeros, so its file has holes,
+and takes little of the disk. Each run over it costs a digest over 4 GiB.
 With --full the programs are taken to the limits of a log's length: a file of more than 1 GiB is read to its end, and one of more than 4 GiB
-is too long; a log that has room for 44 bytes more is appended to and carried on: what fits stands, and what does not is told. That log is of
-checkpoints that are nothing but zeros, so its file has holes, and takes little of the disk. Each run costs a digest over 4 GiB.
+is too long; that log is appended to and carried on: what fits stands, and what does not is told.
 """
 from __future__ import annotations
 import argparse, os, resource, shutil, subprocess, sys, time
@@ -318,8 +319,20 @@ class Everyday:
 
 LONGEST_LOG = 2**32 - 1
 ROOM_LEFT = 44
+FULL = b"log is full: carry it on"
 # The longest body of zeros behind a kind, and how much of it is digested at a time.
 LONGEST_BODY, PIECE = 268_435_456, bytes(1 << 20)
+# The digests of the checkpoints of that log: to make them takes longer than to look at one. With --full they are made anew.
+DIGESTS = """
+42714e5739331f1ebbe8a9804ae4117721a4a7dce724138bcc63f0583ef1bae7 a679e96bedf27e435b5bd47c8a1cc540a49129250dfafcb49bd9a2d52b3ae2f2
+a30cffd917ec6b5bf82c7efa5d066820a7e27c1dbd7eaae487e0d99bc65d70da 3d82b267c3e09ed23c2efe4e951bbdbccd4e9130c7ff4b70e9a4b32a2fe9ba80
+f0f0f276f19917eaffe92a0a10cc7b5b9ad276d3cf06ba82ff389455df1204d2 4827cf50e917979a3ce33bf08245a993d7870e42402c1f89d0126946c21a6664
+dd1d00ffcb66b028fe74844f2823a159370bbbfbd6670a189e4e04ddd8b6c433 0993222eaf5c3e51f1dd3dabb4d41855e44e5d476a506608f5dc1955f945df58
+d7508732209d486bd80ef9aa601a1a5f882b78de4471e43c4c6a6e27a52fc11c 428529512c46f777acac02f4e3a1ba704071c129f3c5d298adaaa4ac4d34472e
+072dbc4dd1e4885afeb835ff04068898fbd5c8d1978cb34250f59c785f6bfd81 7c52be84033ba7b0a4efe4efa1d39300233c30b2c60089eed6d69184bfa38982
+dc3a6d88930f4b816820914b57ad1171e7e3b841351c5476c8110d7801a130f8 944707719bacbe7cd6bcbb0cd8320676fc6ad491267c3ce5274f61e46cd77a3a
+87b33dc65d2760861751bac3e2a85b7ccd583e36744194e7a401c187bcc5e015 2e0f8d7d24f0dcd0eefe309ba754940e0eb564a2ad5e21500854484b09d92a27
+"""
 
 
 def lengths(room: int) -> Iterator[int]:
@@ -330,29 +343,36 @@ def lengths(room: int) -> Iterator[int]:
     yield room - 36
 
 
-def write_zeros(file, digest: bytes, length: int) -> bytes:
-    """The frame of a checkpoint of zeros; its digest."""
-    head = length.to_bytes(4, "big") + b"\x09"
-    made = sha256(digest + head)
+def head_of_zeros(length: int) -> bytes:
+    """What a checkpoint of zeros begins with, as a frame."""
+    return length.to_bytes(4, "big") + b"\x09"
+
+
+def digest_of_zeros(digest: bytes, length: int) -> bytes:
+    """The digest of a checkpoint of zeros behind the frame of this digest."""
+    made = sha256(digest + head_of_zeros(length))
     rest = length - 1
     for _ in range(rest // len(PIECE)):
         made.update(PIECE)
     made.update(PIECE[:rest % len(PIECE)])
-    file.write(head)
-    file.seek(rest, os.SEEK_CUR)
-    file.write(made.digest())
     return made.digest()
 
 
-def make_full(path: str) -> None:
-    """The log, which has one queue."""
+def make_full(path: str, digests: list[bytes] = []) -> list[bytes]:
+    """The log, which has one queue; the digests of its checkpoints, made anew where they are not given."""
+    made: list[bytes] = []
     with open(path, "wb") as file:
         header = header_of(1)
         body = len(define(b"jobs")).to_bytes(4, "big") + define(b"jobs")
         digest = sha256(header[8:] + body).digest()
         file.write(header + body + digest)
-        for length in lengths(LONGEST_LOG - ROOM_LEFT - HEADER - len(body) - 32):
-            digest = write_zeros(file, digest, length)
+        for at, length in enumerate(lengths(LONGEST_LOG - ROOM_LEFT - HEADER - len(body) - 32)):
+            digest = digests[at] if digests else digest_of_zeros(digest, length)
+            made.append(digest)
+            file.write(head_of_zeros(length))
+            file.seek(length - 1, os.SEEK_CUR)
+            file.write(digest)
+    return made
 
 
 def sparse(path: str, length: int) -> str:
@@ -385,17 +405,30 @@ def timed(*words: str, script: bytes = b"") -> Ended:
     return ended
 
 
+def has_no_room(log: str) -> None:
+    """What rqlog says of a record of 45 bytes behind a log that has room for 44 bytes more, which stays as it was."""
+    told = b"rqlog: script line 1: begin 1: " + FULL + b"; nothing was appended\n"
+    check("a record of 45 bytes", (len(begin(1)) + 36, timed(RQLOG, "append", log, script=b"begin 1\n")), (45, (1, b"", told)))
+    check("it is as it was", os.path.getsize(log), LONGEST_LOG - ROOM_LEFT)
+
+
+def nearly_full(folder: str) -> None:
+    """That alone, which costs one digest over 4 GiB."""
+    log = os.path.join(folder, "full.log")
+    make_full(log, [bytes.fromhex(it) for it in DIGESTS.split()])
+    has_no_room(log)
+    os.remove(log)
+
+
 def full(folder: str) -> None:
     """A log that has room for 44 bytes more."""
     reads_all(os.path.join(folder, "sparse.log"))
     log, new = os.path.join(folder, "full.log"), os.path.join(folder, "full.carried")
-    make_full(log)
-    check("length", os.path.getsize(log), LONGEST_LOG - ROOM_LEFT)
+    made = make_full(log)
+    check("digests of zeros", [it.hex() for it in made], DIGESTS.split())
     taken_away(new)
-    full = b"log is full: carry it on"
-    told = b"rqlog: script line 1: begin 1: " + full + b"; nothing was appended\n"
-    check("a record of 45 bytes", (len(begin(1)) + 36, timed(RQLOG, "append", log, script=b"begin 1\n")), (45, (1, b"", told)))
-    check("a checkpoint", timed(RQLOG, "checkpoint", log), (1, b"", b"rqlog: " + full + b"\n"))
+    has_no_room(log)
+    check("a checkpoint", timed(RQLOG, "checkpoint", log), (1, b"", b"rqlog: " + FULL + b"\n"))
     check("it is as it was", os.path.getsize(log), LONGEST_LOG - ROOM_LEFT)
     done = timed(RQLOG, "append", log, script=b"define a 0 -\n")
     check("a record of 44 bytes", (len(define(b"a")) + 36, done), (44, (0, b"appended 1 records, %d bytes\n" % LONGEST_LOG, b"")))
@@ -434,3 +467,4 @@ def main(options: argparse.Namespace) -> None:
     if not options.everyday and not options.full:
         ordinary()
         checkpoints()
+        nearly_full(options.folder)

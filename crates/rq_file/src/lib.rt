@@ -4,7 +4,6 @@
 mod late;
 mod named;
 mod names;
-mod paths;
 mod patient;
 mod predecessors;
 mod standard;
@@ -12,9 +11,8 @@ mod version;
 mod whole_files;
 
 pub use late::Late;
-pub use named::NamedFile;
+pub use named::{NamedFile, folder_within};
 pub use names::Names;
-pub use paths::folder_within;
 pub use patient::Patient;
 pub use predecessors::Replaces;
 pub use standard::hold_standard;

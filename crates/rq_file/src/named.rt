@@ -1,9 +1,63 @@
-//! A file that is used where it stands.
+//! What a path names, and a file that is used where it stands.
 
-use crate::paths::followed;
+use std::alloc::{AllocError, Global};
 use std::fs::{self, Files, Metadata, OpenFile, OpenOptions};
 use std::io::{self, ErrorKind};
 use std::os::unix::fs::MetadataExt;
+use std::path::Path;
+
+// How many symbolic links are followed, one behind the other: as many as the system follows.
+const LINKS: u32 = 40;
+
+// The folder of what this process has open, on the file system that shows processes.
+const OPEN_FILES: &str = "/proc/self/fd";
+
+// The folder that a path lies in.
+fn folder_of(path: &str) -> &str {
+    match Path::new(path).parent() {
+        Some(folder) if !folder.as_str().is_empty() => folder.as_str(),
+        _ => ".",
+    }
+}
+
+/// The folder that a path lies in, by a name that only a folder can have: to open it never waits,
+/// as it would for a pipe that somebody put in its place.
+pub fn folder_within(alloc: Global, path: &str) -> Result<String, AllocError> {
+    let folder = folder_of(path);
+    format!(in alloc; "{folder}/.")
+}
+
+/// Whether the path names a file that a process has open, as `/dev/stdout` does behind its link:
+/// whether its folder is on the file system that shows processes, however the path is written.
+pub(crate) fn is_of_process<R: Files>(rt: &R, path: &str) -> bool {
+    let folder = fs::metadata(rt, folder_of(path));
+    let open_files = fs::metadata(rt, OPEN_FILES);
+    match (folder, open_files) {
+        (Ok(folder), Ok(open_files)) => folder.dev() == open_files.dev(),
+        _ => false,
+    }
+}
+
+/// What a path names behind its symbolic links, whether it is there or not.
+pub(crate) fn followed<R: Files + AllocGlobal>(rt: &R, path: &str) -> io::Result<String> {
+    let mut real = String::from_str(rt.alloc(), path)?;
+    // One look more than links: behind the last one there may be a file.
+    for _ in 0..=LINKS {
+        if is_of_process(rt, &real) {
+            return Ok(real);
+        }
+        real = match fs::read_link(rt, real.as_str()) {
+            Ok(next) => Path::new(folder_of(&real))
+                .join(rt.alloc(), next.as_str())?
+                .into_string(),
+            Err(error) => match error.kind() {
+                ErrorKind::InvalidInput | ErrorKind::NotFound => return Ok(real),
+                _ => return Err(error),
+            },
+        };
+    }
+    Err(io::Error::from(ErrorKind::FilesystemLoop))
+}
 
 /// Whether these are of one file.
 pub(crate) fn is_same(one: &Metadata, other: &Metadata) -> bool {

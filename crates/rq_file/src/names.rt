@@ -1,18 +1,21 @@
 //! The file that takes the place of another once it is whole.
 
-ghost use Rattle.std.specs.Prelude.{◌≡◌, IfOk, IfSome, true};
+ghost use Rattle.std.specs.Prelude.{◌≡◌, IfOk, IfSome, string_bytes, true};
 ghost use Rattle.std.specs.Fs.{asks_create_new, asks_write};
-ghost use Rattle.rq_file.specs.Beside.{IsBeside};
+ghost use Rattle.rq_file.specs.Beside.{IsBeside, name_beside};
 ghost use Rattle.rq_file.specs.Targets.{new_of, old_of};
 
-use crate::named::{expect_under, is_same, is_under};
-use crate::paths::{folder_within, followed, free_name, is_of_process};
+use crate::named::{expect_under, folder_within, followed, is_of_process, is_same, is_under};
 use crate::predecessors::{Replaces, is_free};
+use std::alloc::{AllocError, Global};
 use std::fs::{File, Files, Metadata, OpenFile, OpenOptions, Permissions};
 use std::io::ErrorKind;
 use std::os::fd::AsFd;
 use std::os::unix::fs::{MetadataExt, OpenOptionsExt, PermissionsExt, fchown};
 use std::{fs, io};
+
+// How many names are tried for a file: some may be left by runs that were killed.
+const NAMES: u32 = 100;
 
 // The mode of a file while it is written that is to take the place of another: nobody else reads
 // it, whoever may read that.
@@ -21,6 +24,29 @@ const OWN_MODE: u32 = 0o600;
 // What of an old file's mode says who may do what with it. A new file never gets the rest, by which
 // a program runs as its owner.
 const PERMISSIONS: u32 = 0o777;
+
+// The name of this number beside a path.
+fn name_beside(alloc: Global, path: &str, number: u32) -> Result<String, AllocError>
+    ensures { IfOk result (λ name. string_bytes name ≡ name_beside path.now number) }
+{
+    format!(in alloc; "{path}.rq{number}")
+}
+
+// A name beside a path that no file has.
+fn free_name<R: Files + AllocGlobal>(rt: &R, path: &str) -> io::Result<String>
+    ensures { IfOk result (λ name. IsBeside path.now (string_bytes name)) }
+{
+    for number in 0..NAMES {
+        let name = name_beside(rt.alloc(), path, number)?;
+        if fs::symlink_metadata(rt, name.as_str()).is_err() {
+            return Ok(name);
+        }
+    }
+    Err(io::Error::new(
+        ErrorKind::AlreadyExists,
+        "all names from .rq0 to .rq99 behind it are taken",
+    ))
+}
 
 /// What stands under a name: none where nothing does. Nothing but a file counts: what a path leads
 /// to was looked for before, so a link or a folder was put there since.

@@ -24,7 +24,7 @@ use Rattle.rq_journal.specs.Appenders.{AppendsEach, AppendsUpTo}
 use Rattle.rq_journal.specs.Openings.{IsOpened, IsOpenedAt, AreWrittenBehind, IsHeldBack}
 use Rattle.rq_journal.specs.declared.appender.Appender.{Appender}
 use Rattle.rq_journal.specs.declared.appender.NotTaken.{NotTaken}
-use Rattle.rq_journal.specs.declared.opened_logs.Opened.{Opened}
+use Rattle.rq_journal.specs.declared.appender.Opened.{Opened}
 use Rattle.rq_journal.proofs.Taking.{later}
 
 -- a judge of the state behind a front

@@ -15,7 +15,7 @@ use Rattle.rq_judged.specs.Refusals.{RefusedAt}
 use Rattle.rq_judged.specs.Views.{why_of}
 use Rattle.rq_journal.specs.Appenders.{IsAppenderAt, IsRefused}
 use Rattle.rq_journal.specs.declared.appender.NotTaken.{NotTaken}
-use Rattle.rq_journal.specs.declared.opened_logs.Opened.{Opened}
+use Rattle.rq_journal.specs.declared.appender.Opened.{Opened}
 use Rattle.rq_journal.specs.declared.opened_logs.NotWritten.{NotWritten}
 use Rattle.rq_journal.specs.declared.opened_logs.NotWritten.TheVariants.{Log, At}
 

@@ -1,19 +1,25 @@
-//! What takes records behind the front of a log, and gives their frames.
+//! What takes records behind the front of a log, and gives their frames; and where it stands there.
 
-ghost use Rattle.std.specs.Prelude.{◌≡◌, ◌≤◌, List, [], OnOk, IfOk, IfErr};
+ghost use Rattle.std.specs.Prelude.{◌≡◌, ◌≤◌, ℕ, List, [], OnOk, IfOk, IfErr};
 ghost use Rattle.std.specs.Prelude.{length, map, take, drop};
 ghost use Rattle.rq_model.specs.Records as model;
 ghost use Rattle.rq_record.specs.Views.{record_of, version_of};
+ghost use Rattle.rq_record.specs.declared.fault.Fault.TheVariants as faults;
 ghost use Rattle.rq_front.specs.Framers.{Place, behind_header};
+ghost use Rattle.rq_judged.specs.JudgedFronts.{IsJudged, IsJudgedAt};
+ghost use Rattle.rq_restart.specs.RedoneFronts.{IsRedoneAt, IsRedoneFront};
 ghost use Rattle.rq_journal.specs.Appenders.{IsAppenderAt, IsSpelled, IsJudgedAs};
 ghost use Rattle.rq_journal.specs.Appenders.{Refuses, KeepsPlace, AppendsUpTo, AppendsOne, AppendsEach};
+ghost use Rattle.rq_journal.specs.Openings.{IsOpened, IsOpenedAt};
 
 use rq_catalog::Judge;
 use rq_front::{FRAME_LEN, Framer};
+use rq_judged::{Edge, JudgedFront};
 use rq_lawful::Rule;
 use rq_record::{
     CheckBytes, Fault, KeptBy, KeptPayload, KeptRecord, Payload, Record, Version, encode,
 };
+use rq_restart::RedoneFront;
 use std::alloc::Global;
 
 /// Why a record is not taken.
@@ -164,5 +170,46 @@ impl Appender {
             count += 1;
         }
         (count, None)
+    }
+}
+
+/// An appender that stands where the front of a log ends, and where that is.
+#[derive(Drop)]
+pub struct Opened {
+    /// Stands there.
+    pub appender: Appender,
+    /// Where the front ends, and why. What stands behind it has to go before anything is written
+    /// there. Only `Whole` and `Cut` are ends of a log to which records were being appended.
+    pub end: Edge,
+}
+
+impl Opened {
+    /// Stands behind a front that was judged.
+    #[tactic(auto, using(crate::proofs::Openings::opened, crate::proofs::Openings::opened_at))]
+    pub fn of(front: JudgedFront) -> Opened
+        ensures whole { (b : List ℕ) → IsJudged b front → IsOpened b result }
+        ensures from { (b : List ℕ) (offset : ℕ) → IsJudgedAt b offset front → IsOpenedAt b offset result }
+    {
+        let JudgedFront { judge, last, end } = front;
+        let appender = Appender {
+            judge,
+            framer: Framer::after(last, end.used),
+        };
+        Opened { appender, end }
+    }
+
+    /// Stands behind a front of which the state was made. Refused with `Resources` alone.
+    pub fn of_redone(alloc: Global, front: &RedoneFront) -> Result<Opened, Fault>
+        ensures whole { IfOk result (λ opened. (b : List ℕ) → IsRedoneFront b front.now → IsOpened b opened) }
+        ensures from { IfOk result (λ opened. (b : List ℕ) (offset : ℕ) → IsRedoneAt b offset front.now
+            → IsOpenedAt b offset opened) }
+        ensures refused { IfErr result (λ e. e ≡ faults.Resources) }
+    {
+        let judge = Judge::of(alloc, front.version, &front.state)?;
+        Ok(Opened::of(JudgedFront {
+            judge,
+            last: front.last,
+            end: front.end,
+        }))
     }
 }

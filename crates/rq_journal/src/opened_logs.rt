@@ -1,62 +1,17 @@
 //! A log is opened to write behind its front, and records are written there.
 
-ghost use Rattle.std.specs.Prelude.{◌≡◌, ℕ, List, map, IfErr, IfOk};
-ghost use Rattle.rq_judged.specs.JudgedFronts.{IsJudged, IsJudgedAt};
+ghost use Rattle.std.specs.Prelude.{map};
 ghost use Rattle.rq_record.specs.Views.{record_of};
-ghost use Rattle.rq_record.specs.declared.fault.Fault.TheVariants.{Resources};
-ghost use Rattle.rq_restart.specs.RedoneFronts.{IsRedoneAt, IsRedoneFront};
-ghost use Rattle.rq_journal.specs.Openings.{IsOpened, IsOpenedAt, Opens, OpensCarried, WritesBehind};
+ghost use Rattle.rq_journal.specs.Openings.{Opens, OpensCarried, WritesBehind};
 
-use crate::appender::{Appender, NotTaken};
-use rq_catalog::Judge;
-use rq_front::{CARRIED_AT, Framer};
-use rq_judged::{Edge, JudgedFront};
+use crate::appender::{NotTaken, Opened};
+use rq_front::CARRIED_AT;
+use rq_judged::JudgedFront;
 use rq_record::{Fault, Record};
-use rq_restart::{Plan, RedoneFront};
+use rq_restart::Plan;
 use std::alloc::Global;
 use std::marker::Sync;
 use std::thread::Threads;
-
-/// An appender that stands where the front of a log ends, and where that is.
-#[derive(Drop)]
-pub struct Opened {
-    /// Stands there.
-    pub appender: Appender,
-    /// Where the front ends, and why. What stands behind it has to go before anything is written
-    /// there. Only `Whole` and `Cut` are ends of a log to which records were being appended.
-    pub end: Edge,
-}
-
-impl Opened {
-    /// Stands behind a front that was judged.
-    #[tactic(auto, using(crate::proofs::Openings::opened, crate::proofs::Openings::opened_at))]
-    pub fn of(front: JudgedFront) -> Opened
-        ensures whole { (b : List ℕ) → IsJudged b front → IsOpened b result }
-        ensures from { (b : List ℕ) (offset : ℕ) → IsJudgedAt b offset front → IsOpenedAt b offset result }
-    {
-        let JudgedFront { judge, last, end } = front;
-        let appender = Appender {
-            judge,
-            framer: Framer::after(last, end.used),
-        };
-        Opened { appender, end }
-    }
-
-    /// Stands behind a front of which the state was made. Refused with `Resources` alone.
-    pub fn of_redone(alloc: Global, front: &RedoneFront) -> Result<Opened, Fault>
-        ensures whole { IfOk result (λ opened. (b : List ℕ) → IsRedoneFront b front.now → IsOpened b opened) }
-        ensures from { IfOk result (λ opened. (b : List ℕ) (offset : ℕ) → IsRedoneAt b offset front.now
-            → IsOpenedAt b offset opened) }
-        ensures refused { IfErr result (λ e. e ≡ Resources) }
-    {
-        let judge = Judge::of(alloc, front.version, &front.state)?;
-        Ok(Opened::of(JudgedFront {
-            judge,
-            last: front.last,
-            end: front.end,
-        }))
-    }
-}
 
 /// Opens a log to write behind its front. No record is kept, and no queue is redone.
 ///

@@ -2,7 +2,6 @@
 use Rattle.std.proofs.Common.{◌≡◌, ◌++◌, ◌∙◌, ℕ, ◌⊎◌, List, Option, Some, None, false, codes, refl, sym, ap, subst, append_assoc, inl, inr}
 use Rattle.std.specs.Prelude.{Result, Ok, Err}
 use Rattle.std.specs.Result.{OnOk}
-use Rattle.std.specs.Io.KnownBytes.{Appends}
 use Rattle.std.proofs.KnownBytes.{Appends-trans}
 use Rattle.rq_model.specs.Fronts.{Restarted}
 use Rattle.rq_look.specs.Looks.{AppendsSome, IsReportFrom, BreaksOff, LacksReport}
@@ -19,14 +18,6 @@ use Rattle.rq_found.proofs.Writes.{refused_unwritten}
 -- one behind the other
 pub both_put : (old mid new : Option (List ℕ)) → AppendsSome old mid → AppendsSome mid new → AppendsSome old new
 both_put old mid new (a, p) (b, q) = (a ++ b, Appends-trans old mid new a b p q)
-
--- a text whose end is known behind another
-pub put_last : (old mid new : Option (List ℕ)) (put text last whole : List ℕ) → Appends old mid put
-    → Appends mid new whole → whole ≡ text ++ last
-    → Appends old new ((put ++ text) ++ last)
-put_last old mid new put text last whole p q e =
-    subst (λ (t : List ℕ). Appends old new t) (ap (λ (t : List ℕ). put ++ t) e ∙ sym (append_assoc put text last))
-    (Appends-trans old mid new put whole p q)
 
 -- each log may be refused for want of memory
 memory_refused : (at : Option ℕ) (b : List ℕ) → RefusedFrom at b Resources

@@ -6,25 +6,24 @@ use Rattle.std.specs.List.{AllByRecursion}
 use Rattle.std.specs.Io.KnownBytes.{Appends}
 use Rattle.std.proofs.KnownBytes.{Appends-nil, Appends-trans}
 use Rattle.std.proofs.lemmas.Grind.{flat_map-append}
-use Rattle.std.proofs.lemmas.List.{length-append, length-drop, drop-take, drop_at, take_at}
-use Rattle.rq_model.specs.Records.{Record, Version, One, Two}
+use Rattle.std.proofs.lemmas.List.{length-append, length-drop, drop_at}
+use Rattle.rq_model.specs.Records.{Record, Version, Two}
 use Rattle.rq_model.specs.Spelling.{body_of, IsRecord, Spells}
 use Rattle.rq_model.specs.Frames.{before, digest, header, log_limit, start, frames_of, stated, body_in}
 use Rattle.rq_model.specs.States.{State, empty}
 use Rattle.rq_model.specs.Fronts.{IsLongest, Restarted}
-use Rattle.rq_model.specs.Checkpoints.{IsCheckpointAt}
 use Rattle.rq_model.proofs.RecordReaders.{body_fits, one_record}
 use Rattle.rq_model.proofs.Lists.{each_append}
 use Rattle.rq_model.proofs.Runs.{frame_reads}
 use Rattle.rq_model.proofs.Longest.{used_is_front}
 use Rattle.rq_model.proofs.Restarts.{each_cut, frames_many, header_long}
 use Rattle.rq_model.proofs.StateCodes.{one_state}
-use Rattle.rq_model.proofs.Upgraded.{record_is_wider}
 use Rattle.rq_writer.specs.Script.{IsTellable}
 use Rattle.rq_found.specs.Ends.{IsRestartFrom}
-use Rattle.rq_found.specs.Records.{SpelledIn, front_at}
+use Rattle.rq_found.specs.Records.{front_at}
 use Rattle.rq_found.specs.declared.trouble.Trouble.{Trouble}
 use Rattle.rq_found.specs.declared.trouble.Trouble.TheVariants.{Log, Untold, NoQueue, Nothing}
+use Rattle.rq_look.proofs.ShownFronts.{IsFirst, as_two, frames_to}
 use Rattle.rq_look.specs.Scripts.{script_line, script_text, IsShownFront, PutsScript, IsDash, by_in, LeavesBody, LeavesOut}
 
 -- some records of the front are told, in what is appended and in the text; the frames of the others are left
@@ -49,28 +48,6 @@ pub put_behind : {A E : Type 0} (r : Result A E) (old mid new word put : List �
     → OnOk r (new ≡ mid ++ put) → OnOk r (new ≡ old ++ (word ++ put))
 put_behind (Ok x) old mid new word put e h = h ∙ ap (λ (z : List ℕ). z ++ put) e ∙ append_assoc old word put
 put_behind (Err x) old mid new word put e h = tt
-
--- the state behind which the records that are shown begin
-abbrev pub IsFirst : Option ℕ → List ℕ → State → Type 0
-IsFirst None b s = s ≡ empty
-IsFirst (Some at) b s = (kept : List ℕ) → IsCheckpointAt b at kept → SpelledIn b kept s
-
--- it is said of each offset apart
-pub first_is : (at : Option ℕ) (b : List ℕ) (s : State) → (at ≡ None → s ≡ empty)
-    → ((offset : ℕ) (kept : List ℕ) → at ≡ Some offset → IsCheckpointAt b offset kept → SpelledIn b kept s)
-    → IsFirst at b s
-first_is None b s start there = start refl
-first_is (Some at) b s start there = λ kept stands. there at kept refl stands
-
--- the frames from an offset on, of which it is known what stands behind them
-frames_to : (b p : List ℕ) (at used : ℕ) (rs : List Record) (rest : List ℕ) → drop at b ≡ frames_of p rs ++ rest
-    → used ≡ length b - length rest → at ≤ length b → drop at (take used b) ≡ frames_of p rs
-frames_to b p at used rs rest whole used_is high =
-    let size : length b - at ≡ length (frames_of p rs) + length rest =
-    omega (arith, ap length whole, length-append (frames_of p rs) rest, length-drop at b) in
-    let end : used ≡ at + length (frames_of p rs) = omega (arith, used_is, size, high) in
-    ap (λ (n : ℕ). drop at (take n b)) end ∙ drop-take at (length (frames_of p rs)) b
-    ∙ ap (take (length (frames_of p rs))) whole ∙ take_at (frames_of p rs) rest (length (frames_of p rs)) refl
 
 -- no record is told yet
 pub begun : (at : Option ℕ) (b rest : List ℕ) (number : ℕ) (text : List ℕ) (old : Option (List ℕ)) (r : Restarted)
@@ -152,10 +129,6 @@ pub record IsNext (at : Option ℕ) (b : List ℕ) (version : Version) (base : S
   pub is : Spells Two r (body_in rest)
   pub front : IsShownFront at b version base (done ++ r ∷ others) behind
   pub left : drop (36 + stated rest) rest ≡ frames_of (digest place (body_of r)) others
-
-as_two : (version : Version) (r : Record) → IsRecord version r → IsRecord Two r
-as_two One r h = (record_is_wider r (body_of r) (h, refl)).0
-as_two Two r h = h
 
 next_of : (at : Option ℕ) (b : List ℕ) (version : Version) (base : State) (done todo : List Record)
     (behind place rest : List ℕ) → IsShownFront at b version base (done ++ todo) behind → rest ≡ frames_of place todo

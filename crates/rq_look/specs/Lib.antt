@@ -1,3 +1,4 @@
+pub mod Dumps
 pub mod Entries
 pub mod Findings
 pub mod Lines

@@ -19,7 +19,16 @@ use Rattle.rq_record.specs.declared.fault.Fault.TheVariants.{Resources, WriteFai
 abbrev pub AppendsSome : Option (List ℕ) → Option (List ℕ) → Type 0
 AppendsSome old new = (put : List ℕ) × Appends old new put
 
--- so is one that ends with the end of a line
+-- a text is put behind one that is gathered: a first part of both may be appended, the rest is gathered
+abbrev pub Gathers : List ℕ → List ℕ → Option (List ℕ) → List ℕ → Option (List ℕ) → Type 0
+Gathers put text old left new = (written : List ℕ) × Appends old new written
+    × (text ++ put ≡ written ++ left)
+
+-- some text is put so
+abbrev pub GathersSome : List ℕ → Option (List ℕ) → List ℕ → Option (List ℕ) → Type 0
+GathersSome text old left new = (put : List ℕ) × Gathers put text old left new
+
+-- a text is appended that ends with the end of a line
 abbrev pub AppendsLine : Option (List ℕ) → Option (List ℕ) → Type 0
 AppendsLine old new = (text : List ℕ) × Appends old new (text ++ codes "\n")
 
@@ -28,11 +37,6 @@ abbrev pub IsClosing : Option ℕ → List ℕ → Bool → List ℕ → Type 0
 IsClosing at b true text = (object : List ℕ) × (text ≡ object ++ codes "\n")
 IsClosing at b false text = (r : Restarted) × (reason : List ℕ) × IsRestartFrom at b r
     × (text ≡ end_line r reason)
-
--- some text is appended, and then the last line of a dump of b
-abbrev pub EndsDump : Option ℕ → List ℕ → Bool → Option (List ℕ) → Option (List ℕ) → Type 0
-EndsDump at b json old new = (records closing : List ℕ) × IsClosing at b json closing
-    × Appends old new (records ++ closing)
 
 -- a script broke off: so is told of a record that no script tells, and of what `IsBroken` says
 abbrev pub BreaksOff : Trouble → Type 0

@@ -1,106 +1,31 @@
 //! A line for each record of a log, and for each right frame behind its front.
 
-ghost use Rattle.std.specs.Prelude.{◌≡◌, ◌<◌, ◌++◌, ℕ, List, Option, IfErr, OnOk, string_bytes};
+ghost use Rattle.std.specs.Prelude.{◌≡◌, ◌<◌, ◌++◌, ℕ, List, [], Option, Some, None, false};
+ghost use Rattle.std.specs.Prelude.{IfErr, OnOk, string_bytes};
+ghost use Rattle.rq_model.specs.Checkpoints.{IsCheckpointAt};
 ghost use Rattle.rq_model.specs.Fronts.{Restarted};
+ghost use Rattle.rq_model.specs.States.{empty};
 ghost use Rattle.rq_judged.specs.FrontEnds.{IsEndOf};
 ghost use Rattle.rq_front.specs.Chains.{IsLog};
-ghost use Rattle.rq_record.specs.declared.fault.Fault.TheVariants.{Resources};
 ghost use Rattle.rq_found.specs.Ends.{IsRestartFrom};
+ghost use Rattle.rq_found.specs.Records.{SpelledIn, front_at};
 ghost use Rattle.rq_found.specs.Refusals.{CountsFaults, IsBroken, StaysUnshown};
+ghost use Rattle.rq_look.specs.Dumps.{AreFrontLines, PutsDump, origin};
 ghost use Rattle.rq_look.specs.Findings.{EndsWithin};
-ghost use Rattle.rq_look.specs.Looks.{AppendsSome, EndsDump, IsClosing};
+ghost use Rattle.rq_look.specs.Looks.{Gathers, GathersSome, IsClosing};
 
 use crate::behind_fronts::{put_behind, standing_behind};
-use crate::json::{put_behind_object, put_closing_object, put_object, put_unspelled};
-use crate::lines::put_record;
-use crate::sheet::{relieve, write_out};
-use crate::shown_records::{ShownFrame, ShownRecord};
+use crate::frame_lines::put_entry;
+use crate::json::{put_behind_object, put_closing_object};
+use crate::sheet::write_out;
+use crate::shown_records::ShownFrame;
 use crate::wanted::Wanted;
 use rq_behind::Found;
-use rq_found::{End, Output, PlacedFrames, Put, ShownLog, Trouble, form_reason, queues_of};
-use rq_front::Span;
-use rq_record::{Fault, KeptRecord};
+use rq_found::{End, Output, PlacedFrames, Put, ShownLog, Trouble, queues_of};
+use rq_front::{HEADER_LEN, Span};
 use rq_state::State;
-use std::alloc::{AllocError, Global};
-use std::fmt::Write;
+use std::alloc::Global;
 use std::thread::Threads;
-
-// Puts a record in the form that is wanted.
-fn put_shown(alloc: Global, text: &mut String, it: &ShownRecord<'_>, wanted: &Wanted<'_>) -> Put {
-    if wanted.json {
-        return put_object(alloc, text, it);
-    }
-    put_record(alloc, text, it, wanted.full)?;
-    text.push_str("\n")
-}
-
-// Puts a frame whose body spells no record, and why, in the form that is wanted.
-fn put_formless(alloc: Global, text: &mut String, it: &ShownFrame<'_>, wanted: &Wanted<'_>) -> Put {
-    let reason = form_reason(alloc, it.version, it.body)?;
-    if wanted.json {
-        return put_unspelled(alloc, text, it.offset, reason.as_str());
-    }
-    let offset = it.offset;
-    write!(text, "{offset} behind no record: {reason}\n")
-}
-
-// Puts the line of a frame's record, or of one that spells none, if it is wanted. Answers whether it
-// is.
-fn put_if_wanted(
-    alloc: Global,
-    text: &mut String,
-    it: &ShownFrame<'_>,
-    record: &Option<KeptRecord>,
-    wanted: &Wanted<'_>,
-) -> Result<bool, AllocError> {
-    let Some(record) = record else {
-        let is_wanted = wanted.wants_no_record();
-        if is_wanted {
-            put_formless(alloc, text, it, wanted)?;
-        }
-        return Ok(is_wanted);
-    };
-    let shown = it.shown(record);
-    let is_wanted = wanted.wants(&shown);
-    if is_wanted {
-        put_shown(alloc, text, &shown, wanted)?;
-    }
-    Ok(is_wanted)
-}
-
-// Puts the line of a frame, if it is wanted. Answers whether it is.
-fn put_frame(
-    alloc: Global,
-    text: &mut String,
-    it: &ShownFrame<'_>,
-    wanted: &Wanted<'_>,
-) -> Result<bool, Fault>
-    ensures { IfErr result (λ e. e ≡ Resources) }
-{
-    if it.offset < wanted.from {
-        return Ok(false);
-    }
-    let record = it.record(alloc)?;
-    Ok(put_if_wanted(alloc, text, it, &record, wanted)?)
-}
-
-// Puts the line of a frame on its way to the output, if it is wanted. Answers whether it is.
-fn put_entry<W: Output>(
-    alloc: Global,
-    wanted: &Wanted<'_>,
-    it: &ShownFrame<'_>,
-    text: &mut String,
-    output: &mut W,
-) -> Result<bool, Trouble>
-    requires faults { W.faults output.old < 18446744073709551615 }
-    ensures only { OnOk result (AppendsSome (W.contents output.old) (W.contents output.new)) }
-    ensures refused { IfErr result IsBroken }
-    ensures faults { CountsFaults (W.faults output.old) (W.faults output.new) result }
-{
-    let is_wanted = put_frame(alloc, text, it, wanted)?;
-    relieve(text, output)?;
-    Ok(is_wanted)
-}
 
 /// Puts where the front ends in the form that is wanted.
 pub(crate) fn put_closing(alloc: Global, text: &mut String, end: &End, wanted: &Wanted<'_>) -> Put
@@ -115,31 +40,54 @@ pub(crate) fn put_closing(alloc: Global, text: &mut String, end: &End, wanted: &
     Ok(End::put_end(text, end)?)
 }
 
-// Puts those records of the front that are wanted. So many queues are defined before the first.
-// Answers how many more may be put.
+// Where the first frame of the front of a log stands.
+fn first_offset(log: &ShownLog<'_>) -> u64
+    ensures { result ≡ front_at log.now.at }
+{
+    match log.at {
+        Some(at) => at,
+        None => HEADER_LEN as u64,
+    }
+}
+
+// Puts those records of the front that are wanted, as many as are wanted at most. The front has so many
+// bytes, and its records begin behind this state. Answers how many more may be put.
 fn put_records<W: Output>(
     alloc: Global,
-    frames: PlacedFrames<'_>,
-    before: u32,
+    log: &ShownLog<'_>,
+    first: &State,
+    used: u64,
     wanted: &Wanted<'_>,
     text: &mut String,
     output: &mut W,
 ) -> Result<u64, Trouble>
+    requires restart { (r : Restarted) × IsRestartFrom log.now.at log.now.bytes.now r
+        × (used ≡ r.used) }
+    requires start { log.now.at ≡ None → first.now ≡ empty }
+    requires there { (offset : ℕ) (kept : List ℕ) → log.now.at ≡ Some offset
+        → IsCheckpointAt log.now.bytes.now offset kept → SpelledIn log.now.bytes.now kept first.now }
     requires faults { W.faults output.old < 18446744073709551615 }
-    ensures only { OnOk result (AppendsSome (W.contents output.old) (W.contents output.new)) }
+    ensures lines { OnOk result ((lines : List ℕ)
+        × AreFrontLines log.now.at log.now.bytes.now wanted.now lines
+        × Gathers lines (string_bytes text.old) (W.contents output.old)
+        (string_bytes text.new) (W.contents output.new)) }
     ensures refused { IfErr result IsBroken }
     ensures faults { CountsFaults (W.faults output.old) (W.faults output.new) result }
 {
-    let mut queues = before;
+    // It is counted here where each frame stands and how many queues are defined before it.
+    let mut offset = first_offset(log);
+    let mut queues = queues_of(first.definitions());
     let mut left = wanted.limit;
-    for placed in frames {
+    for placed in PlacedFrames::front_frames(log.bytes, first, log.at, used) {
         if left == 0 {
             return Ok(0);
         }
-        let frame = ShownFrame::of(placed, queues);
-        if put_entry(alloc, wanted, &frame, text, output)? {
+        let frame = ShownFrame::of(placed, offset, queues);
+        let is_wanted = put_entry(alloc, wanted, &frame, text, output)?;
+        if is_wanted {
             left -= 1;
         }
+        offset = frame.end();
         queues = placed.queues_behind(queues);
     }
     Ok(left)
@@ -156,7 +104,8 @@ pub(crate) fn put_frames<W: Output>(
     output: &mut W,
 ) -> Result<(), Trouble>
     requires faults { W.faults output.old < 18446744073709551615 }
-    ensures only { OnOk result (AppendsSome (W.contents output.old) (W.contents output.new)) }
+    ensures only { OnOk result (GathersSome (string_bytes text.old) (W.contents output.old)
+        (string_bytes text.new) (W.contents output.new)) }
     ensures refused { IfErr result IsBroken }
     ensures faults { CountsFaults (W.faults output.old) (W.faults output.new) result }
 {
@@ -179,7 +128,10 @@ pub(crate) fn put_counted(
     found: &Found,
     total: u64,
     wanted: &Wanted<'_>,
-) -> Put {
+) -> Put
+    ensures { OnOk result ((line : List ℕ)
+        × (string_bytes text.new ≡ string_bytes text.old ++ line)) }
+{
     if wanted.json {
         return put_behind_object(alloc, text, found);
     }
@@ -199,7 +151,9 @@ fn put_wanted_behind<W: Output>(
 ) -> Result<(), Trouble>
     requires within { EndsWithin bytes.now end.now }
     requires faults { W.faults output.old < 18446744073709551615 }
-    ensures only { OnOk result (AppendsSome (W.contents output.old) (W.contents output.new)) }
+    ensures only { OnOk result ((lines : List ℕ) × (wanted.now.behind ≡ false → lines ≡ [])
+        × Gathers lines (string_bytes text.old) (W.contents output.old)
+        (string_bytes text.new) (W.contents output.new)) }
     ensures refused { IfErr result IsBroken }
     ensures faults { CountsFaults (W.faults output.old) (W.faults output.new) result }
 {
@@ -213,15 +167,18 @@ fn put_wanted_behind<W: Output>(
 }
 
 /// Puts, before the last line, with which checkpoint the log begins. In JSON the last line has it.
-pub(crate) fn put_origin(text: &mut String, end: &End, wanted: &Wanted<'_>) -> Put {
+pub(crate) fn put_origin(text: &mut String, at: Option<u64>, wanted: &Wanted<'_>) -> Put
+    ensures { OnOk result (string_bytes text.new
+        ≡ string_bytes text.old ++ origin wanted.now.json at) }
+{
     if wanted.json {
         return Ok(());
     }
-    End::put_beginning(text, end.at)
+    End::put_beginning(text, at)
 }
 
-// Writes the line of each record that is wanted, of the front, which begins behind this state, and of
-// what stands behind it; and the last lines.
+// Writes, by way of an empty text, the line of each record that is wanted, of the front, which begins
+// behind this state, and of what stands behind it; and the last lines.
 fn put_lines<W: Output>(
     alloc: Global,
     log: &ShownLog<'_>,
@@ -233,17 +190,19 @@ fn put_lines<W: Output>(
 ) -> Result<(), Trouble>
     requires end { (r : Restarted) × IsRestartFrom log.now.at log.now.bytes.now r
         × IsEndOf r end.now.front }
+    requires start { log.now.at ≡ None → first.now ≡ empty }
+    requires there { (offset : ℕ) (kept : List ℕ) → log.now.at ≡ Some offset
+        → IsCheckpointAt log.now.bytes.now offset kept → SpelledIn log.now.bytes.now kept first.now }
+    requires nothing { string_bytes text.old ≡ [] }
     requires faults { W.faults output.old < 18446744073709551615 }
-    ensures last { OnOk result (EndsDump log.now.at log.now.bytes.now wanted.now.json
+    ensures told { OnOk result (PutsDump log.now.at log.now.bytes.now wanted.now
         (W.contents output.old) (W.contents output.new)) }
     ensures refused { IfErr result IsBroken }
     ensures faults { CountsFaults (W.faults output.old) (W.faults output.new) result }
 {
-    let frames = PlacedFrames::front_frames(log.bytes, first, log.at, end.front.used);
-    let queues = queues_of(first.definitions());
-    let left = put_records(alloc, frames, queues, wanted, text, output)?;
+    let left = put_records(alloc, log, first, end.front.used, wanted, text, output)?;
     put_wanted_behind(alloc, log.bytes, end, wanted, left, text, output)?;
-    put_origin(text, end, wanted)?;
+    put_origin(text, log.at, wanted)?;
     put_closing(alloc, text, end, wanted)?;
     write_out(text, output)?;
     Ok(())
@@ -268,7 +227,7 @@ pub fn dump<R: Threads + Sync, W: Output>(
 ) -> Result<(), Trouble>
     requires faults { W.faults output.old < 18446744073709551615 }
     ensures log { OnOk result (IsLog log.now.bytes.now) }
-    ensures last { OnOk result (EndsDump log.now.at log.now.bytes.now wanted.now.json
+    ensures told { OnOk result (PutsDump log.now.at log.now.bytes.now wanted.now
         (W.contents output.old) (W.contents output.new)) }
     ensures refused { IfErr result (StaysUnshown log.now.at log.now.bytes.now
         (W.contents output.old) (W.contents output.new)) }

@@ -146,7 +146,10 @@ pub(crate) fn put_json<T: Serialize>(alloc: Global, text: &mut String, value: &T
 }
 
 /// Puts a record as an object in a line, with those fields that its kind has.
-pub(crate) fn put_object(alloc: Global, text: &mut String, it: &ShownRecord<'_>) -> Put {
+pub(crate) fn put_object(alloc: Global, text: &mut String, it: &ShownRecord<'_>) -> Put
+    ensures { OnOk result ((json : List ℕ)
+        × (string_bytes text.new ≡ string_bytes text.old ++ (json ++ codes "\n"))) }
+{
     let mut object = RecordObject::of(it);
     object.take_fields(alloc, it.record)?;
     put_json(alloc, text, &object)
@@ -161,7 +164,10 @@ struct Unspelled<'a> {
 }
 
 /// Puts a frame behind the front whose body spells no record, and why, as an object in a line.
-pub(crate) fn put_unspelled(alloc: Global, text: &mut String, offset: u64, reason: &str) -> Put {
+pub(crate) fn put_unspelled(alloc: Global, text: &mut String, offset: u64, reason: &str) -> Put
+    ensures { OnOk result ((json : List ℕ)
+        × (string_bytes text.new ≡ string_bytes text.old ++ (json ++ codes "\n"))) }
+{
     let behind = true;
     let object = Unspelled {
         offset,
@@ -189,7 +195,10 @@ struct BehindShown {
 }
 
 /// Puts what stands behind the front as an object in a line.
-pub(crate) fn put_behind_object(alloc: Global, text: &mut String, found: &Found) -> Put {
+pub(crate) fn put_behind_object(alloc: Global, text: &mut String, found: &Found) -> Put
+    ensures { OnOk result ((json : List ℕ)
+        × (string_bytes text.new ≡ string_bytes text.old ++ (json ++ codes "\n"))) }
+{
     let behind = FoundShown {
         frames: found.spans.len(),
         first: found.spans.first().map(|span| span.offset()),

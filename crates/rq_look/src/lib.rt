@@ -7,6 +7,7 @@ mod behind_fronts;
 mod bytes;
 mod checks;
 mod dumps;
+mod frame_lines;
 mod frontless;
 mod json;
 mod lines;

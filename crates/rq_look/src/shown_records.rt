@@ -1,6 +1,6 @@
 //! A record that is shown, of the front of a log or behind it, and its frame.
 
-ghost use Rattle.std.specs.Prelude.{◌≡◌, IfErr, IfOk, Some, None, option_map};
+ghost use Rattle.std.specs.Prelude.{◌≡◌, ◌+◌, IfErr, IfOk, Some, None, length, min, option_map};
 ghost use Rattle.rq_record.specs.Views.{record_of, version_of};
 ghost use Rattle.rq_record.specs.declared.fault.Fault.TheVariants.{Resources};
 ghost use Rattle.rq_record.specs.declared.version.Version.TheVariants.{Two};
@@ -9,7 +9,7 @@ ghost use Rattle.rq_look.specs.Entries.{FindsRecord, entry_at, shown_entry, regi
 ghost use Rattle.rq_look.specs.Scripts.{by_in};
 
 use rq_found::{Numbered, Placed, queue_named, unit_of};
-use rq_front::{Span, version};
+use rq_front::{FRAME_LEN, Span, version};
 use rq_record::{By, Fault, KeptRecord, QueueNo, Version, decode_kept};
 use std::alloc::Global;
 
@@ -90,20 +90,29 @@ pub(crate) struct ShownFrame<'a> {
 }
 
 impl<'a> ShownFrame<'a> {
-    /// One of the front, before which so many queues are defined. What has a record in version 1 has
-    /// it in version 2 too.
-    pub(crate) fn of(placed: Placed<'a>, queues: u32) -> ShownFrame<'a>
+    /// One of the front, which stands at an offset, and before which so many queues are defined. What
+    /// has a record in version 1 has it in version 2 too.
+    pub(crate) fn of(placed: Placed<'a>, offset: u64, queues: u32) -> ShownFrame<'a>
         ensures version { result.version ≡ Two }
-        ensures offset { result.offset ≡ placed.entry.offset }
+        ensures offset { result.offset ≡ offset }
         ensures body { result.body.now ≡ placed.entry.body.now }
         ensures place { result.place ≡ Some (placed.entry.number, queues) }
     {
         ShownFrame {
             version: Version::Two,
-            offset: placed.offset,
+            offset,
             body: placed.body,
             place: Some((placed.number, queues)),
         }
+    }
+
+    /// The offset behind it.
+    pub(crate) fn end(&self) -> u64
+        ensures { result
+            ≡ min (self.now.offset + (36 + length self.now.body.now)) 18446744073709551615 }
+    {
+        let count = FRAME_LEN.saturating_add(self.body.len());
+        self.offset.saturating_add(count as u64)
     }
 
     /// The one at a span behind the front.

@@ -4,6 +4,8 @@ mod appending;
 mod fronts;
 mod gates;
 mod layers;
+mod live;
+mod log_files;
 mod program;
 mod scarce;
 mod standby;

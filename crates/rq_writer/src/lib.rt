@@ -3,7 +3,6 @@
 
 mod fields;
 mod front;
-mod hexes;
 mod log;
 mod made_logs;
 mod readers;

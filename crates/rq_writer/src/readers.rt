@@ -5,8 +5,9 @@ ghost use Rattle.rq_writer.specs.Making.{NextLine};
 ghost use Rattle.rq_writer.specs.Reading as spec;
 ghost use Rattle.rq_writer.specs.Reading.{Gives, ReadsLine, line_of};
 
-use crate::fields::{by, error, field, name, number, number_field, split_once, u32_field};
-use crate::hexes::{kept, payload};
+use crate::fields::{
+    by, error, field, kept, name, number, number_field, payload, split_once, u32_field,
+};
 use rq_record::{ElemId, Fault, Name, QueueNo, Record, UnitNo, Version};
 use std::alloc::Global;
 

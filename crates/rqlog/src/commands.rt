@@ -1,52 +1,32 @@
-//! What the program does for each of its commands.
+//! What the program does for its commands but `append` and `recover`.
 
 use crate::checkpoints::{carried_on, closed_carried, mark};
 use crate::damage::{LastBytes, LeftOut, expect_end};
 use crate::files::{HeldLog, Hold, put_whole};
-use crate::fronts::{OpenLog, front_in};
-use crate::inputs::{LentLog, ReadLog, begun_log, log_from, opened, rest_of_log, script_in};
-use crate::lines::append_script;
-use crate::messages::{
-    audit_text, tell_appended, tell_carried, tell_left_out, tell_marked, warn_of_end,
-};
+use crate::inputs::{LentLog, ReadLog, begun_log, log_from, opened, rest_of_log};
 use crate::new_log::{expect_free, put_new};
-use crate::recovery::recover;
-use crate::refusal::{Refusal, Stream, failed};
+use crate::refusal::{Refusal, Stream, failed, untold};
 use clap::ArgMatches;
 use rq_file::{Names, Patient, Replaces};
 use rq_front::header_of;
-use rq_journal::{CARRIED_AT, Fault, Plan, audit_carried};
+use rq_journal::{CARRIED_AT, Fault, Plan, Truth, audit_carried};
 use rq_record::{LogBytes, Version};
 use rq_restart::Ending;
+use rq_state::State;
 use rq_tool::{Open, OverRead, OverWrite, Work, through};
+use std::alloc::{AllocError, Global};
+use std::fmt::Write;
 use std::fs::File;
 use std::io::{self, Read};
 use std::rt::{Clock, Files};
 use std::sync::ArcSlice;
 use std::thread::Threads;
 
-// The grain of a line that names none, in frames.
-const GRAIN: u32 = 1000;
+// No log has more records: each has 37 bytes at least.
+const OF_FULL_LOG: u64 = 116_080_196;
 
-fn plan_of(words: &ArgMatches<'_>) -> Result<Plan, Refusal> {
-    let workers = match words.get_one::<u32>("WORKERS") {
-        Some(workers) => workers,
-        None => words.get_one::<u32>("workers").unwrap_or(0),
-    };
-    let grain = words.get_one::<u32>("GRAIN").unwrap_or(GRAIN);
-    Plan::new(workers, grain).ok_or(Refusal::Plan)
-}
-
-// What was done stands, also if the output fails that was to tell it.
-fn told(done: io::Result<()>) -> Result<(), Refusal> {
-    match done {
-        Ok(()) => Ok(()),
-        Err(error) => Err(Refusal::Failed(Stream::Telling, error)),
-    }
-}
-
-// Makes the file of a log that has no record yet.
-fn new_log<R>(rt: &R, words: &ArgMatches<'_>) -> Result<(), Refusal>
+/// Makes the file of a log that has no record yet.
+pub(crate) fn new_log<R>(rt: &R, words: &ArgMatches<'_>) -> Result<(), Refusal>
 where
     R: Files<File = File> + AllocGlobal,
 {
@@ -57,41 +37,22 @@ where
     put_new(rt, new, &log)
 }
 
-// Appends the frames of a script behind an open log, if any of its lines are kept, and tells so; or says
-// why a line is refused.
-fn append_lines<R>(
+// Says where a checkpoint stands that was appended, and how long the log is then.
+fn tell_marked<R: Print>(rt: &R, json: bool, offset: u64, bytes: u64) -> io::Result<()> {
+    if json {
+        println!(rt; "{{\"offset\":{offset},\"bytes\":{bytes}}}")
+    } else {
+        println!(rt; "{offset}")
+    }
+}
+
+/// Writes a checkpoint of the state behind a log, and tells so.
+pub(crate) fn checkpoint<R>(
     rt: &R,
-    held: &mut HeldLog,
-    log: &mut OpenLog,
-    script: &[u8],
+    path: &str,
+    plan: &Plan,
     words: &ArgMatches<'_>,
 ) -> Result<(), Refusal>
-where
-    R: Files<File = File> + Print + Eprint + AllocGlobal,
-{
-    let made = append_script(rt.alloc(), log, script, words.get_flag("each"))?;
-    if made.is_kept() {
-        held.append(rt, log)?;
-        tell_left_out(rt, log.left_out);
-        let (used, len) = (log.opened.end.used as u64, log.len() as u64);
-        let json = words.get_flag("json");
-        told(tell_appended(rt, json, made.count, used, len))?;
-    }
-    made.lines_refused()
-}
-
-fn append<R>(rt: &R, path: &str, plan: &Plan, words: &ArgMatches<'_>) -> Result<(), Refusal>
-where
-    R: Files<File = File> + Input + Print + Eprint + AllocGlobal + Threads + Sync,
-{
-    let script = script_in(rt, words.get_str("SCRIPT").unwrap_or("-"))?;
-    let mut held = HeldLog::open(rt, path, Hold::ToWrite)?;
-    let mut log = front_in(rt, held.file(), plan, words.get_flag("drop"))?;
-    append_lines(rt, &mut held, &mut log, &script, words)
-}
-
-// Writes a checkpoint of the state behind a log, and tells so.
-fn checkpoint<R>(rt: &R, path: &str, plan: &Plan, words: &ArgMatches<'_>) -> Result<(), Refusal>
 where
     R: Files<File = File> + Print + Eprint + AllocGlobal + Threads + Sync,
 {
@@ -105,9 +66,30 @@ where
     let (closes, drops) = (words.get_flag("close"), words.get_flag("drop"));
     let (log, offset) = mark(rt, rt.alloc(), &lent, plan, closes, drops)?;
     held.append(rt, &log)?;
-    tell_left_out(rt, log.left_out);
+    log.tell_left_out(rt);
     let json = words.get_flag("json");
-    told(tell_marked(rt, json, offset as u64, log.len() as u64))
+    tell_marked(rt, json, offset as u64, log.len() as u64).map_err(|error| untold(error))
+}
+
+// Says how many records stand before the new log, and how long that is.
+fn tell_carried<R: Print>(rt: &R, json: bool, next: u64, bytes: u64) -> io::Result<()> {
+    if json {
+        let offset = CARRIED_AT;
+        println!(rt; "{{\"next\":{next},\"offset\":{offset},\"bytes\":{bytes}}}")
+    } else {
+        println!(rt; "carried on behind {next} records, {bytes} bytes")
+    }
+}
+
+// Says how many records may still be numbered, if a log that is carried on could need more before
+// it is full.
+fn warn_of_end<R: Eprint>(rt: &R, next: u64) {
+    let left = State::RECORDS.saturating_sub(next);
+    if left < OF_FULL_LOG {
+        let _ = eprintln!(rt;
+            "rqlog: {left} records more, and numbers end: begin a new log before"
+        );
+    }
 }
 
 // Makes the carried file that goes on from this log, and tells how many records stand before it.
@@ -123,12 +105,19 @@ where
 {
     let (log, made) = carried_on(rt, rt.alloc(), lent, plan, words.get_flag("drop"))?;
     put_new(rt, new, &made)?;
-    tell_left_out(rt, log.left_out);
+    log.tell_left_out(rt);
     warn_of_end(rt, log.next);
-    told(tell_carried(rt, words.get_flag("json"), log.next, made.len() as u64))
+    let json = words.get_flag("json");
+    tell_carried(rt, json, log.next, made.len() as u64).map_err(|error| untold(error))
 }
 
-fn carry<R>(rt: &R, path: &str, plan: &Plan, words: &ArgMatches<'_>) -> Result<(), Refusal>
+/// Makes the carried file that goes on from a log, and tells so.
+pub(crate) fn carry<R>(
+    rt: &R,
+    path: &str,
+    plan: &Plan,
+    words: &ArgMatches<'_>,
+) -> Result<(), Refusal>
 where
     R: Files<File = File> + Print + Eprint + AllocGlobal + Threads + Sync,
 {
@@ -158,11 +147,12 @@ where
     through(rt, rt.alloc(), &mut input, &mut output, work, plan, &Open)
 }
 
-fn restart<R>(rt: &R, path: &str, plan: &Plan) -> Result<(), Refusal>
+/// Prints the report of a log's restart.
+pub(crate) fn print_report<R>(rt: &R, path: &str, plan: &Plan) -> Result<(), Refusal>
 where
     R: Files<File = File> + Print + Clock + AllocGlobal + Threads + Sync,
 {
-    let (is_carried, from) = begun_log(rt, opened(rt, path, Stream::Log)?)?;
+    let (is_carried, from) = begun_log(rt, opened(rt, path)?)?;
     let work = if is_carried {
         Work::ReportAt(CARRIED_AT as u64)
     } else {
@@ -171,8 +161,8 @@ where
     Ok(print_log(rt, work, from, plan)?)
 }
 
-// The file of the closed log, plain or carried on, and what of the log it leaves out, if that is to be told. What is
-// not to be dropped stays.
+// The file of the closed log, plain or carried on, and what of the log it leaves out, if that is to be
+// told. What is not to be dropped stays.
 fn closed_of<R>(
     rt: &R,
     log: ReadLog,
@@ -209,7 +199,9 @@ where
     let (made, left) = closed_of(rt, log, plan, drops)?;
     held.expect_as_read(rt, read)?;
     put_whole(rt, path, Stream::Out, &made)?;
-    tell_left_out(rt, left);
+    if let Some(left) = left {
+        left.tell(rt);
+    }
     Ok(())
 }
 
@@ -222,7 +214,13 @@ fn replaced_by(words: &ArgMatches<'_>) -> Replaces<'static> {
     }
 }
 
-fn close<R>(rt: &R, path: &str, plan: &Plan, words: &ArgMatches<'_>) -> Result<(), Refusal>
+/// Writes the closed log, in its own place or into another file.
+pub(crate) fn close<R>(
+    rt: &R,
+    path: &str,
+    plan: &Plan,
+    words: &ArgMatches<'_>,
+) -> Result<(), Refusal>
 where
     R: Files<File = File> + Eprint + AllocGlobal + Threads + Sync,
 {
@@ -233,12 +231,28 @@ where
     let rule = replaced_by(words);
     rule.expect_replaceable(rt, out)
         .map_err(|error| failed(Stream::Out, error))?;
-    let log = log_from(rt, opened(rt, path, Stream::Log)?)?;
+    let log = log_from(rt, opened(rt, path)?)?;
     let (made, left) = closed_of(rt, log, plan, true)?;
     rule.put_over(rt, out, &[&made])
         .map_err(|error| failed(Stream::Out, error))?;
-    tell_left_out(rt, left);
+    if let Some(left) = left {
+        left.tell(rt);
+    }
     Ok(())
+}
+
+// A line for each checkpoint that an audit found.
+fn audit_text(alloc: Global, found: &[(usize, Truth)]) -> Result<String, AllocError> {
+    let mut text = String::new(alloc);
+    for (offset, truth) in found {
+        let word = match truth {
+            Truth::Carried => "carried",
+            Truth::True => "true",
+            Truth::False => "false",
+        };
+        write!(text, "checkpoint {offset} {word}\n")?;
+    }
+    Ok(text)
 }
 
 // Tells which checkpoints of a carried file are true, of which these are the bytes as they are read.
@@ -253,40 +267,14 @@ where
     Ok(rt.write_all(text.as_bytes())?)
 }
 
-fn audit<R>(rt: &R, path: &str, plan: &Plan) -> Result<(), Refusal>
+/// Prints which checkpoints of a log are true.
+pub(crate) fn print_audit<R>(rt: &R, path: &str, plan: &Plan) -> Result<(), Refusal>
 where
     R: Files<File = File> + Print + Clock + AllocGlobal + Threads + Sync,
 {
-    let (is_carried, from) = begun_log(rt, opened(rt, path, Stream::Log)?)?;
+    let (is_carried, from) = begun_log(rt, opened(rt, path)?)?;
     if is_carried {
         return tell_audit(rt, from, plan);
     }
     Ok(print_log(rt, Work::Audit, from, plan)?)
-}
-
-/// Does the command of the words.
-pub(crate) fn act<R>(rt: &R, matches: &ArgMatches<'_>) -> Result<(), Refusal>
-where
-    R: Files<File = File> + Input + Print + Eprint + Clock + AllocGlobal + Threads + Sync,
-{
-    let Some((name, words)) = matches.subcommand() else {
-        return Ok(());
-    };
-    if name == "new" {
-        return new_log(rt, words);
-    }
-    let plan = plan_of(words)?;
-    let path = words.get_str("LOG").unwrap_or("-");
-    match name {
-        "append" => append(rt, path, &plan, words),
-        "checkpoint" => checkpoint(rt, path, &plan, words),
-        "carry" => carry(rt, path, &plan, words),
-        "restart" => restart(rt, path, &plan),
-        "close" => close(rt, path, &plan, words),
-        "recover" => {
-            let (drops, json) = (words.get_flag("drop"), words.get_flag("json"));
-            told(recover(rt, path, &plan, drops, json)?)
-        }
-        _ => audit(rt, path, &plan),
-    }
 }

@@ -100,10 +100,20 @@ impl fmt::Display for BadEnd {
 /// What of a log is left out behind its front.
 #[derive(Clone, Copy)]
 pub(crate) struct LeftOut {
-    /// Its bytes.
-    pub(crate) bytes: usize,
-    /// How many right frames were found in them.
-    pub(crate) frames: usize,
+    // Its bytes.
+    bytes: usize,
+    // How many right frames were found in them.
+    frames: usize,
+}
+
+impl LeftOut {
+    /// Says so.
+    pub(crate) fn tell<R: Eprint>(&self, rt: &R) {
+        let (bytes, frames) = (self.bytes, self.frames);
+        let _ = eprintln!(rt;
+            "rqlog: left out {bytes} bytes behind the front, with {frames} right frames"
+        );
+    }
 }
 
 // The same damage of a log, before whose last bytes stand so many.

@@ -1,16 +1,25 @@
 //! Where the front of a log ends, plain or carried on.
 
+ghost use Rattle.std.specs.Prelude.{◌≤◌, List, ℕ, length, IfOk, OnOk};
+ghost use Rattle.rq_judged.specs.GrowingFronts.{GoesAlong};
+
 use crate::damage::{LINK_LEN, LastBytes, LeftOut, expect_end};
-use crate::inputs::{LentLog, ReadLog, begins_carried, feed_file, last_of_log, rest_of_log};
-use crate::refusal::Refusal;
+use crate::inputs::{LentLog, bytes_from};
+use crate::refusal::{Refusal, Stream, failed};
 use byteorder::{BigEndian, ByteOrder};
-use rq_journal::{CARRIED_AT, Fault, Opened, Plan, Why, open, open_carried};
+use rq_front::HEADER_LEN;
+use rq_journal::{CARRIED_AT, Fault, Opened, Plan, Why, is_carried, open_carried, read_as_log};
 use rq_judged::GrowingFront;
 use rq_record::Version;
 use rq_restart::RedoneFront;
-use std::alloc::Global;
+use std::alloc::{AllocError, Global};
 use std::fs::File;
+use std::io::{ErrorKind, Read, Seek, SeekFrom};
+use std::os::unix::fs::FileExt;
 use std::thread::Threads;
+
+// So many bytes of a log are read at a time.
+const PIECE: usize = 1_048_576;
 
 /// Stands where the front of a log ends, and gathers what is to be written there.
 #[derive(Drop)]
@@ -44,6 +53,13 @@ impl OpenLog {
         let (version, end) = (self.version(), self.opened.end);
         self.left_out = expect_end(alloc, last, version, end, drops)?;
         Ok(())
+    }
+
+    /// Says what of the log was left out behind its front, if that is to be told.
+    pub(crate) fn tell_left_out<R: Eprint>(&self, rt: &R) {
+        if let Some(left) = self.left_out {
+            left.tell(rt);
+        }
     }
 
     /// How many bytes the log has with the frames.
@@ -88,37 +104,6 @@ fn open_at(alloc: Global, opened: Opened, read: usize, before: u64) -> OpenLog {
     }
 }
 
-// Where the front of a log ends.
-fn front_of<R: Threads + Sync>(
-    rt: &R,
-    alloc: Global,
-    log: &ReadLog,
-    plan: &Plan,
-) -> Result<OpenLog, Fault> {
-    let bytes = &log.bytes;
-    let opened = if log.is_carried {
-        open_carried(rt, alloc, bytes, plan)?
-    } else {
-        open(rt, alloc, bytes, plan)?
-    };
-    let before = numbered_before(bytes, log.is_carried);
-    Ok(open_at(alloc, opened, bytes.len(), before))
-}
-
-/// Where the front of a log ends, behind which records may follow, or do if what stands there is to be
-/// dropped.
-pub(crate) fn opened_front<R: Threads + Sync>(
-    rt: &R,
-    alloc: Global,
-    read: &ReadLog,
-    plan: &Plan,
-    drops: bool,
-) -> Result<OpenLog, Refusal> {
-    let mut log = front_of(rt, alloc, read, plan)?;
-    log.expect_end(alloc, LastBytes::all(&read.bytes), drops)?;
-    Ok(log)
-}
-
 // How many bytes behind a front that ends for this reason tell whether something is written there.
 fn telling(why: Why, drops: bool) -> usize {
     if drops || matches!(why, Why::Cut) {
@@ -126,6 +111,74 @@ fn telling(why: Why, drops: bool) -> usize {
     } else {
         Why::TORN_LEN + 1
     }
+}
+
+// The bytes of a log from an offset of its open file on, at most so many.
+fn last_of_log<A: AllocGlobal>(
+    rt: &A,
+    file: &mut File,
+    offset: usize,
+    most: usize,
+) -> Result<Vec<u8>, Refusal> {
+    if let Err(error) = file.seek(SeekFrom::Start(offset as u64)) {
+        return Err(failed(Stream::Log, error));
+    }
+    bytes_from(rt, (&*file).take(most as u64))
+}
+
+// Whether an open file is a carried file.
+fn begins_carried(file: &File) -> bool {
+    let mut beginning = [0; HEADER_LEN];
+    match file.read_at(&mut beginning, 0) {
+        Ok(count) => count == HEADER_LEN && is_carried(&beginning),
+        Err(_) => false,
+    }
+}
+
+// One read, which begins again if a signal ends it.
+fn read_piece(file: &mut File, piece: &mut [u8]) -> Result<usize, Refusal>
+    ensures { IfOk result (λ count. count ≤ length piece.new) }
+{
+    for _ in 0..u64::MAX {
+        match file.read(piece) {
+            Ok(count) => return Ok(count),
+            Err(error) if error.kind() == ErrorKind::Interrupted => {}
+            Err(error) => return Err(Refusal::Failed(Stream::Log, error)),
+        }
+    }
+    Err(Refusal::Refused(Stream::Log, Fault::ReadFailed))
+}
+
+// Room for what is read at a time. (A function of its own, since the check of one that knows its
+// bytes would look at each.)
+fn room_for_piece(alloc: Global) -> Result<Vec<u8>, AllocError> {
+    vec![in alloc; 0u8; PIECE]
+}
+
+// Goes along with the log in an open file, piece by piece, read from where that stands to its end,
+// and answers how many bytes these are.
+fn feed_file<R>(
+    rt: &R,
+    file: &mut File,
+    front: &mut GrowingFront,
+    plan: &Plan,
+) -> Result<usize, Refusal>
+where
+    R: AllocGlobal + Threads + Sync,
+    requires { (b : List ℕ) × GoesAlong b front.old }
+    ensures { OnOk result ((b : List ℕ) × GoesAlong b front.new) }
+{
+    let mut piece = room_for_piece(rt.alloc())?;
+    let mut total = 0usize;
+    for _ in 0..u64::MAX {
+        let count = read_piece(file, &mut piece)?;
+        front.feed(rt, rt.alloc(), &piece[..count], plan)?;
+        if count == 0 {
+            break;
+        }
+        total = total.saturating_add(count);
+    }
+    Ok(total)
 }
 
 // Where the front of a plain log ends, which is read from its start. No more is held than a window.
@@ -139,9 +192,44 @@ where
     Ok(open_at(rt.alloc(), Opened::of(judged), read, 0))
 }
 
+// Where the front of a carried file ends, which is held whole.
+fn carried_front<R>(rt: &R, file: &mut File, plan: &Plan, drops: bool) -> Result<OpenLog, Refusal>
+where
+    R: AllocGlobal + Threads + Sync,
+{
+    let mut bytes = last_of_log(rt, file, 0, usize::MAX)?;
+    if read_as_log(&mut bytes).is_none() {
+        return Err(Refusal::Changed);
+    }
+    let opened = open_carried(rt, rt.alloc(), &bytes, plan)?;
+    let before = numbered_before(&bytes, true);
+    let mut log = open_at(rt.alloc(), opened, bytes.len(), before);
+    log.expect_end(rt.alloc(), LastBytes::all(&bytes), drops)?;
+    Ok(log)
+}
+
+// Refuses the end of the front of a plain log in an open file, as `OpenLog::expect_end` does, by as many
+// bytes as tell of it.
+fn expect_plain_end<A: AllocGlobal>(
+    rt: &A,
+    file: &mut File,
+    log: &mut OpenLog,
+    drops: bool,
+) -> Result<(), Refusal> {
+    let before = log.opened.end.used.saturating_sub(LINK_LEN);
+    let most = telling(log.opened.end.why, drops).saturating_add(LINK_LEN);
+    let bytes = last_of_log(rt, file, before, most)?;
+    let last = LastBytes {
+        bytes: &bytes,
+        before,
+        total: log.read,
+    };
+    log.expect_end(rt.alloc(), last, drops)
+}
+
 /// Where the front of the log in an open file ends, behind which records may follow, or do if what
-/// stands there is to be dropped. Of a plain log no more is held than a window, and what tells of its
-/// end.
+/// stands there is to be dropped. The file is read as a plain log, of which no more is held than a
+/// window, and what tells of its end; if it is none, but a carried file, it is held whole.
 pub(crate) fn front_in<R>(
     rt: &R,
     file: &mut File,
@@ -151,23 +239,18 @@ pub(crate) fn front_in<R>(
 where
     R: AllocGlobal + Threads + Sync,
 {
-    if begins_carried(file) {
-        let read = rest_of_log(rt, file)?;
-        return opened_front(rt, rt.alloc(), &read, plan, drops);
+    match plain_front(rt, file, plan) {
+        Ok(mut log) => {
+            if !matches!(log.opened.end.why, Why::Whole) {
+                expect_plain_end(rt, file, &mut log, drops)?;
+            }
+            Ok(log)
+        }
+        Err(Refusal::Refused(_, Fault::NotALog)) if begins_carried(file) => {
+            carried_front(rt, file, plan, drops)
+        }
+        Err(refusal) => Err(refusal),
     }
-    let mut log = plain_front(rt, file, plan)?;
-    if !matches!(log.opened.end.why, Why::Whole) {
-        let before = log.opened.end.used.saturating_sub(LINK_LEN);
-        let most = telling(log.opened.end.why, drops).saturating_add(LINK_LEN);
-        let bytes = last_of_log(rt, file, before, most)?;
-        let last = LastBytes {
-            bytes: &bytes,
-            before,
-            total: log.read,
-        };
-        log.expect_end(rt.alloc(), last, drops)?;
-    }
-    Ok(log)
 }
 
 // The front of a log, and the state behind it. Open units stay open.
@@ -184,7 +267,7 @@ fn redone_in<R: Threads + Sync>(
     }
 }
 
-/// Where the front of a log ends, as `opened_front` has it, and the state there. Open units stay open.
+/// Where the front of a log ends, as `front_in` has it, and the state there. Open units stay open.
 pub(crate) fn redone_log<R: Threads + Sync>(
     rt: &R,
     alloc: Global,

@@ -10,21 +10,28 @@ mod files;
 mod fronts;
 mod inputs;
 mod lines;
-mod messages;
 mod new_log;
 mod recovery;
 mod refusal;
+mod refused_lines;
 mod words;
 
-use crate::commands::act;
+use crate::commands::{carry, checkpoint, close, new_log, print_audit, print_report};
+use crate::lines::append;
+use crate::recovery::recover;
 use crate::refusal::Refusal;
 use crate::words::program;
+use clap::ArgMatches;
 use rq_file::hold_standard;
+use rq_journal::Plan;
 use std::fs::File;
 use std::process::ExitCode;
 use std::rt::{Clock, Env, Files};
 use std::thread::Threads;
 use std::{env, io};
+
+// The grain of a line that names none, in frames.
+const GRAIN: u32 = 1000;
 
 fn main(rt: HostRuntime) -> ExitCode {
     match start(&rt) {
@@ -55,5 +62,42 @@ fn unread(error: io::Error) -> Refusal {
         Refusal::Memory
     } else {
         Refusal::NoText
+    }
+}
+
+// How the work is divided, as the words say.
+fn plan_of(words: &ArgMatches<'_>) -> Result<Plan, Refusal> {
+    let workers = match words.get_one::<u32>("WORKERS") {
+        Some(workers) => workers,
+        None => words.get_one::<u32>("workers").unwrap_or(0),
+    };
+    let grain = words.get_one::<u32>("GRAIN").unwrap_or(GRAIN);
+    Plan::new(workers, grain).ok_or(Refusal::Plan)
+}
+
+// Does the command of the words.
+fn act<R>(rt: &R, matches: &ArgMatches<'_>) -> Result<(), Refusal>
+where
+    R: Files<File = File> + Input + Print + Eprint + Clock + AllocGlobal + Threads + Sync,
+{
+    let Some((name, words)) = matches.subcommand() else {
+        return Ok(());
+    };
+    if name == "new" {
+        return new_log(rt, words);
+    }
+    let plan = plan_of(words)?;
+    let path = words.get_str("LOG").unwrap_or("-");
+    match name {
+        "append" => append(rt, path, &plan, words),
+        "checkpoint" => checkpoint(rt, path, &plan, words),
+        "carry" => carry(rt, path, &plan, words),
+        "restart" => print_report(rt, path, &plan),
+        "close" => close(rt, path, &plan, words),
+        "recover" => {
+            let (drops, json) = (words.get_flag("drop"), words.get_flag("json"));
+            recover(rt, path, &plan, drops, json)
+        }
+        _ => print_audit(rt, path, &plan),
     }
 }

@@ -3,9 +3,8 @@
 use crate::damage::{BadEnd, LastBytes, left_out};
 use crate::files::{HeldLog, Hold};
 use crate::inputs::{ReadLog, bytes_from, rest_of_log};
-use crate::messages::{tell_left_out, tell_recovered};
 use crate::new_log::put_new;
-use crate::refusal::{Refusal, Stream, failed};
+use crate::refusal::{Refusal, Stream, failed, untold};
 use rq_file::{NamedFile, folder_within};
 use rq_journal::{CARRIED_AT, MadeWhole, NotRecovered, Plan};
 use std::alloc::{AllocError, Global};
@@ -98,15 +97,41 @@ fn changes(made: &MadeWhole) -> bool {
     !made.cut.is_empty() || !made.ending.tail.is_empty()
 }
 
+// Says what was cut off where, how many units were aborted, and how long the log is then.
+fn tell_recovered<R: Print>(
+    rt: &R,
+    json: bool,
+    kept: &Option<String>,
+    made: &MadeWhole,
+) -> io::Result<()> {
+    let (offset, cut) = (made.ending.end.used, made.cut.len());
+    let (units, bytes) = (
+        made.ending.units,
+        offset.saturating_add(made.ending.tail.len()),
+    );
+    if json {
+        return println!(rt;
+            "{{\"offset\":{offset},\"cut\":{cut},\"aborted\":{units},\"bytes\":{bytes}}}"
+        );
+    }
+    if let Some(name) = kept {
+        println!(rt; "cut {cut} bytes at {offset}, kept in {name}")?;
+    }
+    if units > 0 {
+        println!(rt; "aborted {units} units")?;
+    }
+    println!(rt; "whole, {bytes} bytes")
+}
+
 /// Makes a log whole where it stands: what stands behind its front is kept beside it and cut off, and
-/// the units that are open are aborted. Answers how that is told.
+/// the units that are open are aborted. Tells so.
 pub(crate) fn recover<R>(
     rt: &R,
     path: &str,
     plan: &Plan,
     drops: bool,
     json: bool,
-) -> Result<io::Result<()>, Refusal>
+) -> Result<(), Refusal>
 where
     R: Files<File = File> + Print + Eprint + AllocGlobal + Threads + Sync,
 {
@@ -126,6 +151,8 @@ where
     if changes(&made) {
         held.recover(rt, read.bytes.len(), &made.ending)?;
     }
-    tell_left_out(rt, left);
-    Ok(tell_recovered(rt, json, &kept, &made))
+    if let Some(left) = left {
+        left.tell(rt);
+    }
+    tell_recovered(rt, json, &kept, &made).map_err(|error| untold(error))
 }

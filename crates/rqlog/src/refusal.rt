@@ -1,7 +1,7 @@
 //! Why the program ends before it is done.
 
 use crate::damage::BadEnd;
-use crate::lines::{LineRefused, Reason};
+use crate::refused_lines::{LineRefused, Reason};
 use clap::ArgMatches;
 use clap::error::ErrorKind;
 use rq_found::Seen;
@@ -111,6 +111,11 @@ pub(crate) fn failed(stream: Stream, error: io::Error) -> Refusal {
         return Refusal::Memory;
     }
     Refusal::Failed(stream, error)
+}
+
+/// Why what was done is not told. It stands all the same.
+pub(crate) fn untold(error: io::Error) -> Refusal {
+    Refusal::Failed(Stream::Telling, error)
 }
 
 impl Stream {

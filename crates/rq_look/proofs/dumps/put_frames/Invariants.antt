@@ -1,8 +1,9 @@
-use Rattle.std.proofs.Common.{◌≡◌}
-use Rattle.rq_look.specs.Looks.{AppendsSome}
+use Rattle.std.proofs.Common.{◌≡◌, string_bytes}
+use Rattle.rq_look.specs.Looks.{GathersSome}
 use Rattle.rq_look.proofs.dumps.put_frames.Given as goal
 
--- some text is written so far, and no write failed
+-- some text is put so far, and no write failed
 abbrev pub invariant-loop-span : goal.invariant-loop-span
-invariant-loop-span g l = AppendsSome (g.W.Output.contents l.fn.output) (g.W.Output.contents l.output)
-    × (g.W.Output.faults l.output ≡ g.W.Output.faults l.fn.output)
+invariant-loop-span g l =
+    GathersSome (string_bytes l.fn.text) (g.W.Output.contents l.fn.output) (string_bytes l.text)
+    (g.W.Output.contents l.output) × (g.W.Output.faults l.output ≡ g.W.Output.faults l.fn.output)

@@ -6,4 +6,4 @@ returns-clause-only g c =
     let held = g.W.Output.contents in
     let frames = c.in_ok-put_frames.ensures.only in
     both_put (held c.args.output.now) (held c.put_frames.new.output) (held c.write_out.new.output)
-    (frames.0, frames.1) (_, c.in_ok-write_out.ensures.written.0)
+    (frames.1.0, frames.1.1) (_, c.in_ok-write_out.ensures.written.0)

@@ -3,7 +3,8 @@ use Rattle.std.proofs.lemmas.Result.{err_from_is_err_and}
 use Rattle.rq_found.specs.Records.{front_at}
 use Rattle.rq_found.specs.declared.frames.PlacedFrames.{PlacedFrames}
 use Rattle.rq_look.proofs.FrontEnds.{used_within}
-use Rattle.rq_look.proofs.Scripts.{first_is, begun, goes_on, ended, left_out}
+use Rattle.rq_look.proofs.ShownFronts.{first_is}
+use Rattle.rq_look.proofs.Scripts.{begun, goes_on, ended, left_out}
 use Rattle.rq_look.proofs.log_script.put_records.Goals as goal
 
 pub loop-placed-init : goal.loop-placed-init

@@ -1,0 +1,260 @@
+-- A record that is taken, and one that is not.
+use Rattle.std.proofs.Common.{◌≡◌, ℕ, ◌+◌, ◌-◌, ◌*◌, ◌<◌, ◌≤◌, ◌==◌, Bool, true, false, not, cond, List, [], ◌∷◌, ◌++◌}
+use Rattle.std.proofs.Common.{length}
+use Rattle.std.proofs.Common.{◌∙◌, ◌||◌, refl, sym, ap, subst, append_assoc, arith}
+use Rattle.std.specs.List.{list_any}
+use Rattle.std.proofs.lemmas.Bool.{and_from, false≢true}
+use Rattle.std.proofs.lemmas.List.{append-nil, length-append}
+use Rattle.rq_model.specs.Records.{Record, Define, Register, Deregister, Begin, Enqueue, Dequeue, Commit, Abort}
+use Rattle.rq_model.specs.Records.{Checkpoint, Kill, Version, One, Two}
+use Rattle.rq_model.specs.Spelling.{body_of, IsRecord, Spells}
+use Rattle.rq_model.specs.Frames.{log_limit, IsBodyLength, digest, frame, frames_of, last_of, log_of, start, header}
+use Rattle.rq_model.specs.LogLaws.{RecordHasOneBody}
+use Rattle.rq_model.specs.States.{State, empty}
+use Rattle.rq_model.specs.Machine.{is_lawful, step, run, closed_units}
+use Rattle.rq_model.specs.Appending.{FitsCheckpoint}
+use Rattle.rq_model.proofs.Lists.{each_append, by_cases}
+use Rattle.rq_model.proofs.WellFormedRuns.{fewer}
+use Rattle.rq_model.proofs.Runs.{frame_long}
+use Rattle.rq_model.proofs.Longest.{frames_of_join, last_of_join, log_joins}
+use Rattle.rq_model.proofs.Restarts.{run_join, lawful_join, header_long}
+use Rattle.rq_record.specs.Writing.{HasKind}
+use Rattle.rq_lawful.specs.Breaks.{Breaks}
+use Rattle.rq_lawful.specs.declared.rules.Rule.{Rule}
+use Rattle.rq_standing.specs.declared.taken.Taken.TheVariants.{Done}
+use Rattle.rq_standing.specs.Machines.{IsDone}
+use Rattle.rq_standing.specs.Stands.{taken}
+use Rattle.rq_front.specs.Framers.{Frames, Place, behind_header, length_with}
+use Rattle.rq_live.specs.declared.kernel.Kernel.{Kernel}
+use Rattle.rq_live.specs.declared.kernel.NotDone.{NotDone}
+use Rattle.rq_live.specs.declared.kernel.NotDone.TheVariants.{Unlawful, Full, Large, Ended, Spent}
+use Rattle.std.specs.Prelude.{Option}
+use Rattle.rq_record.specs.Views.{version_of}
+use Rattle.rq_record.specs.declared.record.ElemId.{ElemId}
+use Rattle.rq_live.specs.Kernels.{BreaksThere, IsKernelBehind, IsTaken, HasRoomForEnds, HasNoRoom, open_behind}
+use Rattle.rq_live.specs.Kernels.{length_with_ends}
+use Rattle.rq_live.specs.Kernels.{KernelTakes, KernelStays, KernelStops, KernelRefuses, KernelMarks, KernelStopsMark}
+use Rattle.rq_live.specs.Kernels.{checkpoint_in}
+
+-- a body fits into a frame
+pub body_fits : (r : Record) → RecordHasOneBody
+    → ((version : Version) → HasKind version r → Spells version r (body_of r)) → IsBodyLength (length (body_of r))
+body_fits r one spelled = (one Two r (body_of r) (body_of r) (spelled Two tt) (spelled Two tt)).1
+
+-- a lawful record has a kind of its version
+has_kind : (version : Version) (s : State) (r : Record) → is_lawful version s r ≡ true → HasKind version r
+has_kind One s (Define limit error name) h = tt
+has_kind One s (Register queue name) h = tt
+has_kind One s (Deregister queue name) h = tt
+has_kind One s (Begin unit) h = tt
+has_kind One s (Enqueue unit queue priority by payload) h = tt
+has_kind One s (Dequeue unit queue by) h = tt
+has_kind One s (Commit unit) h = tt
+has_kind One s (Abort unit) h = tt
+has_kind One s (Checkpoint bytes) h = tt
+has_kind One s (Kill queue element) h = absurd cc
+has_kind Two s _ h = tt
+
+-- how long the log is, and with one record more
+pub log_long : (version : Version) (rs : List Record)
+    → length (log_of version rs) ≡ length_with (behind_header version) rs
+log_long version rs =
+    length-append (header version) (frames_of (start version) rs)
+    ∙ ap (λ (n : ℕ). n + length (frames_of (start version) rs)) (header_long version)
+
+pub one_longer : (at : Place) (rs : List Record) (r : Record)
+    → length_with at (rs ++ r ∷ []) ≡ length_with at rs + (36 + length (body_of r))
+one_longer at rs r =
+    let f = frame (last_of at.link rs) (body_of r) in
+    omega (
+      arith,
+      ap length (frames_of_join at.link rs (r ∷ [])),
+      length-append (frames_of at.link rs) (frames_of (last_of at.link rs) (r ∷ [])),
+      length-append f [],
+      frame_long (last_of at.link rs) (body_of r),
+    )
+
+-- so many bytes of a log and the ends of so many units
+pub long_with_ends : (version : Version) (rs : List Record) (r : Record) (count : ℕ)
+    → length_with_ends version (rs ++ r ∷ []) count
+    ≡ length (log_of version rs) + (36 + length (body_of r)) + 45 * count
+long_with_ends version rs r count = omega (
+  arith,
+  log_long version (rs ++ r ∷ []),
+  log_long version rs,
+  one_longer (behind_header version) rs r,
+)
+
+-- a unit that ends was one of those that are open
+one_fewer : (unit : ℕ) (units : List ℕ) → list_any (λ v. v == unit) units ≡ true
+    → length (closed_units unit units) ≤ length units - 1
+one_fewer unit [] h = absurd (false≢true h)
+one_fewer unit (v ∷ vs) h =
+    by_cases (v == unit) (λ (b : Bool). b || list_any (λ w. w == unit) vs ≡ true
+    → length (cond (not b) (v ∷ closed_units unit vs) (closed_units unit vs)) ≤ length (v ∷ vs) - 1)
+    (λ _ _. omega (arith, fewer (λ w. not (w == unit)) vs))
+    (λ _ there. omega (arith, some_left vs there (one_fewer unit vs there)))
+    h
+  where
+    some_left : (ws : List ℕ) → list_any (λ w. w == unit) ws ≡ true → length (closed_units unit ws) ≤ length ws - 1
+        → length (closed_units unit ws) + 1 ≤ length ws
+    some_left [] there few = absurd (false≢true there)
+    some_left (w ∷ ws) there few = omega (arith, few)
+
+-- how many units are open behind a lawful record
+pub units_behind : (version : Version) (s : State) (r : Record) → is_lawful version s r ≡ true
+    → length (step s r).units ≤ open_behind (length s.units) r
+units_behind version s (Begin unit) h = omega (arith, length-append s.units (unit ∷ []))
+units_behind version s (Commit unit) h = one_fewer unit s.units h
+units_behind version s (Abort unit) h = one_fewer unit s.units h
+units_behind version s (Define limit error name) h = omega arith
+units_behind version s (Register queue name) h = omega arith
+units_behind version s (Deregister queue name) h = omega arith
+units_behind version s (Enqueue unit queue priority by payload) h = omega arith
+units_behind version s (Dequeue unit queue by) h = omega arith
+units_behind version s (Checkpoint bytes) h = omega arith
+units_behind version s (Kill queue element) h = omega arith
+
+-- at most one fewer than were open
+pub open_many : (count : ℕ) (r : Record) → count ≤ open_behind count r + 1
+open_many count (Begin unit) = omega arith
+open_many count (Commit unit) = omega arith
+open_many count (Abort unit) = omega arith
+open_many count (Define limit error name) = omega arith
+open_many count (Register queue name) = omega arith
+open_many count (Deregister queue name) = omega arith
+open_many count (Enqueue unit queue priority by payload) = omega arith
+open_many count (Dequeue unit queue by) = omega arith
+open_many count (Checkpoint bytes) = omega arith
+open_many count (Kill queue element) = omega arith
+
+-- behind the header there is room
+pub bare_room : (version : Version) → HasRoomForEnds version []
+bare_room version = omega (arith, log_long version [])
+
+-- some unit is open, if one ends
+pub some_open : (unit : ℕ) (units : List ℕ) → list_any (λ v. v == unit) units ≡ true → 1 ≤ length units
+some_open unit [] h = absurd (false≢true h)
+some_open unit (v ∷ vs) h = omega arith
+
+-- the frame that ends a unit
+pub commit_long : (unit : ℕ) → length (body_of (Commit unit)) ≡ 9
+commit_long unit = refl
+
+pub abort_long : (unit : ℕ) → length (body_of (Abort unit)) ≡ 9
+abort_long unit = refl
+
+-- a record that was done and framed moves it on
+pub moves_on : (version : Version) (rs : List Record) (w : List ℕ) (r : Record) (a b : Kernel) (id : Option ElemId)
+    → IsKernelBehind version rs w a → ((version : Version) → HasKind version r → Spells version r (body_of r))
+    → IsDone (version_of a.version) a.machine r (Done id) → b.version ≡ a.version → b.machine ≡ step a.machine r
+    → Frames a.framer b.framer (body_of r) a.pending.items b.pending.items
+    → a.framer.len + (36 + length (body_of r)) + 45 * open_behind (length a.machine.units) r ≤ log_limit
+    → IsKernelBehind version (rs ++ r ∷ []) w b × IsTaken version rs r id
+moves_on version rs w r a b id h spelled done same_rules moved framed room =
+    let at = behind_header version in
+    let p = start version in
+    let f = frame (last_of p rs) (body_of r) in
+    let longer = one_longer at rs r in
+    let same : frame a.framer.last (body_of r) ≡ f =
+    ap (λ (q : List ℕ). frame q (body_of r)) h.framer.last in
+    let lawful : is_lawful version (run empty rs) r ≡ true =
+    sym (λ i. is_lawful (h.rules i) (h.state i) r) ∙ done.0 in
+    let state = moved ∙ ap (λ (s : State). step s r) h.state ∙ sym (run_join empty rs (r ∷ [])) in
+    let units = units_behind version (run empty rs) r lawful in
+    let fits = subst (λ (s : State). a.framer.len + (36 + length (body_of r)) + 45 * open_behind (length s.units) r
+    ≤ log_limit)
+    h.state room in (
+      record {
+        rules = ap version_of same_rules ∙ h.rules;
+        may = record {
+          records = each_append (IsRecord version) rs (r ∷ []) h.may.records
+              ((spelled version (has_kind version (run empty rs) r lawful)).0, tt);
+          lawful = lawful_join version empty rs (r ∷ []) h.may.lawful (and_from _ _ lawful refl);
+        };
+        short = omega (arith, log_long version (rs ++ r ∷ []), longer, h.framer.len, room);
+        state = state;
+        framer = record {
+          last = framed.last ∙ ap (λ (q : List ℕ). digest q (body_of r)) h.framer.last
+              ∙ sym (last_of_join p rs (r ∷ []));
+          len = omega (arith, framed.len, h.framer.len, longer);
+        };
+        bytes = log_joins version rs (r ∷ [])
+            ∙ (λ i. h.bytes i ++ append-nil f i)
+            ∙ append_assoc w a.pending.items f
+            ∙ ap (λ (x : List ℕ). w ++ (a.pending.items ++ x)) (sym same)
+            ∙ ap (λ (x : List ℕ). w ++ x) (sym framed.bytes);
+      },
+      record {
+        lawful = lawful;
+        element = done.1 ∙ ap (λ (s : State). taken s r) h.state;
+        room = has_room version rs r (length (step (run empty rs) r).units)
+            (open_behind (length (run empty rs).units) r) a.framer.len
+            units (ap (λ (s : State). length s.units) (run_join empty rs (r ∷ []))) (h.framer.len
+            ∙ sym (log_long version rs)) fits;
+      },
+    )
+  where
+    has_room : (version : Version) (rs : List Record) (r : Record) (n count len : ℕ) → n ≤ count
+        → length (run empty (rs ++ r ∷ [])).units ≡ n → len ≡ length (log_of version rs)
+        → len + (36 + length (body_of r)) + 45 * count ≤ log_limit → HasRoomForEnds version (rs ++ r ∷ [])
+    has_room version rs r n count len few is long room = omega (
+      arith,
+      few,
+      is,
+      long,
+      room,
+      long_with_ends version rs r (length (run empty (rs ++ r ∷ [])).units),
+    )
+
+-- a record that breaks a rule for the machine breaks it there
+pub breaks_at : (version : Version) (rs : List Record) (w : List ℕ) (r : Record) (a : Kernel) (rule : Rule)
+    → IsKernelBehind version rs w a
+    → (is_lawful (version_of a.version) a.machine r ≡ false) × Breaks (version_of a.version) a.machine r rule
+    → BreaksThere version rs r rule
+breaks_at version rs w r a rule h broken = record {
+  unlawful = sym (λ i. is_lawful (h.rules i) (h.state i) r) ∙ broken.0;
+  breaks = subst (λ (v : Version). Breaks v (run empty rs) r rule) h.rules
+      (subst (λ (s : State). Breaks (version_of a.version) s r rule) h.state broken.1);
+}
+
+-- for one that is lawful there is no room
+pub no_room : (version : Version) (rs : List Record) (w : List ℕ) (r : Record) (a : Kernel) (body : List ℕ)
+    → IsKernelBehind version rs w a → body ≡ body_of r → is_lawful (version_of a.version) a.machine r ≡ true
+    → log_limit < a.framer.len + (36 + length body) + 45 * open_behind (length a.machine.units) r
+    → HasNoRoom version rs r
+no_room version rs w r a body h is lawful long =
+    let there = subst (λ (s : State). log_limit < a.framer.len + (36 + length body)
+    + 45 * open_behind (length s.units) r)
+    h.state long in
+    record {
+      lawful = sym (λ i. is_lawful (h.rules i) (h.state i) r) ∙ lawful;
+      long = omega (
+        arith,
+        there,
+        h.framer.len,
+        log_long version rs,
+        ap length is,
+        long_with_ends version rs r (open_behind (length (run empty rs).units) r),
+      );
+    }
+
+-- a checkpoint that was taken is one of the state there
+pub marks_on : (a b : Kernel) (r : Record) (id : Option ElemId) → KernelTakes a b r id → r ≡ checkpoint_in a.machine
+    → FitsCheckpoint a.machine → KernelMarks a b
+marks_on a b r id takes is fits version rs w h =
+    let same : r ≡ checkpoint_in (run empty rs) = is ∙ ap checkpoint_in h.state in
+    let x = subst (λ (q : Record). IsKernelBehind version (rs ++ q ∷ []) w b × IsTaken version rs q id) same
+    (takes version rs w h) in
+    (x.0, subst FitsCheckpoint h.state fits, x.1.room)
+
+-- a checkpoint is lawful, so no other reason is left
+pub stops_mark : (a b : Kernel) (r : Record) (why : NotDone) → KernelStops a b r why → r ≡ checkpoint_in a.machine
+    → KernelStopsMark a b why
+stops_mark a b r (Unlawful rule) h is = λ version rs w at.
+    let there = subst (λ (q : Record). BreaksThere version rs q rule) is (h.1 version rs w at) in
+    false≢true (sym there.unlawful)
+stops_mark a b r Full h is = subst (λ (q : Record). KernelStays a b × KernelRefuses a q Full) is h
+stops_mark a b r Large h is = absurd h
+stops_mark a b r Ended h is = absurd h
+stops_mark a b r Spent h is = tt

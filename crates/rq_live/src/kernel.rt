@@ -1,0 +1,232 @@
+//! The queues as they stand, and the frames of what was done to them.
+
+ghost use Rattle.std.specs.Prelude.{◌≡◌, ◌≢◌, ◌<◌, ◌≤◌, ◌+◌, ◌*◌, List, [], length, nat_le};
+ghost use Rattle.std.specs.Prelude.{IfOk, IfErr, OnOk};
+ghost use Rattle.rq_model.specs.Records as model;
+ghost use Rattle.rq_model.specs.Appending.{MayFollow, FitsCheckpoint};
+ghost use Rattle.rq_model.specs.Frames.{IsBodyLength, log_limit, log_of};
+ghost use Rattle.rq_model.specs.States.{empty};
+ghost use Rattle.rq_model.specs.StateSpelling.{state_bytes};
+ghost use Rattle.rq_model.specs.Machine.{best, run};
+ghost use Rattle.rq_record.specs.Views.{record_of, version_of};
+ghost use Rattle.rq_record.specs.declared.fault.Fault.TheVariants.{Resources};
+ghost use Rattle.rq_front.specs.Framers.{IsFramerAt, behind_header};
+ghost use Rattle.rq_live.specs.Kernels.{IsKernelBehind, IsBodyOf, KernelTakes, KernelStops};
+ghost use Rattle.rq_live.specs.Kernels.{KernelMarks, KernelStopsMark, open_behind};
+
+use rq_front::{FRAME_LEN, Framer, LOG_LIMIT, header_of};
+use rq_lawful::Rule;
+use rq_record::{CheckBytes, ElemId, Fault, KeptRecord, QueueNo, Record, Version, encode};
+use rq_standing::{Machine, Taken};
+use rq_state::{KeptElement, State};
+use std::alloc::Global;
+
+/// The bytes of the frame of a COMMIT or an ABORT.
+const END_LEN: usize = 45;
+
+/// Why an operation was not done.
+#[derive(Clone, Copy, PartialEq, Eq, Debug)]
+pub enum NotDone {
+    /// It is not lawful: it breaks this rule. Nothing was done or written.
+    Unlawful(Rule),
+    /// With it, and with the end of each unit that would be open then, the log would have more than
+    /// 4,294,967,295 bytes. Nothing was done or written.
+    Full,
+    /// The spelling of the state has more than the 268,435,455 bytes that a checkpoint holds.
+    /// Nothing was done or written.
+    Large,
+    /// The numbers are at their end: of the units, if one was to begin; of the records, if a
+    /// checkpoint was to be taken. Nothing was done or written.
+    Ended,
+    /// Memory was refused, or a write or a sync failed, now or earlier. Open the log anew.
+    Spent,
+}
+
+/// The queues as they stand, and the frames of the records that were done since some were given
+/// out.
+#[derive(Drop)]
+pub struct Kernel {
+    pub(crate) version: Version,
+    pub(crate) machine: Machine,
+    pub(crate) framer: Framer,
+    pub(crate) body: Vec<u8>,
+    pub(crate) pending: Vec<u8>,
+}
+
+// How many units of so many are open behind the record.
+fn open_behind(count: usize, kept: &KeptRecord) -> usize
+    requires { count < 18446744073709551615 }
+    ensures { result ≡ open_behind count (record_of kept.now) }
+{
+    match kept {
+        KeptRecord::Begin { .. } => count + 1,
+        KeptRecord::Commit { .. } | KeptRecord::Abort { .. } => count.saturating_sub(1),
+        _ => count,
+    }
+}
+
+impl Kernel {
+    /// No queues yet, by the rules of the version. The header of the log is pending.
+    pub(crate) fn new(alloc: Global, version: Version) -> Result<Kernel, Fault>
+        ensures stands { IfOk result (IsKernelBehind (version_of version) [] []) }
+        ensures few { IfOk result (λ kernel. length kernel.pending.items ≤ 40) }
+        ensures refused { IfErr result (λ e. e ≡ Resources) }
+    {
+        rq_model::frames_join();
+        let mut pending = Vec::new(alloc);
+        header_of(version, &mut pending)?;
+        Ok(Kernel {
+            version,
+            machine: Machine::empty(alloc),
+            framer: Framer::new(version),
+            body: Vec::new(alloc),
+            pending,
+        })
+    }
+
+    /// Stands where this machine stands and this framer does. No frame is pending.
+    pub fn standing(alloc: Global, version: Version, machine: Machine, framer: Framer) -> Kernel
+        ensures stands { (rs : List model.Record) → MayFollow (version_of version) empty rs
+            → length (log_of (version_of version) rs) ≤ log_limit → machine ≡ run empty rs
+            → IsFramerAt (behind_header (version_of version)) rs framer
+            → IsKernelBehind (version_of version) rs (log_of (version_of version) rs) result }
+        ensures none { result.pending.items ≡ [] }
+    {
+        Kernel {
+            version,
+            machine,
+            framer,
+            body: Vec::new(alloc),
+            pending: Vec::new(alloc),
+        }
+    }
+
+    /// The element that the next DEQUEUE takes from a queue, if one is free; a copy.
+    pub(crate) fn first(&self, queue: QueueNo) -> Result<Option<KeptElement>, NotDone>
+        ensures { IfOk result (λ e. e ≡ best queue.0 self.now.machine.elements) }
+    {
+        let Some(e) = self.machine.first(queue) else {
+            return Ok(None);
+        };
+        match e.copied() {
+            Ok(e) => Ok(Some(e)),
+            Err(_) => Err(NotDone::Spent),
+        }
+    }
+
+    /// Whether the log has room for the end of each unit that is open.
+    pub(crate) fn has_room_for_ends(&self) -> bool
+        ensures { result
+            ≡ nat_le (self.now.framer.len + 45 * length self.now.machine.units) log_limit }
+    {
+        let count = self.machine.open_count();
+        if count > LOG_LIMIT {
+            return false;
+        }
+        let len = self.framer.len();
+        len <= LOG_LIMIT && END_LEN * count <= LOG_LIMIT - len
+    }
+
+    // Whether the log has room for the record whose body was spelled, and for the end of each unit
+    // that is open behind it.
+    #[tactic(auto, using(crate::proofs::Taking::open_many))]
+    fn has_room(&self, kept: &KeptRecord) -> bool
+        requires { IsBodyLength (length self.now.body.items) }
+        ensures { result ≡ nat_le (self.now.framer.len + (36 + length self.now.body.items)
+            + 45 * open_behind (length self.now.machine.units) (record_of kept.now)) log_limit }
+    {
+        let count = self.machine.open_count();
+        if count > LOG_LIMIT {
+            return false;
+        }
+        let ends = END_LEN * open_behind(count, kept);
+        FRAME_LEN + self.body.len() + ends <= LOG_LIMIT.saturating_sub(self.framer.len())
+    }
+
+    // Why the record is not taken for which there is no room: that it is not lawful is told first,
+    // so a COMMIT or an ABORT is never refused for want of room.
+    fn without_room(&self, kept: &KeptRecord) -> NotDone
+        requires long { log_limit < self.now.framer.len + (36 + length self.now.body.items)
+            + 45 * open_behind (length self.now.machine.units) (record_of kept.now) }
+        requires body { IsBodyOf (record_of kept.now) self.now.body.items }
+        ensures { KernelStops self.now self.now (record_of kept.now) result }
+    {
+        match self.machine.broken(self.version, kept) {
+            Some(rule) => NotDone::Unlawful(rule),
+            None => NotDone::Full,
+        }
+    }
+
+    /// Does a record, if it is lawful and the log has room for it, and adds its frame to those that
+    /// are pending. The id of the element that it takes, if it takes one. Refused with `Unlawful`
+    /// and `Full` it stands where it stood; with `Spent` nothing is known of it from then on.
+    pub(crate) fn take(&mut self, alloc: Global, next: &Record) -> Result<Option<ElemId>, NotDone>
+        ensures taken { IfOk result (KernelTakes self.old self.new (record_of next.now)) }
+        ensures refused { IfErr result (KernelStops self.old self.new (record_of next.now)) }
+        ensures few { IfErr result
+            (λ why. why ≢ NotDone.Spent → self.new.pending ≡ self.old.pending) }
+    {
+        rq_model::one_spelling();
+        self.body.clear();
+        let Ok(()) = encode(next, &mut self.body) else {
+            return Err(NotDone::Spent);
+        };
+        let Ok(kept) = KeptRecord::of(alloc, next) else {
+            return Err(NotDone::Spent);
+        };
+        self.done(alloc, &kept)
+    }
+
+    // The same for a record whose body was spelled.
+    fn done(&mut self, alloc: Global, kept: &KeptRecord) -> Result<Option<ElemId>, NotDone>
+        requires { IsBodyOf (record_of kept.now) self.old.body.items }
+        ensures taken { IfOk result (KernelTakes self.old self.new (record_of kept.now)) }
+        ensures refused { IfErr result (KernelStops self.old self.new (record_of kept.now)) }
+        ensures few { IfErr result
+            (λ why. why ≢ NotDone.Spent → self.new.pending ≡ self.old.pending) }
+    {
+        if !self.has_room(kept) {
+            return Err(self.without_room(kept));
+        }
+        match self.machine.take(alloc, self.version, kept) {
+            Ok(Taken::Done(element)) => match self.framer.put(&self.body, &mut self.pending) {
+                Ok(()) => Ok(element),
+                Err(_) => Err(NotDone::Spent),
+            },
+            Ok(Taken::Unlawful(rule)) => Err(NotDone::Unlawful(rule)),
+            Err(_) => Err(NotDone::Spent),
+        }
+    }
+
+    // The bytes that spell the state.
+    fn spelled(&self, alloc: Global) -> Result<CheckBytes, NotDone>
+        ensures spelled { IfOk result (λ bytes. bytes ≡ state_bytes self.now.machine) }
+        ensures fits { OnOk result (FitsCheckpoint self.now.machine) }
+        ensures refused { IfErr result (KernelStopsMark self.now self.now) }
+    {
+        if self.machine.next() > State::RECORDS {
+            return Err(NotDone::Ended);
+        }
+        let bytes = match self.machine.spell(alloc) {
+            Ok(bytes) => bytes,
+            Err(Fault::TooLarge) => return Err(NotDone::Large),
+            Err(_) => return Err(NotDone::Spent),
+        };
+        CheckBytes::new(bytes).ok_or(NotDone::Large)
+    }
+
+    /// Adds the frame of a checkpoint of the state. Refused with `Full`, `Large` and `Ended` it
+    /// stands where it stood; with `Spent` nothing is known of it from then on.
+    pub(crate) fn mark(&mut self, alloc: Global) -> Result<(), NotDone>
+        ensures marked { OnOk result (KernelMarks self.old self.new) }
+        ensures refused { IfErr result (KernelStopsMark self.old self.new) }
+        ensures few { IfErr result
+            (λ why. why ≢ NotDone.Spent → self.new.pending ≡ self.old.pending) }
+    {
+        let bytes = self.spelled(alloc)?;
+        match self.take(alloc, &Record::Checkpoint { bytes }) {
+            Ok(_) => Ok(()),
+            Err(why) => Err(why),
+        }
+    }
+}

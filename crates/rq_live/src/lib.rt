@@ -1,0 +1,12 @@
+//! A queue manager that appends what it does to a log, and says when it is safe. It does one
+//! operation at a time, and starts no thread.
+#![tactic(auto)]
+
+mod checkpoints;
+mod kernel;
+mod manager;
+mod operations;
+mod resumption;
+
+pub use kernel::{Kernel, NotDone};
+pub use manager::Manager;

@@ -1,0 +1,284 @@
+"""Quick, of 400 sequences, behind the gate's proofs; by hand of 10,000. Drives a queue manager over memory by random calls, and holds each
+answer, and the log that it writes, beside the second program in Python; then lets it go on from what crashes leave of that log.
+
+The program `rqdrive` takes a line a call, and answers each with a line. The first is `new VERSION`. A line of a script is done by the call
+of its kind, and a BEGIN gets the next number whatever it tells; `take LINE` does the record as it is told; `later UNIT` is a COMMIT that
+need not be safe yet; `settle` makes all safe; `look WHAT` shows something; `left SYNCED HEX` lets another manager go on behind these bytes,
+of which so many were synced, and begins a unit there.
+"""
+from __future__ import annotations
+import argparse, multiprocessing, os, random, struct, subprocess
+from collections.abc import Iterable
+
+import frames as records
+from frames import HEADER, header_of, listed
+from second import DRAWN, Machine, Note, Restart, record_of
+from trying import TOP, check
+
+# So many lines a sequence has before crashes.
+LENGTH = 40
+# How often other lines are drawn than those of second.py, which has the kinds of records.
+OTHERS = {"take": 3, "later": 6, "settle": 3, "queues": 1, "units": 3, "first": 6, "last": 4, "logged": 3}
+# So many crashes are tried, but of one sequence of so many a crash at each length; and so long is the garbage that one may leave.
+CRASHES, EACH, GARBAGE = 6, 100, 200
+GREATEST = 2**64 - 1
+NAMES = [b"ann", b"an", b"b-1", b"c.d_e"]
+
+
+def number8(value: int | None) -> bytes:
+    return struct.pack(">Q", GREATEST if value is None else value)
+
+
+def name8(name: bytes) -> bytes:
+    return bytes([len(name)]) + name
+
+
+def said(kind: str, tag: int, element: int | None) -> tuple[bytes, bytes]:
+    """An operation of a registrant: its kind, and its tag and element."""
+    return bytes([("enqueue", "dequeue").index(kind) + 1]), number8(tag) + number8(element)
+
+
+def registrant(at: tuple[int, bytes], last: Note | None) -> bytes:
+    head = struct.pack(">I", at[0]) + name8(at[1])
+    if last is None:
+        return head + b"\0"
+    kind, rest = said(*last.said)
+    return head + kind + number8(last.place) + rest
+
+
+def noted(note: Note) -> bytes:
+    return number8(note.place) + number8(note.unit) + struct.pack(">I", note.at[0]) + name8(note.at[1]) + b"".join(said(*note.said))
+
+
+def spelling(machine: Machine) -> bytes:
+    """The state, as a checkpoint has it."""
+    def elements() -> Iterable[bytes]:
+        for id, it in sorted(machine.elements.items()):
+            mark = b"\0" if it.fresh is None and it.held is None else (b"\1" + number8(it.fresh) if it.fresh is not None else b"\2" + number8(it.held))
+            yield struct.pack(">QIIBQ", id, it.home, it.origin, it.priority, it.attempts) + mark + struct.pack(">H", len(it.payload)) + it.payload
+
+    definitions = (struct.pack(">HI", limit, records.NO_QUEUE if error is None else error) + name8(name) for name, limit, error in machine.queues)
+    lists = (definitions, map(number8, sorted(machine.open)), (registrant(*it) for it in sorted(machine.registrants.items(), key=lambda it: it[0])),
+             elements(), map(noted, sorted(machine.notes, key=lambda it: it.place)))
+    return struct.pack(">QQQQ", machine.place, machine.greatest, machine.committed, machine.aborted) + b"".join(map(listed, lists))
+
+
+class Sequence:
+    """Random lines, and what each is to be answered."""
+
+    def __init__(self, draw: random.Random, version: int) -> None:
+        self.draw, self.version, self.machine = draw, version, Machine(version)
+        self.log, self.bodies = header_of(version), []
+        # Where what is safe ended, each time that all was made safe; nothing is written before.
+        self.safe = [0]
+        self.lines, self.answers = [b"new %d" % version], []
+        kinds = {**{kind: often for kind, often in DRAWN.items() if version == 2 or kind != "kill"}, **OTHERS}
+        for line in (b"define dead 0 -", b"define jobs 2 0"):
+            self.do(line, record_of(records.define(b"dead") if line.endswith(b"-") else records.define(b"jobs", 2, 0), version))
+        self.begin()
+        self.begin()
+        for kind in draw.choices([*kinds], [*kinds.values()], k=LENGTH):
+            getattr(self, kind)()
+
+    def add(self, line: bytes, answer: str) -> None:
+        self.lines.append(line)
+        self.answers.append(answer)
+
+    def settled(self) -> None:
+        self.safe.append(len(self.log))
+
+    def body(self, record: tuple) -> bytes:
+        kind, *fields = record
+        if kind == "define":
+            return records.define(fields[2], fields[0], fields[1])
+        if kind == "enqueue":
+            unit, queue, priority, name, tag, payload = fields
+            return records.enqueue(unit, queue, name, tag, payload, priority)
+        return getattr(records, kind)(*fields)
+
+    def takes(self, record: tuple, body: bytes) -> bool:
+        """Whether the record is lawful: it stands in the log then."""
+        if not self.machine.takes(record):
+            return False
+        self.log = records.framed(self.log, body)
+        return True
+
+    def do(self, line: bytes, record: tuple, done: str = "done") -> None:
+        self.add(line, done if self.takes(record, self.body(record)) else "unlawful")
+
+    # --- what is drawn ---------------------------------------------------------------------------------------------
+
+    def queue(self) -> int:
+        return self.draw.randrange(len(self.machine.queues) + (self.draw.random() < 0.1))
+
+    def unit(self) -> int:
+        return self.draw.choice([*self.machine.open, *self.machine.open, min(self.machine.greatest + 1, GREATEST)])
+
+    def who(self) -> tuple[int, bytes, int]:
+        """A queue and one of its registrants, or nobody."""
+        if self.machine.registrants and self.draw.random() < 0.5:
+            queue, name = self.draw.choice([*self.machine.registrants])
+            return queue, name, self.draw.randrange(2**64)
+        return self.queue(), b"", 0
+
+    # --- the operations --------------------------------------------------------------------------------------------
+
+    def define(self) -> None:
+        limit, name = self.draw.randrange(4), self.draw.choice([b"q%d" % self.draw.randrange(20), b"jobs"])
+        error = self.queue() if limit else records.NO_QUEUE
+        told = b"%d" % error if limit else b"-"
+        self.do(b"define %b %d %b" % (name, limit, told), ("define", limit, error, name))
+
+    def register(self, kind: str = "register") -> None:
+        queue, name = self.queue(), self.draw.choice(NAMES)
+        self.do(b"%b %d %b" % (kind.encode(), queue, name), (kind, queue, name))
+
+    def deregister(self) -> None:
+        self.register("deregister")
+
+    def begin(self) -> None:
+        unit = self.machine.greatest + 1
+        if unit > GREATEST:
+            self.add(b"begin 7", "ended")
+        else:
+            self.do(b"begin 7", ("begin", unit), f"unit {unit}")
+
+    def enqueue(self) -> None:
+        queue, name, tag = self.who()
+        unit, priority, payload = self.unit(), self.draw.randrange(3), self.draw.randbytes(self.draw.randrange(40))
+        line = b"enqueue %d %d %d %b %d %b" % (unit, queue, priority, name or b"-", tag, payload.hex().encode() or b"-")
+        self.do(line, ("enqueue", unit, queue, priority, name, tag, payload), f"element {self.machine.place}")
+
+    def shown(self, id: int) -> str:
+        it = self.machine.elements[id]
+        return f"{id} {it.origin} {it.priority} {it.attempts} {it.payload.hex()}"
+
+    def dequeue(self) -> None:
+        queue, name, tag = self.who()
+        unit, best = self.unit(), next(iter(self.machine.free(queue)), None)
+        line = b"dequeue %d %d %b %d" % (unit, queue, name or b"-", tag)
+        self.do(line, ("dequeue", unit, queue, name, tag), "none" if best is None else self.shown(best))
+
+    def commit(self) -> None:
+        before = self.machine.place
+        unit = self.unit()
+        self.do(b"commit %d" % unit, ("commit", unit))
+        if self.machine.place > before:
+            self.settled()
+
+    def abort(self) -> None:
+        unit = self.unit()
+        self.do(b"abort %d" % unit, ("abort", unit))
+
+    def kill(self) -> None:
+        queue, element = self.queue(), self.draw.choice([*self.machine.elements, 0])
+        self.do(b"kill %d %d" % (queue, element), ("kill", queue, element))
+
+    def checkpoint(self) -> None:
+        at, body = len(self.log), b"\x09" + spelling(self.machine)
+        self.takes(("checkpoint",), body)
+        self.add(b"checkpoint", f"checkpoint {at}")
+        self.settled()
+
+    # --- what is no line of a script -------------------------------------------------------------------------------
+
+    def take(self) -> None:
+        if self.draw.random() < 0.3:
+            told = self.draw.randbytes(self.draw.randrange(1, 60))
+            self.takes(("checkpoint",), b"\x09" + told)
+            self.add(b"take checkpoint-hex %b" % told.hex().encode(), "done")
+        else:
+            unit = GREATEST if self.draw.random() < 0.05 else min(self.machine.greatest + self.draw.randrange(4), GREATEST)
+            self.do(b"take begin %d" % unit, ("begin", unit))
+
+    def later(self) -> None:
+        unit = self.unit()
+        self.do(b"later %d" % unit, ("commit", unit))
+
+    def settle(self) -> None:
+        self.add(b"settle", "done")
+        self.settled()
+
+    # --- what is shown ---------------------------------------------------------------------------------------------
+
+    def queues(self) -> None:
+        found = (f"{limit} {records.NO_QUEUE if error is None else error} {name.decode()};" for name, limit, error in self.machine.queues)
+        self.add(b"look queues", "".join(found))
+
+    def units(self) -> None:
+        self.add(b"look units", "".join(f"{it};" for it in sorted(self.machine.open)))
+
+    def first(self) -> None:
+        queue, most = self.queue(), self.draw.randrange(5)
+        found = "".join(f"{self.shown(it)};" for it in self.machine.free(queue)[:most])
+        self.add(b"look first %d %d" % (queue, most), found)
+
+    def last(self) -> None:
+        queue, name = self.queue(), self.draw.choice(NAMES)
+        last = self.machine.registrants.get((queue, name), "nobody")
+        self.add(b"look last %d %b" % (queue, name), "nothing" if last is None else last if last == "nobody" else f"tag {last.said[1]}")
+
+    def logged(self) -> None:
+        written = self.log[:self.safe[-1]]
+        self.add(b"look log", f"{len(self.log)} {len(written)} {written.hex()}")
+
+
+    # --- crashes ---------------------------------------------------------------------------------------------------
+
+    def left(self, at: int, garbage: bytes) -> bytes | None:
+        """Lets another manager go on behind so many bytes and garbage. What a crash left, if not all that was safe is found there."""
+        synced = max(it for it in self.safe if it <= at)
+        left = self.log[:at] + garbage
+        found = Restart(left)
+        unit = found.machine.greatest + 1
+        if unit <= GREATEST:
+            goes_on = records.framed(found.closed, records.begin(unit))
+            self.add(b"left %d %b" % (synced, left.hex().encode()), f"opened {len(left) - found.used} {unit} {len(goes_on)} {goes_on.hex()}")
+        return None if found.used >= synced else left
+
+    def crashes(self, count: int) -> list[bytes]:
+        """What was lost by drawn crashes: each leaves what was safe, whatever was written since or a part of it, and garbage."""
+        drawn = ((self.draw.randrange(HEADER, len(self.log) + 1), self.garbage()) for _ in range(count))
+        return self.lost(drawn)
+
+    def each_crash(self) -> list[bytes]:
+        """The same of each length."""
+        return self.lost((at, garbage) for at in range(HEADER, len(self.log) + 1) for garbage in (b"", bytes(GARBAGE), self.garbage()))
+
+    def garbage(self) -> bytes:
+        return self.draw.choice([b"", bytes(self.draw.randrange(GARBAGE)), self.draw.randbytes(self.draw.randrange(GARBAGE))])
+
+    def lost(self, crashes: Iterable[tuple[int, bytes]]) -> list[bytes]:
+        return [left for left in (self.left(*it) for it in crashes) if left is not None]
+
+
+def driven(task: tuple[str, int, bool]) -> list[tuple[str, str, str]]:
+    """Drives a sequence: each line that is answered otherwise, its answer, and the right one."""
+    program, number, tries_each = task
+    it = Sequence(random.Random(number), 1 + number % 2)
+    it.settle()
+    it.logged()
+    lost = it.each_crash() if tries_each else it.crashes(CRASHES)
+    ended = subprocess.run([program], input=b"".join(line + b"\n" for line in it.lines), stdout=subprocess.PIPE)
+    got = ended.stdout.decode().split("\n")[:-1]
+    name = f"sequence {number}"
+    wrong = [(f"{name}: what a crash leaves", left.hex(), "all that was safe") for left in lost]
+    wrong += [(f"{name}: {line.decode()}", *both) for line, *both in zip(it.lines[1:], got, it.answers) if both[0] != both[1]]
+    if (ended.returncode, len(got)) != (0, len(it.answers)):
+        wrong.append((f"{name}: status and count of answers", f"{ended.returncode}, {len(got)}", f"0, {len(it.answers)}"))
+    return wrong
+
+
+def takes(line: argparse.ArgumentParser) -> None:
+    line.add_argument("--sequences", type=int, default=400)
+    line.add_argument("--from", dest="first", type=int, default=0, help="the number of the first sequence")
+    line.add_argument("--drive", default=os.path.join(TOP, "crates", "rqdrive", "out", "rqdrive"), help="the built program rqdrive")
+
+
+def main(options: argparse.Namespace) -> None:
+    program = os.path.abspath(options.drive)
+    tasks = ((program, options.first + number, number % EACH == 0) for number in range(options.sequences))
+    with multiprocessing.Pool(len(os.sched_getaffinity(0))) as pool:
+        for wrong in pool.imap(driven, tasks, chunksize=8):
+            for name, got, want in wrong or [("all answers", "", "")]:
+                check(name, got, want)
