@@ -10,10 +10,10 @@ use Plain::{
 };
 use rq_lawful::Rule;
 use rq_plan::Plan;
-use rq_record::{ElemId, Fault, KeptName, KeptRecord, QueueNo, Record, UnitNo, Version};
-use rq_rows::spelled;
+use rq_record::{ElemId, Fault, KeptName, KeptRecord, QueueNo, Record, Version};
+use rq_rows::{first_of, lists, marks, spelled};
 use rq_standing::{Machine, Taken};
-use rq_state::{KeptElement, Last, State};
+use rq_state::{Last, State};
 use std::alloc::Global;
 use std::test::Fail;
 use std::thread::Threads;
@@ -261,44 +261,6 @@ fn it_knows_its_numbers_and_its_spelling(rt: HostRuntime) -> Result<(), Fail> {
         assert!(rt; knows(alloc, &machine)?, "after {count} records");
     }
     Ok(())
-}
-
-// Whether these are the elements of the ids, in their order.
-fn are(elements: &[&KeptElement], ids: &[u64]) -> bool {
-    elements.len() == ids.len()
-        && elements
-            .iter()
-            .zip(ids.iter())
-            .all(|(e, id)| e.number() == *id)
-}
-
-// The id of the first element of a queue, if one is free.
-fn first_of(machine: &Machine, queue: u32) -> Option<u64> {
-    match machine.first(QueueNo(queue)) {
-        Some(e) => Some(e.number()),
-        None => None,
-    }
-}
-
-// Whether a queue has these free elements, the first of them first.
-fn lists(alloc: Global, machine: &Machine, queue: u32, ids: &[u64]) -> Result<bool, Fail> {
-    if queue as usize >= machine.definitions().len() {
-        return Ok(false);
-    }
-    let listed = machine.listing(alloc, QueueNo(queue))?;
-    Ok(are(&listed, ids) && first_of(machine, queue) == ids.first().copied())
-}
-
-// Whether the unit put in or took this one element of a queue, or none.
-fn marks(machine: &Machine, queue: u32, unit: u64, id: Option<u64>) -> bool {
-    if queue as usize >= machine.definitions().len() {
-        return false;
-    }
-    match machine.marked_by(QueueNo(queue), UnitNo(unit)) {
-        [] => id.is_none(),
-        [e] => Some(e.number()) == id,
-        _ => false,
-    }
 }
 
 // Behind the checkpoint, and behind the two records after it, which take two elements.
