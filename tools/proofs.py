@@ -124,7 +124,7 @@ def main() -> int:
         rt = loaded("rt_main", "rt")
     except (OSError, SyntaxError, ValueError):
         rt = None
-    if not all(hasattr(rt, it) for it in ("in_lanes", "processors", "free", "ending", "main")):
+    if not all(hasattr(rt, it) for it in ("in_lanes", "processors", "free", "ending", "main", "Crate")):
         os.execvp("rt", ["rt", "ci"])
     rt.in_lanes = lambda tasks: side_by_side(rt, tasks)
     has_tests = rt.Crate.has_tests
