@@ -1,5 +1,6 @@
 //! A manager of any device that units go through, and one that goes on behind what a crash left.
 
+ghost use Rattle.std.specs.Prelude.{◌≡◌};
 ghost use Rattle.rq_live.specs.Managers.{IsInOrder, stand_of};
 
 use rq_device::{Device, Memory, WINDOW};
