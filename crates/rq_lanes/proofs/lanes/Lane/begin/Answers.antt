@@ -3,7 +3,7 @@ use Rattle.sha2.specs.Sha256.{padding}
 use Rattle.rq_lanes.specs.Messages.{text}
 use Rattle.rq_lanes.proofs.Blocks.{length-text}
 use Rattle.rq_lanes.proofs.Holding.{rest_of_text}
-use Rattle.rq_lanes.proofs.lanes.Lane.of.Goals as goal
+use Rattle.rq_lanes.proofs.lanes.Lane.begin.Goals as goal
 
 pub returns-clause-fills : goal.returns-clause-fills
 returns-clause-fills c count =
@@ -14,6 +14,6 @@ returns-clause-fills c count =
     record {
       within = c.requires.within;
       count = count;
-      tail = c.last_blocks.ensures ∙ ap (λ (x : List ℕ). x ++ padding m.len) rest
+      tail = c.put_last_blocks.ensures ∙ ap (λ (x : List ℕ). x ++ padding m.len) rest
           ∙ ap (λ (n : ℕ). drop (m.len / 64 * 64) (text b m) ++ padding n) (sym long);
     }
