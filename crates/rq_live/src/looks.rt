@@ -1,0 +1,150 @@
+//! What a manager shows of its queues.
+
+ghost use Rattle.std.specs.Prelude.{◌≡◌, ◌<◌, Err, true, IfOk, IfErr, length};
+ghost use Rattle.rq_record.specs.declared.fault.Fault.TheVariants.{Resources};
+ghost use Rattle.rq_live.specs.Managers.{stand_of, IsGreatest, IsCount, IsOpenThere, IsDepth};
+ghost use Rattle.rq_live.specs.Managers.{AreRegistered};
+
+use crate::kernel::NotDone;
+use crate::manager::Manager;
+use rq_device::Device;
+use rq_record::{Fault, KeptRecord, QueueNo, UnitNo};
+use rq_state::{KeptElement, KeptFields, KeptRegistrant, Mark};
+use std::alloc::Global;
+
+/// How many elements a queue has.
+#[derive(Clone, Copy, PartialEq, Eq, Debug)]
+pub struct Depths {
+    /// So many are free.
+    pub free: usize,
+    /// Open units put in so many.
+    pub fresh: usize,
+    /// Open units took so many.
+    pub held: usize,
+}
+
+// How many of the elements a unit put in.
+fn fresh_among(marked: &[KeptElement]) -> usize {
+    marked
+        .iter()
+        .filter(|e| matches!(e.mark, Mark::Fresh(_)))
+        .count()
+}
+
+// Fields in which nothing is.
+fn no_fields(alloc: Global) -> KeptFields {
+    KeptFields {
+        next: 0,
+        greatest: 0,
+        committed: 0,
+        aborted: 0,
+        definitions: Vec::new(alloc),
+        units: Vec::new(alloc),
+        registrants: Vec::new(alloc),
+        elements: Vec::new(alloc),
+        notes: Vec::new(alloc),
+    }
+}
+
+impl<D: Device + Drop> Manager<D> {
+    /// The greatest unit that ever began; 0 before the first.
+    pub fn greatest(&self) -> Result<UnitNo, NotDone>
+        ensures greatest { IfOk result (λ unit. IsGreatest
+            (stand_of D.written D.synced D.doubted D.failed self.now) unit.0) }
+        ensures spent { self.now.spent ≡ true → result ≡ Err NotDone.Spent }
+        ensures refused { IfErr result (λ why. (why ≡ NotDone.Spent) × (self.now.spent ≡ true)) }
+    {
+        if self.spent {
+            return Err(NotDone::Spent);
+        }
+        Ok(UnitNo(self.kernel.machine.greatest()))
+    }
+
+    /// How many records its log has, those that are pending too.
+    pub fn records(&self) -> Result<u64, NotDone>
+        ensures records { IfOk result (IsCount
+            (stand_of D.written D.synced D.doubted D.failed self.now)) }
+        ensures spent { self.now.spent ≡ true → result ≡ Err NotDone.Spent }
+        ensures refused { IfErr result (λ why. (why ≡ NotDone.Spent) × (self.now.spent ≡ true)) }
+    {
+        if self.spent {
+            return Err(NotDone::Spent);
+        }
+        Ok(self.kernel.machine.next())
+    }
+
+    /// Whether the unit is open.
+    pub fn is_open(&self, unit: UnitNo) -> Result<bool, NotDone>
+        ensures open { IfOk result (IsOpenThere
+            (stand_of D.written D.synced D.doubted D.failed self.now) unit.0) }
+        ensures spent { self.now.spent ≡ true → result ≡ Err NotDone.Spent }
+        ensures refused { IfErr result (λ why. (why ≡ NotDone.Spent) × (self.now.spent ≡ true)) }
+    {
+        if self.spent {
+            return Err(NotDone::Spent);
+        }
+        let end = KeptRecord::Commit { unit };
+        Ok(self
+            .kernel
+            .machine
+            .broken(self.kernel.version, &end)
+            .is_none())
+    }
+
+    // How many elements of a queue that is there open units put in.
+    fn fresh_in(&self, alloc: Global, queue: QueueNo) -> Result<usize, Fault>
+        requires { queue.0 < length self.now.kernel.machine.definitions }
+        ensures { IfErr result (λ e. e ≡ Resources) }
+    {
+        let mut fresh: usize = 0;
+        for unit in &self.kernel.machine.open_units(alloc)? {
+            let marked = self.kernel.machine.marked_by(queue, *unit);
+            fresh = fresh.saturating_add(fresh_among(marked));
+        }
+        Ok(fresh)
+    }
+
+    /// How many elements of a queue are free, fresh and held; a queue that is not there has none.
+    /// Refused with `Resources`, also if it is spent.
+    pub fn depths(&self, alloc: Global, queue: QueueNo) -> Result<Depths, Fault>
+        ensures free { IfOk result (λ d. IsDepth
+            (stand_of D.written D.synced D.doubted D.failed self.now) queue.0 d.free) }
+        ensures refused { IfErr result (λ e. e ≡ Resources) }
+    {
+        if self.spent {
+            return Err(Fault::Resources);
+        }
+        let mut depths = Depths {
+            free: 0,
+            fresh: 0,
+            held: 0,
+        };
+        if queue.0 as usize >= self.kernel.machine.definitions().len() {
+            return Ok(depths);
+        }
+        depths.free = self.kernel.machine.depth(queue);
+        let marked = self.kernel.machine.part(queue).marked_count();
+        if marked > 0 {
+            depths.fresh = self.fresh_in(alloc, queue)?;
+            depths.held = marked.saturating_sub(depths.fresh);
+        }
+        Ok(depths)
+    }
+
+    /// Who is registered with a queue, by name; copies. A queue that is not there has none. It costs
+    /// a look at each element of the queue. Refused with `Resources`, also if it is spent.
+    pub fn registrants(&self, alloc: Global, queue: QueueNo) -> Result<Vec<KeptRegistrant>, Fault>
+        ensures registrants { IfOk result (λ v. AreRegistered
+            (stand_of D.written D.synced D.doubted D.failed self.now) queue.0 v.items) }
+        ensures refused { IfErr result (λ e. e ≡ Resources) }
+    {
+        if self.spent {
+            return Err(Fault::Resources);
+        }
+        let mut fields = no_fields(alloc);
+        if (queue.0 as usize) < self.kernel.machine.definitions().len() {
+            self.kernel.machine.part(queue).pour_copies(&mut fields)?;
+        }
+        Ok(fields.registrants)
+    }
+}

@@ -1,0 +1,85 @@
+//! What is told of queues.
+
+use crate::answers::{Answer, put_element_line, put_optional};
+use crate::refusals::Undone;
+use rq_device::Device;
+use rq_live::{Depths, Manager};
+use rq_record::QueueNo;
+use rq_report::{kind_word, put_error};
+use rq_state::{Definition, KeptElement, KeptRegistrant};
+use std::alloc::{AllocError, Global};
+use std::fmt::Write;
+
+// Puts the line of a queue as a report has it, and behind it how many elements it has.
+fn put_queue_line(
+    text: &mut String,
+    queue: usize,
+    d: &Definition,
+    depths: Depths,
+) -> Result<(), AllocError> {
+    let (limit, free, fresh, held) = (d.limit, depths.free, depths.fresh, depths.held);
+    write!(text, "queue {queue} ")?;
+    text.push_str(d.name.text())?;
+    write!(text, " limit {limit} error ")?;
+    put_error(text, d.error)?;
+    write!(text, " free {free} fresh {fresh} held {held}\n")
+}
+
+/// The queues, by number.
+pub(crate) fn queues_told<D: Device + Drop>(
+    alloc: Global,
+    m: &Manager<D>,
+) -> Result<Answer, Undone> {
+    let mut text = String::new(alloc);
+    let definitions = m.definitions()?;
+    let mut queue = 0;
+    for d in definitions {
+        let depths = m.depths(alloc, QueueNo(queue as u32))?;
+        put_queue_line(&mut text, queue, d, depths)?;
+        queue += 1;
+    }
+    Ok(Answer::Lines(definitions.len(), text))
+}
+
+// Puts a registrant as a report has it.
+fn put_registrant_line(text: &mut String, r: &KeptRegistrant) -> Result<(), AllocError> {
+    text.push_str("r ")?;
+    text.push_str(r.name().text())?;
+    let Some(last) = r.last() else {
+        return text.push_str(" none\n");
+    };
+    let (kind, tag) = (kind_word(last.kind), last.tag);
+    write!(text, " {kind} tag {tag} element ")?;
+    put_optional(text, last.element)?;
+    text.push_str("\n")
+}
+
+fn put_elements(text: &mut String, elements: &[&KeptElement]) -> Result<(), AllocError> {
+    for e in elements {
+        put_element_line(text, e)?;
+    }
+    Ok(())
+}
+
+fn put_registrants(text: &mut String, registrants: &[KeptRegistrant]) -> Result<(), AllocError> {
+    for r in registrants {
+        put_registrant_line(text, r)?;
+    }
+    Ok(())
+}
+
+/// The first free elements of a queue, so many or all, best first, and its registrants.
+pub(crate) fn listed<D: Device + Drop>(
+    alloc: Global,
+    m: &Manager<D>,
+    queue: QueueNo,
+    count: usize,
+) -> Result<Answer, Undone> {
+    let mut text = String::new(alloc);
+    let elements = m.first_elements(alloc, queue, count)?;
+    put_elements(&mut text, &elements)?;
+    let registrants = m.registrants(alloc, queue)?;
+    put_registrants(&mut text, &registrants)?;
+    let lines = elements.len().saturating_add(registrants.len());
+    Ok(Answer::Lines(lines, text))
+}
