@@ -1,7 +1,14 @@
 //! What is answered, and the lines that spell it.
 
+ghost use Rattle.std.specs.Prelude.{◌≡◌, ◌++◌, OnOk, IfErr, string_bytes};
+ghost use Rattle.rq_model.specs.Reports.{element_line, element_text, payload_text};
+ghost use Rattle.rq_record.specs.declared.fault.Fault.TheVariants.{Resources};
+ghost use Rattle.rq_state.specs.Views.{id_of};
+ghost use Rattle.rq_serve.specs.Answers.{answer_lines, answer_text, taken_text, told_last};
+ghost use Rattle.rq_serve.specs.Serving.{is_refused};
+
 use crate::refusals::Refused;
-use rq_record::{ElemId, Fault, QueueNo, UnitNo};
+use rq_record::{ElemId, Fault, Name, QueueNo, UnitNo};
 use rq_report::kind_word;
 use rq_state::{KeptElement, Last};
 use std::alloc::AllocError;
@@ -26,8 +33,8 @@ pub enum Answer {
     Unit(UnitNo),
     /// An element was put in.
     Element(ElemId),
-    /// An element was taken: as it was before.
-    Taken(KeptElement),
+    /// An element was taken, which was put into the queue of this name: as it was before.
+    Taken(Name, KeptElement),
     /// A checkpoint stands at the offset.
     Checkpoint(usize),
     /// The log has so many bytes, and the service ends.
@@ -41,7 +48,9 @@ pub enum Answer {
 }
 
 // Puts the bytes of a payload in hexadecimal, or `-` for none.
-fn put_payload(text: &mut String, bytes: &[u8]) -> Result<(), AllocError> {
+fn put_payload(text: &mut String, bytes: &[u8]) -> Result<(), AllocError>
+    ensures { OnOk result (string_bytes text.new ≡ string_bytes text.old ++ payload_text bytes.now) }
+{
     if bytes.is_empty() {
         return text.push_str("-");
     }
@@ -51,7 +60,9 @@ fn put_payload(text: &mut String, bytes: &[u8]) -> Result<(), AllocError> {
 
 /// Puts an element as a report has it: `e`, its id, the queue that it was put in, its priority and
 /// attempts, and its payload.
-pub(crate) fn put_element_line(text: &mut String, e: &KeptElement) -> Result<(), AllocError> {
+pub(crate) fn put_element_line(text: &mut String, e: &KeptElement) -> Result<(), AllocError>
+    ensures { OnOk result (string_bytes text.new ≡ string_bytes text.old ++ element_line e.now) }
+{
     let (id, origin, priority, attempts) = (e.id.0, e.origin.0, e.priority, e.attempts);
     write!(
         text,
@@ -61,15 +72,21 @@ pub(crate) fn put_element_line(text: &mut String, e: &KeptElement) -> Result<(),
     text.push_str("\n")
 }
 
-// Puts an element that was taken.
-fn put_taken(text: &mut String, e: &KeptElement) -> Result<(), AllocError> {
-    let (id, origin, priority, attempts) = (e.id.0, e.origin.0, e.priority, e.attempts);
-    write!(text, "element {id} {origin} {priority} {attempts} ")?;
+// Puts an element that was taken, which was put into the queue of this name.
+fn put_taken(text: &mut String, from: &Name, e: &KeptElement) -> Result<(), AllocError>
+    ensures { OnOk result (string_bytes text.new ≡ string_bytes text.old ++ taken_text from.now e.now) }
+{
+    let (id, priority, attempts) = (e.id.0, e.priority, e.attempts);
+    write!(text, "element {id} ")?;
+    text.push_str(from.text())?;
+    write!(text, " {priority} {attempts} ")?;
     put_payload(text, e.payload.bytes())
 }
 
 /// Puts the id of an element, or `-` if there is none.
-pub(crate) fn put_optional(text: &mut String, element: Option<ElemId>) -> Result<(), AllocError> {
+pub(crate) fn put_optional(text: &mut String, element: Option<ElemId>) -> Result<(), AllocError>
+    ensures { OnOk result (string_bytes text.new ≡ string_bytes text.old ++ element_text (id_of element)) }
+{
     match element {
         Some(id) => {
             let number = id.0;
@@ -79,13 +96,18 @@ pub(crate) fn put_optional(text: &mut String, element: Option<ElemId>) -> Result
     }
 }
 
-fn put_last(text: &mut String, last: &Last) -> Result<(), AllocError> {
+fn put_last(text: &mut String, last: &Last) -> Result<(), AllocError>
+    ensures { OnOk result (string_bytes text.new ≡ string_bytes text.old ++ told_last last.now) }
+{
     let (kind, tag) = (kind_word(last.kind), last.tag);
     write!(text, "last {kind} {tag} ")?;
     put_optional(text, last.element)
 }
 
-fn put_refused(text: &mut String, refused: Refused) -> Result<(), AllocError> {
+fn put_refused(text: &mut String, refused: Refused) -> Result<(), AllocError>
+    ensures { OnOk result (string_bytes text.new
+        ≡ string_bytes text.old ++ answer_text (Answer.Refused refused)) }
+{
     text.push_str("refused ")?;
     text.push_str(refused.word())?;
     text.push_str(": ")?;
@@ -93,8 +115,17 @@ fn put_refused(text: &mut String, refused: Refused) -> Result<(), AllocError> {
 }
 
 impl Answer {
+    /// Whether nothing was done: the request is not lawful now, or none.
+    pub fn is_refused(&self) -> bool
+        ensures { result ≡ is_refused self.now }
+    {
+        matches!(self, Answer::Refused(_) | Answer::NoRequest)
+    }
+
     // Puts it without its LF.
-    fn put_text(&self, text: &mut String) -> Result<(), AllocError> {
+    fn put_text(&self, text: &mut String) -> Result<(), AllocError>
+        ensures { OnOk result (string_bytes text.new ≡ string_bytes text.old ++ answer_text self.now) }
+    {
         match self {
             Answer::Done => text.push_str("ok"),
             Answer::Later => text.push_str("later"),
@@ -104,7 +135,7 @@ impl Answer {
             Answer::Last(last) => put_last(text, last),
             Answer::Unit(unit) => write!(text, "unit {}", unit.0),
             Answer::Element(id) => write!(text, "element {}", id.0),
-            Answer::Taken(e) => put_taken(text, e),
+            Answer::Taken(from, e) => put_taken(text, from, e),
             Answer::Checkpoint(offset) => write!(text, "checkpoint {offset}"),
             Answer::Closed(bytes) => write!(text, "closed {bytes}"),
             Answer::Lines(count, _) => write!(text, "lines {count}"),
@@ -114,7 +145,11 @@ impl Answer {
     }
 
     /// Adds its lines to the text. Refused with `Resources`: a beginning of them may stand there.
-    pub fn put(&self, text: &mut String) -> Result<(), Fault> {
+    pub fn put(&self, text: &mut String) -> Result<(), Fault>
+        ensures lines { OnOk result (string_bytes text.new
+            ≡ string_bytes text.old ++ answer_lines self.now) }
+        ensures refused { IfErr result (λ e. e ≡ Resources) }
+    {
         self.put_text(text)?;
         text.push_str("\n")?;
         if let Answer::Lines(_, lines) = self {

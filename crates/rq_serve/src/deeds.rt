@@ -1,6 +1,9 @@
 //! What is done for each request.
 
+ghost use Rattle.std.specs.Prelude.{◌≡◌, true, IsErr};
 ghost use Rattle.rq_live.specs.Managers.{IsInOrder, stand_of};
+ghost use Rattle.rq_serve.specs.Serving.{DoomsIfRefused, KeepsBut};
+ghost use Rattle.rq_serve.specs.Units.{is_doomed, KeepsDoomed, KeepsOthers};
 
 use crate::answers::Answer;
 use crate::doomed::Doomed;
@@ -26,15 +29,23 @@ fn expect_queue<D: Device + Drop>(m: &Manager<D>, queue: &Name) -> Result<QueueN
     }
 }
 
+// The name of a queue that is there.
+fn name_of<D: Device + Drop>(m: &Manager<D>, queue: QueueNo) -> Result<Name, Undone> {
+    match m.definitions()?.get(queue.0 as usize) {
+        Some(d) => Ok(d.name),
+        None => Err(Undone::Spent),
+    }
+}
+
 // A queue that is defined already: its number, if it is defined just so.
 fn defined_so<D: Device + Drop>(
     m: &Manager<D>,
     number: QueueNo,
-    limit: u64,
-    error: QueueNo,
+    limit: u16,
+    error: Option<QueueNo>,
 ) -> Result<Answer, Undone> {
     match m.definitions()?.get(number.0 as usize) {
-        Some(d) if u64::from(d.limit) == limit && d.error == error => Ok(Answer::Queue(number)),
+        Some(d) if d.limit == limit && Some(d.error) == error => Ok(Answer::Queue(number)),
         _ => Err(Undone::Refused(Refused::Defined)),
     }
 }
@@ -44,33 +55,33 @@ fn define_new<D: Device + Drop>(
     alloc: Global,
     m: &mut Manager<D>,
     queue: Name,
-    limit: u64,
-    error: QueueNo,
+    limit: u16,
+    error: Option<QueueNo>,
 ) -> Result<Answer, Undone>
     requires { IsInOrder (stand_of D.written D.synced D.doubted D.failed m.old) }
     ensures { IsInOrder (stand_of D.written D.synced D.doubted D.failed m.new) }
 {
-    let Ok(limit) = u16::try_from(limit) else {
-        return Err(Undone::Refused(Refused::Limit));
+    let Some(error) = error else {
+        return Err(Undone::Refused(Refused::NoQueue));
     };
-    let count = m.definitions()?.len();
+    let number = QueueNo(m.definitions()?.len() as u32);
     m.define(alloc, limit, error, queue)?;
-    Ok(Answer::Queue(QueueNo(count as u32)))
+    Ok(Answer::Queue(number))
 }
 
 fn define<D: Device + Drop>(
     alloc: Global,
     m: &mut Manager<D>,
     queue: Name,
-    limit: u64,
+    limit: u16,
     error: Option<Name>,
 ) -> Result<Answer, Undone>
     requires { IsInOrder (stand_of D.written D.synced D.doubted D.failed m.old) }
     ensures { IsInOrder (stand_of D.written D.synced D.doubted D.failed m.new) }
 {
     let error = match error {
-        Some(name) => expect_queue(m, &name)?,
-        None => QueueNo::NONE,
+        Some(name) => number_of(m, &name)?,
+        None => Some(QueueNo::NONE),
     };
     match number_of(m, &queue)? {
         Some(number) => defined_so(m, number, limit, error),
@@ -183,7 +194,7 @@ fn dequeue<D: Device + Drop>(
 {
     let queue = expect_queue(m, queue)?;
     match m.dequeue_free(alloc, unit, queue, by)? {
-        Some(element) => Ok(Answer::Taken(element)),
+        Some(e) => Ok(Answer::Taken(name_of(m, e.origin)?, e)),
         None => Ok(Answer::Nothing),
     }
 }
@@ -194,7 +205,11 @@ fn dooming<D: Device + Drop>(
     doomed: &mut Doomed,
     unit: UnitNo,
     done: Result<Answer, Undone>,
-) -> Result<Answer, Undone> {
+) -> Result<Answer, Undone>
+    ensures dooms { DoomsIfRefused (stand_of D.written D.synced D.doubted D.failed m.now)
+        unit.0 result doomed.new }
+    ensures keeps { KeepsDoomed doomed.old doomed.new }
+{
     if matches!(done, Err(Undone::Refused(_))) && m.is_open(unit)? {
         doomed.add(unit)?;
     }
@@ -210,10 +225,16 @@ fn commit<D: Device + Drop>(
     is_later: bool,
 ) -> Result<Answer, Undone>
     requires { IsInOrder (stand_of D.written D.synced D.doubted D.failed m.old) }
-    ensures { IsInOrder (stand_of D.written D.synced D.doubted D.failed m.new) }
+    ensures order { IsInOrder (stand_of D.written D.synced D.doubted D.failed m.new) }
+    ensures doomed { is_doomed doomed.now unit.0 ≡ true
+        → (m.new ≡ m.old) × IsErr result }
 {
-    if doomed.has(unit) && m.is_open(unit)? {
-        return Err(Undone::Refused(Refused::Doomed));
+    if doomed.has(unit) {
+        return Err(Undone::Refused(if m.is_open(unit)? {
+            Refused::Doomed
+        } else {
+            Refused::NoUnit
+        }));
     }
     m.commit_later(alloc, unit)?;
     Ok(if is_later {
@@ -230,7 +251,8 @@ fn abort<D: Device + Drop>(
     unit: UnitNo,
 ) -> Result<Answer, Undone>
     requires { IsInOrder (stand_of D.written D.synced D.doubted D.failed m.old) }
-    ensures { IsInOrder (stand_of D.written D.synced D.doubted D.failed m.new) }
+    ensures keeps { KeepsOthers doomed.old doomed.new unit.0 }
+    ensures order { IsInOrder (stand_of D.written D.synced D.doubted D.failed m.new) }
 {
     m.abort(alloc, unit)?;
     doomed.forget(unit);
@@ -302,7 +324,8 @@ pub(crate) fn done<D: Device + Drop>(
     request: Request,
 ) -> Result<Answer, Undone>
     requires { IsInOrder (stand_of D.written D.synced D.doubted D.failed m.old) }
-    ensures { IsInOrder (stand_of D.written D.synced D.doubted D.failed m.new) }
+    ensures keeps { KeepsBut request doomed.old doomed.new }
+    ensures order { IsInOrder (stand_of D.written D.synced D.doubted D.failed m.new) }
 {
     match request {
         Request::Enqueue {

@@ -1,5 +1,10 @@
 //! What is told of queues.
 
+ghost use Rattle.std.specs.Prelude.{◌≡◌, ◌++◌, OnOk, map, string_bytes};
+ghost use Rattle.std.specs.List.{flat_map};
+ghost use Rattle.rq_model.specs.Reports.{element_line, registrant_line};
+ghost use Rattle.rq_serve.specs.Answers.{queue_line};
+
 use crate::answers::{Answer, put_element_line, put_optional};
 use crate::refusals::Undone;
 use rq_device::Device;
@@ -16,7 +21,9 @@ fn put_queue_line(
     queue: usize,
     d: &Definition,
     depths: Depths,
-) -> Result<(), AllocError> {
+) -> Result<(), AllocError>
+    ensures { OnOk result (string_bytes text.new ≡ string_bytes text.old ++ queue_line queue d.now depths) }
+{
     let (limit, free, fresh, held) = (d.limit, depths.free, depths.fresh, depths.held);
     write!(text, "queue {queue} ")?;
     text.push_str(d.name.text())?;
@@ -42,7 +49,9 @@ pub(crate) fn queues_told<D: Device + Drop>(
 }
 
 // Puts a registrant as a report has it.
-fn put_registrant_line(text: &mut String, r: &KeptRegistrant) -> Result<(), AllocError> {
+fn put_registrant_line(text: &mut String, r: &KeptRegistrant) -> Result<(), AllocError>
+    ensures { OnOk result (string_bytes text.new ≡ string_bytes text.old ++ registrant_line r.now) }
+{
     text.push_str("r ")?;
     text.push_str(r.name().text())?;
     let Some(last) = r.last() else {
@@ -54,14 +63,18 @@ fn put_registrant_line(text: &mut String, r: &KeptRegistrant) -> Result<(), Allo
     text.push_str("\n")
 }
 
-fn put_elements(text: &mut String, elements: &[&KeptElement]) -> Result<(), AllocError> {
+fn put_elements(text: &mut String, elements: &[&KeptElement]) -> Result<(), AllocError>
+    ensures { OnOk result (string_bytes text.new ≡ string_bytes text.old ++ flat_map element_line (map (λ e. e.now) elements.now)) }
+{
     for e in elements {
         put_element_line(text, e)?;
     }
     Ok(())
 }
 
-fn put_registrants(text: &mut String, registrants: &[KeptRegistrant]) -> Result<(), AllocError> {
+fn put_registrants(text: &mut String, registrants: &[KeptRegistrant]) -> Result<(), AllocError>
+    ensures { OnOk result (string_bytes text.new ≡ string_bytes text.old ++ flat_map registrant_line registrants.now) }
+{
     for r in registrants {
         put_registrant_line(text, r)?;
     }

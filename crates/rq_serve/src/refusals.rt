@@ -1,5 +1,8 @@
 //! Why a request is refused.
 
+ghost use Rattle.std.specs.Prelude.{◌≡◌};
+ghost use Rattle.rq_serve.specs.Answers.{refused_text, refused_word};
+
 use rq_lawful::Rule;
 use rq_live::NotDone;
 use rq_record::Fault;
@@ -61,7 +64,9 @@ impl Refused {
     }
 
     /// The word of the protocol.
-    pub fn word(self) -> &'static str {
+    pub fn word(self) -> &'static str
+        ensures { result.now ≡ refused_word self }
+    {
         match self {
             Refused::NoQueue => "no-queue",
             Refused::NoUnit => "no-unit",
@@ -78,14 +83,16 @@ impl Refused {
     }
 
     /// What it means, for people.
-    pub fn text(self) -> &'static str {
+    pub fn text(self) -> &'static str
+        ensures { result.now ≡ refused_text self }
+    {
         match self {
             Refused::NoQueue => "no queue has this name",
             Refused::NoUnit => "the unit is not open",
             Refused::NoRegistrant => "nobody is registered with this queue by the name",
             Refused::Unit => "the unit is not greater than every one before",
             Refused::Defined => "the queue is defined with another limit or error queue",
-            Refused::Limit => "a limit is 0 without an error queue, or 1 to 1000 with one",
+            Refused::Limit => "this limit does not go with this error queue",
             Refused::Queues => "4096 queues are defined",
             Refused::Version => "the log has version 1",
             Refused::Doomed => "a line was refused in the unit: abort it",

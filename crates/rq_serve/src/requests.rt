@@ -1,7 +1,12 @@
 //! What a client asks for, and the lines that spell it.
 
+ghost use Rattle.std.specs.Prelude.{◌≡◌};
+ghost use Rattle.rq_writer.specs.Reading.{Gives};
+ghost use Rattle.rq_serve.specs.Requests as spec;
+ghost use Rattle.rq_serve.specs.Serving.{asks_safety};
+
 use crate::words::{
-    by, name_word, number, number_word, optional_name, payload, somebody, split_once, word,
+    by, name, name_word, number, number_word, optional_name, payload, split_once, word,
 };
 use rq_record::{By, ElemId, Fault, Name, Payload, UnitNo};
 use std::alloc::Global;
@@ -16,7 +21,7 @@ pub enum Request {
     /// the queue that it goes to then.
     Define {
         queue: Name,
-        limit: u64,
+        limit: u16,
         error: Option<Name>,
     },
     /// Somebody is to be registered with a queue.
@@ -82,26 +87,40 @@ pub enum Request {
 }
 
 // A queue and somebody.
-fn registration(text: &[u8]) -> Result<(Name, Name), Fault> {
+#[tactic(auto, unfolding(crate::specs::Requests::registration_words))]
+fn registration(text: &[u8]) -> Result<(Name, Name), Fault>
+    ensures { Gives (λ x. x) result (spec.registration_words text.now) }
+{
     let (queue, who) = name_word(text)?;
-    Ok((queue, somebody(who)?))
+    let who = name(who)?;
+    Ok((queue, who))
 }
 
-fn define(text: &[u8]) -> Result<Request, Fault> {
+#[tactic(auto, unfolding(crate::specs::Requests::define_words))]
+fn define(text: &[u8]) -> Result<Request, Fault>
+    ensures { Gives (λ x. x) result (spec.define_words text.now) }
+{
     let (queue, rest) = name_word(text)?;
-    let (limit, error) = number_word(u64::MAX, rest)?;
+    let (limit, error) = number_word(65_535, rest)?;
+    let error = optional_name(error)?;
     Ok(Request::Define {
         queue,
-        limit,
-        error: optional_name(error)?,
+        limit: limit as u16,
+        error,
     })
 }
 
-fn unit(text: &[u8]) -> Result<UnitNo, Fault> {
-    Ok(UnitNo(number(u64::MAX, text)?))
+fn unit(text: &[u8]) -> Result<UnitNo, Fault>
+    ensures { Gives (λ x. x) result (spec.unit_of text.now) }
+{
+    let number = number(u64::MAX, text)?;
+    Ok(UnitNo(number))
 }
 
-fn enqueue(alloc: Global, text: &[u8]) -> Result<Request, Fault> {
+#[tactic(auto, unfolding(crate::specs::Requests::enqueue_words))]
+fn enqueue(alloc: Global, text: &[u8]) -> Result<Request, Fault>
+    ensures { Gives (λ x. x) result (spec.enqueue_words text.now) }
+{
     let (unit, rest) = number_word(u64::MAX, text)?;
     let (queue, rest) = name_word(rest)?;
     let (priority, rest) = number_word(255, rest)?;
@@ -118,50 +137,59 @@ fn enqueue(alloc: Global, text: &[u8]) -> Result<Request, Fault> {
     })
 }
 
-fn dequeue(text: &[u8]) -> Result<Request, Fault> {
+#[tactic(auto, unfolding(crate::specs::Requests::dequeue_words))]
+fn dequeue(text: &[u8]) -> Result<Request, Fault>
+    ensures { Gives (λ x. x) result (spec.dequeue_words text.now) }
+{
     let (unit, rest) = number_word(u64::MAX, text)?;
     let (queue, rest) = name_word(rest)?;
     let (who, tag) = word(rest)?;
     let tag = number(u64::MAX, tag)?;
+    let by = by(who, tag)?;
     Ok(Request::Dequeue {
         unit: UnitNo(unit),
         queue,
-        by: by(who, tag)?,
+        by,
     })
 }
 
-fn commit(text: &[u8]) -> Result<Request, Fault> {
-    match split_once(b' ', text) {
-        None => Ok(Request::Commit {
-            unit: unit(text)?,
-            is_later: false,
-        }),
-        Some((text, later)) if later == b"later".as_slice() => Ok(Request::Commit {
-            unit: unit(text)?,
-            is_later: true,
-        }),
-        Some(_) => Err(Fault::Form),
-    }
+fn commit(text: &[u8]) -> Result<Request, Fault>
+    ensures { Gives (λ x. x) result (spec.commit_words text.now) }
+{
+    let (text, is_later) = match split_once(b' ', text) {
+        None => (text, false),
+        Some((text, later)) if later == b"later".as_slice() => (text, true),
+        Some(_) => return Err(Fault::Form),
+    };
+    let unit = unit(text)?;
+    Ok(Request::Commit { unit, is_later })
 }
 
-fn kill(text: &[u8]) -> Result<Request, Fault> {
+#[tactic(auto, unfolding(crate::specs::Requests::kill_words))]
+fn kill(text: &[u8]) -> Result<Request, Fault>
+    ensures { Gives (λ x. x) result (spec.kill_words text.now) }
+{
     let (queue, element) = name_word(text)?;
+    let element = number(u64::MAX, element)?;
     Ok(Request::Kill {
         queue,
-        element: ElemId(number(u64::MAX, element)?),
+        element: ElemId(element),
     })
 }
 
-fn listing(text: &[u8]) -> Result<Request, Fault> {
+#[tactic(auto, unfolding(crate::specs::Requests::listing_words))]
+fn listing(text: &[u8]) -> Result<Request, Fault>
+    ensures { Gives (λ x. x) result (spec.listing_words text.now) }
+{
     let (queue, count) = name_word(text)?;
-    Ok(Request::Queue {
-        queue,
-        count: number(u64::MAX, count)?,
-    })
+    let count = number(u64::MAX, count)?;
+    Ok(Request::Queue { queue, count })
 }
 
 // The request of a line of one word.
-fn of_word(text: &[u8]) -> Result<Request, Fault> {
+fn of_word(text: &[u8]) -> Result<Request, Fault>
+    ensures { Gives (λ x. x) result (spec.word_request text.now) }
+{
     if text == b"begin".as_slice() {
         Ok(Request::Begin { unit: None })
     } else if text == b"settle".as_slice() {
@@ -178,7 +206,10 @@ fn of_word(text: &[u8]) -> Result<Request, Fault> {
 }
 
 // The request of a first word about a registrant, and of what comes after it.
-fn of_registrant(word: &[u8], rest: &[u8]) -> Result<Request, Fault> {
+#[tactic(auto, unfolding(crate::specs::Requests::registrant_request))]
+fn of_registrant(word: &[u8], rest: &[u8]) -> Result<Request, Fault>
+    ensures { Gives (λ x. x) result (spec.registrant_request word.now rest.now) }
+{
     let (queue, who) = registration(rest)?;
     if word == b"register".as_slice() {
         Ok(Request::Register { queue, who })
@@ -192,7 +223,10 @@ fn of_registrant(word: &[u8], rest: &[u8]) -> Result<Request, Fault> {
 }
 
 // The request of a first word, and of what comes after it.
-fn of_words(alloc: Global, word: &[u8], rest: &[u8]) -> Result<Request, Fault> {
+#[tactic(auto, unfolding(crate::specs::Requests::words_request))]
+fn of_words(alloc: Global, word: &[u8], rest: &[u8]) -> Result<Request, Fault>
+    ensures { Gives (λ x. x) result (spec.words_request word.now rest.now) }
+{
     if word == b"enqueue".as_slice() {
         enqueue(alloc, rest)
     } else if word == b"dequeue".as_slice() {
@@ -203,7 +237,8 @@ fn of_words(alloc: Global, word: &[u8], rest: &[u8]) -> Result<Request, Fault> {
         let unit = unit(rest)?;
         Ok(Request::Begin { unit: Some(unit) })
     } else if word == b"abort".as_slice() {
-        Ok(Request::Abort { unit: unit(rest)? })
+        let unit = unit(rest)?;
+        Ok(Request::Abort { unit })
     } else if word == b"kill".as_slice() {
         kill(rest)
     } else if word == b"define".as_slice() {
@@ -217,7 +252,9 @@ fn of_words(alloc: Global, word: &[u8], rest: &[u8]) -> Result<Request, Fault> {
 
 impl Request {
     /// The request that a line spells. `Form` if it spells none, `Resources` if memory is refused.
-    pub fn of(alloc: Global, line: &[u8]) -> Result<Request, Fault> {
+    pub fn of(alloc: Global, line: &[u8]) -> Result<Request, Fault>
+        ensures { Gives (λ x. x) result (spec.request_of line.now) }
+    {
         if line.len() > LONGEST {
             return Err(Fault::Form);
         }
@@ -227,8 +264,10 @@ impl Request {
         }
     }
 
-    /// Whether all is safe when it is answered.
-    pub fn is_safe(&self) -> bool {
+    /// Whether all before it is safe when it is answered, if it is not refused.
+    pub fn asks_safety(&self) -> bool
+        ensures { result ≡ asks_safety self.now }
+    {
         match self {
             Request::Define { .. } | Request::Register { .. } | Request::Deregister { .. } => true,
             Request::Commit { is_later, .. } => !*is_later,

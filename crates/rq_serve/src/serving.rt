@@ -1,7 +1,9 @@
 //! A manager serves a program at two pipes.
 
-ghost use Rattle.std.specs.Prelude.{◌<◌};
-ghost use Rattle.rq_live.specs.Managers.{IsInOrder, stand_of};
+ghost use Rattle.std.specs.Prelude.{◌≡◌, ◌<◌, [], Err, OnOk, IfOk, true, false, string_bytes};
+ghost use Rattle.std.specs.Io.KnownBytes.{Appends};
+ghost use Rattle.rq_live.specs.Managers.{IsInOrder, Settles, stand_of};
+ghost use Rattle.rq_serve.specs.Serving.{EndsLine};
 
 use crate::requests::LONGEST;
 use crate::session::{Session, Spent};
@@ -44,7 +46,16 @@ where
     O: Output,
     requires order { IsInOrder (stand_of D.written D.synced D.doubted D.failed m.old) }
     requires faults { O.faults output.old < 18446744073709551615 }
-    ensures { IsInOrder (stand_of D.written D.synced D.doubted D.failed m.new) }
+    ensures order { IsInOrder (stand_of D.written D.synced D.doubted D.failed m.new) }
+    ensures told { OnOk result (Appends (O.contents output.old) (O.contents output.new)
+        (string_bytes session.old.answers)) }
+    ensures safe { OnOk result (session.old.asks_sync ≡ true
+        → Settles (stand_of D.written D.synced D.doubted D.failed m.old)
+        (stand_of D.written D.synced D.doubted D.failed m.new)) }
+    ensures spent { result ≡ Err Unserved.Spent → output.new ≡ output.old }
+    ensures none { OnOk result ((string_bytes session.new.answers ≡ [])
+        × (session.new.asks_sync ≡ false)) }
+    ensures works { OnOk result (O.faults output.new ≡ O.faults output.old) }
 {
     let ready = if session.asks_sync {
         m.settle()
@@ -75,7 +86,9 @@ where
     O: Output,
     requires order { IsInOrder (stand_of D.written D.synced D.doubted D.failed m.old) }
     requires faults { O.faults output.old < 18446744073709551615 }
-    ensures { IsInOrder (stand_of D.written D.synced D.doubted D.failed m.new) }
+    ensures order { IsInOrder (stand_of D.written D.synced D.doubted D.failed m.new) }
+    ensures lines { IfOk result (EndsLine bytes.now) }
+    ensures works { OnOk result (O.faults output.new ≡ O.faults output.old) }
 {
     let mut rest = bytes;
     while let Some((line, after)) = split_once(b'\n', rest) {

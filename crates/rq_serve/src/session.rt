@@ -1,6 +1,10 @@
 //! The lines of a client, and their answers.
 
+ghost use Rattle.std.specs.Prelude.{◌≡◌, ◌++◌, ◌||◌, OnOk, Some, None, string_bytes};
 ghost use Rattle.rq_live.specs.Managers.{IsInOrder, stand_of};
+ghost use Rattle.rq_serve.specs.Answers.{answer_lines};
+ghost use Rattle.rq_serve.specs.Requests.{request_of};
+ghost use Rattle.rq_serve.specs.Serving.{Adds};
 
 use crate::answers::Answer;
 use crate::deeds::done;
@@ -24,7 +28,8 @@ pub(crate) struct Session {
     pub(crate) is_closed: bool,
 }
 
-// The service cannot go on.
+/// The service cannot go on: memory was refused, or the log failed.
+#[derive(Clone, Copy)]
 pub(crate) struct Spent;
 
 impl Session {
@@ -38,8 +43,12 @@ impl Session {
         }
     }
 
-    // Adds an answer to a request, which is safe when it is told, or not.
-    fn add(&mut self, answer: &Answer, is_safe: bool) -> Result<(), Spent> {
+    // Adds an answer, which says that all before it is safe, or does not.
+    fn add(&mut self, answer: &Answer, is_safe: bool) -> Result<(), Spent>
+        ensures lines { OnOk result (string_bytes self.new.answers
+            ≡ string_bytes self.old.answers ++ answer_lines answer.now) }
+        ensures safe { OnOk result (self.new.asks_sync ≡ (self.old.asks_sync || is_safe)) }
+    {
         match answer.put(&mut self.answers) {
             Ok(()) => {
                 self.asks_sync = self.asks_sync || is_safe;
@@ -50,7 +59,9 @@ impl Session {
     }
 
     // A line that is no request dooms all units that are open.
-    fn doom_all<D: Device + Drop>(&mut self, m: &Manager<D>) -> Result<(), Spent> {
+    fn doom_all<D: Device + Drop>(&mut self, m: &Manager<D>) -> Result<(), Spent>
+        ensures { OnOk result (Adds None self.old self.new) }
+    {
         match m.greatest() {
             Ok(greatest) => {
                 self.doomed.add_all(greatest);
@@ -68,15 +79,17 @@ impl Session {
         request: Request,
     ) -> Result<(), Spent>
         requires { IsInOrder (stand_of D.written D.synced D.doubted D.failed m.old) }
-        ensures { IsInOrder (stand_of D.written D.synced D.doubted D.failed m.new) }
+        ensures order { IsInOrder (stand_of D.written D.synced D.doubted D.failed m.new) }
+        ensures adds { OnOk result (Adds (Some request) self.old self.new) }
     {
-        let is_safe = request.is_safe();
+        let asks = request.asks_safety();
         self.is_closed = matches!(request, Request::Close);
-        match done(alloc, m, &mut self.doomed, request) {
-            Ok(answer) => self.add(&answer, is_safe),
-            Err(Undone::Refused(refused)) => self.add(&Answer::Refused(refused), false),
-            Err(Undone::Spent) => Err(Spent),
-        }
+        let answer = match done(alloc, m, &mut self.doomed, request) {
+            Ok(answer) => answer,
+            Err(Undone::Refused(refused)) => Answer::Refused(refused),
+            Err(Undone::Spent) => return Err(Spent),
+        };
+        self.add(&answer, asks && !answer.is_refused())
     }
 
     /// Does what a line asks for, and adds its answer.
@@ -87,7 +100,8 @@ impl Session {
         line: &[u8],
     ) -> Result<(), Spent>
         requires { IsInOrder (stand_of D.written D.synced D.doubted D.failed m.old) }
-        ensures { IsInOrder (stand_of D.written D.synced D.doubted D.failed m.new) }
+        ensures order { IsInOrder (stand_of D.written D.synced D.doubted D.failed m.new) }
+        ensures adds { OnOk result (Adds (request_of line.now) self.old self.new) }
     {
         match Request::of(alloc, line) {
             Ok(request) => self.answer(alloc, m, request),
