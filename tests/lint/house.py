@@ -104,6 +104,8 @@ ONE_THING = {
     "key": ("rq_queue rq_state", "what a member is in order by"),
     "marked_by": ("rq_queue rq_standing", "what a unit put in or took of a queue"),
     "note": ("rq_queue rq_state", "the note of an operation"),
+    "into_file": ("rq_file rq_log_file", "the open file of a value, which is let go"),
+    "open_count": ("rq_live rq_standing", "how many units are open"),
     "open_units": ("rq_catalog rq_found rq_live rq_standing", "the units that are open"),
     "place": ("rq_queue rq_state", "the record's number in the log"),
     "queue": ("rq_found rq_queue rq_state", "the queue that a value is of"),

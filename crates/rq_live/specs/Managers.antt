@@ -182,10 +182,6 @@ StopsMark a b (Unlawful rule) = (version : Version) (rs : List Record) → IsMan
 StopsMark a b why = (version : Version) (rs : List Record) → IsManaged version rs a
     → IsManaged version rs b × IsWhyNotTaken version rs (checkpoint_in (run empty rs)) why
 
--- wherever a stood, b stands behind all of these records
-abbrev pub DoesEach : Stand → Stand → List Record → Type 0
-DoesEach a b xs = (version : Version) (rs : List Record) → IsManaged version rs a → IsManaged version (rs ++ xs) b
-
 -- wherever a stood, b stands behind the ABORTs of the units that were open there
 abbrev pub AbortsAll : Stand → Stand → Type 0
 AbortsAll a b = (version : Version) (rs : List Record) → IsManaged version rs a

@@ -62,7 +62,10 @@ impl<D: Device + Drop> Manager<D> {
         ensures keeps { KeepsSafe (stand_of D.written D.synced D.doubted D.failed self.old)
             (stand_of D.written D.synced D.doubted D.failed self.new) }
     {
-        if self.spent || self.kernel.machine.first(queue).is_some() {
+        if self.spent {
+            return Err(NotDone::Spent);
+        }
+        if self.kernel.machine.first(queue).is_some() {
             return self.dequeue(alloc, unit, queue, by);
         }
         self.expect_lawful(alloc, &Record::Dequeue { unit, queue, by })?;

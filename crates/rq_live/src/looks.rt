@@ -1,6 +1,6 @@
 //! What a manager shows of its queues.
 
-ghost use Rattle.std.specs.Prelude.{◌≡◌, ◌<◌, Err, true, IfOk, IfErr, length};
+ghost use Rattle.std.specs.Prelude.{◌≡◌, [], Err, true, IfOk, IfErr};
 ghost use Rattle.rq_record.specs.declared.fault.Fault.TheVariants.{Resources};
 ghost use Rattle.rq_live.specs.Managers.{stand_of, IsGreatest, IsCount, IsOpenThere, IsDepth};
 ghost use Rattle.rq_live.specs.Managers.{AreRegistered};
@@ -23,16 +23,35 @@ pub struct Depths {
     pub held: usize,
 }
 
-// How many of the elements a unit put in.
-fn fresh_among(marked: &[KeptElement]) -> usize {
-    marked
-        .iter()
-        .filter(|e| matches!(e.mark, Mark::Fresh(_)))
-        .count()
+impl Depths {
+    // So many elements are free, and no others are there.
+    fn of(free: usize) -> Depths
+        ensures { result.free ≡ free }
+    {
+        Depths {
+            free,
+            fresh: 0,
+            held: 0,
+        }
+    }
+
+    // Counts what a unit put in or took.
+    fn add(&mut self, marked: &[KeptElement])
+        ensures { self.new.free ≡ self.old.free }
+    {
+        let fresh = marked
+            .iter()
+            .filter(|e| matches!(e.mark, Mark::Fresh(_)))
+            .count();
+        self.fresh = self.fresh.saturating_add(fresh);
+        self.held = self.held.saturating_add(marked.len().saturating_sub(fresh));
+    }
 }
 
 // Fields in which nothing is.
-fn no_fields(alloc: Global) -> KeptFields {
+fn no_fields(alloc: Global) -> KeptFields
+    ensures { result.registrants.items ≡ [] }
+{
     KeptFields {
         next: 0,
         greatest: 0,
@@ -91,19 +110,6 @@ impl<D: Device + Drop> Manager<D> {
             .is_none())
     }
 
-    // How many elements of a queue that is there open units put in.
-    fn fresh_in(&self, alloc: Global, queue: QueueNo) -> Result<usize, Fault>
-        requires { queue.0 < length self.now.kernel.machine.definitions }
-        ensures { IfErr result (λ e. e ≡ Resources) }
-    {
-        let mut fresh: usize = 0;
-        for unit in &self.kernel.machine.open_units(alloc)? {
-            let marked = self.kernel.machine.marked_by(queue, *unit);
-            fresh = fresh.saturating_add(fresh_among(marked));
-        }
-        Ok(fresh)
-    }
-
     /// How many elements of a queue are free, fresh and held; a queue that is not there has none.
     /// Refused with `Resources`, also if it is spent.
     pub fn depths(&self, alloc: Global, queue: QueueNo) -> Result<Depths, Fault>
@@ -111,22 +117,16 @@ impl<D: Device + Drop> Manager<D> {
             (stand_of D.written D.synced D.doubted D.failed self.now) queue.0 d.free) }
         ensures refused { IfErr result (λ e. e ≡ Resources) }
     {
+        rq_model::runs_are_well_formed();
         if self.spent {
             return Err(Fault::Resources);
         }
-        let mut depths = Depths {
-            free: 0,
-            fresh: 0,
-            held: 0,
-        };
         if queue.0 as usize >= self.kernel.machine.definitions().len() {
-            return Ok(depths);
+            return Ok(Depths::of(0));
         }
-        depths.free = self.kernel.machine.depth(queue);
-        let marked = self.kernel.machine.part(queue).marked_count();
-        if marked > 0 {
-            depths.fresh = self.fresh_in(alloc, queue)?;
-            depths.held = marked.saturating_sub(depths.fresh);
+        let mut depths = Depths::of(self.kernel.machine.depth(queue));
+        for unit in &self.kernel.machine.open_units(alloc)? {
+            depths.add(self.kernel.machine.marked_by(queue, *unit));
         }
         Ok(depths)
     }
@@ -138,13 +138,15 @@ impl<D: Device + Drop> Manager<D> {
             (stand_of D.written D.synced D.doubted D.failed self.now) queue.0 v.items) }
         ensures refused { IfErr result (λ e. e ≡ Resources) }
     {
+        rq_model::runs_are_well_formed();
         if self.spent {
             return Err(Fault::Resources);
         }
-        let mut fields = no_fields(alloc);
-        if (queue.0 as usize) < self.kernel.machine.definitions().len() {
-            self.kernel.machine.part(queue).pour_copies(&mut fields)?;
+        if queue.0 as usize >= self.kernel.machine.definitions().len() {
+            return Ok(Vec::new(alloc));
         }
+        let mut fields = no_fields(alloc);
+        self.kernel.machine.part(queue).pour_copies(&mut fields)?;
         Ok(fields.registrants)
     }
 }

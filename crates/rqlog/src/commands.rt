@@ -2,7 +2,7 @@
 
 use crate::checkpoints::{carried_on, closed_carried, mark};
 use crate::damage::{LastBytes, LeftOut, expect_end};
-use crate::files::{HeldLog, Hold, put_whole};
+use crate::files::{put_whole, write_frames};
 use crate::inputs::{LentLog, ReadLog, begun_log, log_from, opened, rest_of_log};
 use crate::new_log::{expect_free, put_new};
 use crate::refusal::{Refusal, Stream, failed, untold};
@@ -10,6 +10,7 @@ use clap::ArgMatches;
 use rq_file::{Names, Patient, Replaces};
 use rq_front::header_of;
 use rq_journal::{CARRIED_AT, Fault, Plan, Truth, audit_carried};
+use rq_log_file::{HeldLog, Hold};
 use rq_record::{LogBytes, Version};
 use rq_restart::Ending;
 use rq_state::State;
@@ -65,7 +66,7 @@ where
     };
     let (closes, drops) = (words.get_flag("close"), words.get_flag("drop"));
     let (log, offset) = mark(rt, rt.alloc(), &lent, plan, closes, drops)?;
-    held.append(rt, &log)?;
+    write_frames(rt, &mut held, &log)?;
     log.tell_left_out(rt);
     let json = words.get_flag("json");
     tell_marked(rt, json, offset as u64, log.len() as u64).map_err(|error| untold(error))

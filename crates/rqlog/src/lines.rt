@@ -1,12 +1,13 @@
 //! A script is appended to a log: from its lines to the frames of their records.
 
-use crate::files::{HeldLog, Hold};
+use crate::files::write_frames;
 use crate::fronts::{OpenLog, front_in};
 use crate::refusal::{Refusal, Stream, failed, untold};
 use crate::refused_lines::{LineRefused, Reason};
 use clap::ArgMatches;
 use rq_file::{LIMIT, read_limited};
 use rq_journal::Plan;
+use rq_log_file::{HeldLog, Hold};
 use rq_record::{Fault, Record};
 use rq_writer::{ScriptLine, line_at};
 use std::alloc::Global;
@@ -130,7 +131,7 @@ where
         }
     };
     if keeps || refused.is_none() {
-        held.append(rt, log)?;
+        write_frames(rt, held, log)?;
         log.tell_left_out(rt);
         let json = words.get_flag("json");
         tell_appended(rt, json, count, log).map_err(|error| untold(error))?;

@@ -6,6 +6,7 @@ use clap::ArgMatches;
 use clap::error::ErrorKind;
 use rq_found::Seen;
 use rq_journal::Fault;
+use rq_log_file::NotHeld;
 use std::alloc::AllocError;
 use std::io;
 
@@ -86,6 +87,16 @@ impl From<clap::Error> for Refusal {
             return Refusal::Memory;
         }
         Refusal::Words(error)
+    }
+}
+
+impl From<NotHeld> for Refusal {
+    fn from(not: NotHeld) -> Refusal {
+        match not {
+            NotHeld::Locked => Refusal::Held,
+            NotHeld::Changed => Refusal::Changed,
+            NotHeld::Failed(error) => failed(Stream::Log, error),
+        }
     }
 }
 

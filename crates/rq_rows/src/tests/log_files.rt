@@ -10,7 +10,8 @@ use rq_restart::{Plan, closed};
 use std::alloc::Global;
 use std::cell::Cell;
 use std::fs::{Metadata, OpenFile};
-use std::io::{self, Cursor, ErrorKind, Read, Seek, SeekFrom, Write};
+use std::io::{self, Cursor, ErrorKind, Seek, SeekFrom, Write};
+use std::sync::ArcSlice;
 use std::test::Fail;
 use std::thread::Threads;
 
@@ -63,13 +64,6 @@ impl HeldFile {
     }
 }
 
-impl Read for HeldFile {
-    fn read(&mut self, buf: &mut [u8]) -> io::Result<usize> {
-        self.trim();
-        self.bytes.read(buf)
-    }
-}
-
 impl Write for HeldFile {
     fn write(&mut self, buf: &[u8]) -> io::Result<usize> {
         self.call()?;
@@ -111,7 +105,7 @@ impl OpenFile for HeldFile {
 // What a file has once one of its calls failed while five units were to be committed, whether it
 // was cut back then, and how many units were committed.
 fn left_by_failure(alloc: Global, failing: u64) -> Result<(Vec<u8>, bool, usize), Fail> {
-    let file = LogFile::new(HeldFile::of(Vec::new(alloc), failing), 0);
+    let file = LogFile::new(HeldFile::of(Vec::new(alloc), failing), None);
     let mut m = Manager::new(alloc, Version::One, file)?;
     let committed = committed_of(alloc, &mut m);
     let file = m.device();
@@ -136,11 +130,12 @@ fn a_file_is_cut_back_to_what_was_synced(rt: HostRuntime) -> Result<(), Fail> {
     Ok(())
 }
 
-// Whether a manager goes on from what a crash left in a file, and the file has what a closed log
-// has.
-fn goes_on_in_a_file<R: Threads + Sync + AllocGlobal>(
+// Whether a manager goes on from what was read of a file that a crash left, and the file, which has
+// these bytes by then, has what a closed log has.
+fn goes_on_over<R: Threads + Sync + AllocGlobal>(
     rt: &R,
     left: &[u8],
+    stands: Vec<u8>,
     plan: &Plan,
 ) -> Result<bool, Fail> {
     let want = closed(rt, rt.alloc(), Vec::from_slice(rt.alloc(), left)?, plan)?;
@@ -148,13 +143,23 @@ fn goes_on_in_a_file<R: Threads + Sync + AllocGlobal>(
         return Ok(false);
     };
     let found = found_in(opened);
-    let held = HeldFile::of(Vec::from_slice(rt.alloc(), left)?, u64::MAX);
-    let mut m = Manager::over(LogFile::new(held, left.len()), found.kernel);
+    let read = ArcSlice::from_slice(rt.alloc(), left)?;
+    let file = LogFile::new(HeldFile::of(stands, u64::MAX), Some(read));
+    let mut m = Manager::over(file, found.kernel);
     let resumed = m.resume(rt.alloc(), left.len());
     Ok(resumed.is_ok() && m.device().file().all() == want.as_slice())
 }
 
-// A log whose payload is written again in several pieces.
+// The same where the file has what was read of it.
+fn goes_on_in_a_file<R: Threads + Sync + AllocGlobal>(
+    rt: &R,
+    left: &[u8],
+    plan: &Plan,
+) -> Result<bool, Fail> {
+    goes_on_over(rt, left, Vec::from_slice(rt.alloc(), left)?, plan)
+}
+
+// A log with long payloads.
 fn large_log<R: Threads + Sync + AllocGlobal>(rt: &R) -> Result<Vec<u8>, Fail> {
     let mut script = Vec::from_slice(rt.alloc(), ONE_ELEMENT)?;
     script.extend_from_slice(b"begin 2\n")?;
@@ -177,5 +182,16 @@ fn a_manager_goes_on_in_a_file(rt: HostRuntime) -> Result<(), Fail> {
     torn.extend_from_slice(&[165; 70])?;
     assert!(rt; goes_on_in_a_file(&rt, &torn, &plan)?);
     assert!(rt; goes_on_in_a_file(&rt, &large_log(&rt)?, &plan)?);
+    Ok(())
+}
+
+// What a failed sync left in the system's memory alone is read once more as it is on the disk: so
+// what was read first is written again.
+#[test]
+fn what_was_read_is_written_again(rt: HostRuntime) -> Result<(), Fail> {
+    let plan = Plan::new(1, 1000).ok_or("plan")?;
+    let log = large_log(&rt)?;
+    let lost = vec![in rt.alloc(); 0u8; log.len()]?;
+    assert!(rt; goes_on_over(&rt, &log, lost, &plan)?);
     Ok(())
 }
