@@ -8,6 +8,7 @@ mod live;
 mod log_files;
 mod program;
 mod scarce;
+mod serving;
 mod standby;
 mod streams;
 mod surface;
