@@ -89,18 +89,18 @@ Dequeues a b unit queue by e = (version : Version) (rs : List Record) → IsMana
     × (e ≡ best queue (run empty rs).elements)
 
 -- wherever a stood, b stands
-abbrev pub Stays : Stand → Stand → Type 0
-Stays a b = (version : Version) (rs : List Record) → IsManaged version rs a → IsManaged version rs b
+abbrev pub StandsStill : Stand → Stand → Type 0
+StandsStill a b = (version : Version) (rs : List Record) → IsManaged version rs a → IsManaged version rs b
 
 -- wherever a stood, the record is lawful, and b stands there
-abbrev pub StaysLawful : Stand → Stand → Record → Type 0
-StaysLawful a b r = (version : Version) (rs : List Record) → IsManaged version rs a
+abbrev pub StandsLawful : Stand → Stand → Record → Type 0
+StandsLawful a b r = (version : Version) (rs : List Record) → IsManaged version rs a
     → IsManaged version rs b × (is_lawful version (run empty rs) r ≡ true)
 
 -- the best free element is taken; or the DEQUEUE is lawful, no element is free, and nothing is done
 abbrev pub DequeuesIfFree : Stand → Stand → ℕ → ℕ → Option By → Option Element → Type 0
 DequeuesIfFree a b unit queue by (Some e) = Dequeues a b unit queue by (Some e)
-DequeuesIfFree a b unit queue by None = StaysLawful a b (Dequeue unit queue by)
+DequeuesIfFree a b unit queue by None = StandsLawful a b (Dequeue unit queue by)
     × ((version : Version) (rs : List Record) → IsManaged version rs a → best queue (run empty rs).elements ≡ None)
 
 -- the queue has this element there, and it is free
@@ -111,7 +111,7 @@ is_free_in s queue element = list_any (λ e. is_free_at queue e && (e.id == elem
 abbrev pub KillsIfFree : Stand → Stand → ℕ → ℕ → Bool → Type 0
 KillsIfFree a b queue element true = Does a b (Kill queue element)
     × ((version : Version) (rs : List Record) → IsManaged version rs a → is_free_in (run empty rs) queue element ≡ true)
-KillsIfFree a b queue element false = StaysLawful a b (Kill queue element)
+KillsIfFree a b queue element false = StandsLawful a b (Kill queue element)
     × ((version : Version) (rs : List Record) → IsManaged version rs a → is_free_in (run empty rs) queue element ≡ false)
 
 -- why the record is not taken: b is spent, or it stands where a stood

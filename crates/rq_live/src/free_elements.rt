@@ -4,7 +4,7 @@ ghost use Rattle.std.specs.Prelude.{◌≡◌, Err, true, OnOk, IfOk, IfErr};
 ghost use Rattle.rq_model.specs.Records as model;
 ghost use Rattle.rq_record.specs.Views.{record_of};
 ghost use Rattle.rq_live.specs.Managers.{IsInOrder, stand_of, DequeuesIfFree, KillsIfFree};
-ghost use Rattle.rq_live.specs.Managers.{ManagerStops, KeepsSafe, StaysLawful};
+ghost use Rattle.rq_live.specs.Managers.{ManagerStops, KeepsSafe, StandsLawful};
 
 use crate::kernel::NotDone;
 use crate::manager::Manager;
@@ -18,7 +18,7 @@ impl<D: Device + Drop> Manager<D> {
     fn expect_lawful(&mut self, alloc: Global, next: &Record) -> Result<(), NotDone>
         requires { IsInOrder (stand_of D.written D.synced D.doubted D.failed self.old) }
         ensures order { IsInOrder (stand_of D.written D.synced D.doubted D.failed self.new) }
-        ensures lawful { OnOk result (StaysLawful
+        ensures lawful { OnOk result (StandsLawful
             (stand_of D.written D.synced D.doubted D.failed self.old)
             (stand_of D.written D.synced D.doubted D.failed self.new) (record_of next.now)) }
         ensures refused { IfErr result (ManagerStops

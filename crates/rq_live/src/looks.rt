@@ -80,8 +80,8 @@ impl<D: Device + Drop> Manager<D> {
     }
 
     /// How many records its log has, those that are pending too.
-    pub fn records(&self) -> Result<u64, NotDone>
-        ensures records { IfOk result (IsCount
+    pub fn record_count(&self) -> Result<u64, NotDone>
+        ensures count { IfOk result (IsCount
             (stand_of D.written D.synced D.doubted D.failed self.now)) }
         ensures spent { self.now.spent ≡ true → result ≡ Err NotDone.Spent }
         ensures refused { IfErr result (λ why. (why ≡ NotDone.Spent) × (self.now.spent ≡ true)) }
@@ -133,8 +133,8 @@ impl<D: Device + Drop> Manager<D> {
 
     /// Who is registered with a queue, by name; copies. A queue that is not there has none. It costs
     /// a look at each element of the queue. Refused with `Resources`, also if it is spent.
-    pub fn registrants(&self, alloc: Global, queue: QueueNo) -> Result<Vec<KeptRegistrant>, Fault>
-        ensures registrants { IfOk result (λ v. AreRegistered
+    pub fn registered(&self, alloc: Global, queue: QueueNo) -> Result<Vec<KeptRegistrant>, Fault>
+        ensures registered { IfOk result (λ v. AreRegistered
             (stand_of D.written D.synced D.doubted D.failed self.now) queue.0 v.items) }
         ensures refused { IfErr result (λ e. e ≡ Resources) }
     {

@@ -7,7 +7,7 @@ ghost use Rattle.rq_record.specs.declared.fault.Fault.TheVariants.{Resources};
 ghost use Rattle.rq_state.specs.Views.{unit_of};
 ghost use Rattle.rq_device.specs.Devices.{AreStored, IsAllSynced};
 ghost use Rattle.rq_live.specs.Managers.{IsManaged, IsInOrder, KeepsWindow, stand_of, DoesTaking};
-ghost use Rattle.rq_live.specs.Managers.{ManagerStops, Stays};
+ghost use Rattle.rq_live.specs.Managers.{ManagerStops, StandsStill};
 ghost use Rattle.rq_live.specs.Managers.{Settles, KeepsSafe, IsLength, IsLastOf, AreOpen};
 ghost use Rattle.rq_live.specs.Managers.{AreDefined, AreFirstFree};
 
@@ -200,7 +200,7 @@ impl<D: Device + Drop> Manager<D> {
         ensures order { IsInOrder (stand_of D.written D.synced D.doubted D.failed self.new) }
         ensures spent { self.old.spent ≡ true
             → (self.new ≡ self.old) × (result ≡ Err NotDone.Spent) }
-        ensures stays { OnOk result (Stays
+        ensures stays { OnOk result (StandsStill
             (stand_of D.written D.synced D.doubted D.failed self.old)
             (stand_of D.written D.synced D.doubted D.failed self.new)) }
         ensures keeps { KeepsSafe (stand_of D.written D.synced D.doubted D.failed self.old)

@@ -73,7 +73,7 @@ abbrev pub answer_lines : Answer → List ℕ
 answer_lines answer = answer_text answer ++ codes "\n" ++ more_lines answer
 
 -- the line of a queue, as a report has it, and behind it how many elements the queue has
-abbrev pub queue_line : ℕ → Definition → Depths → List ℕ
-queue_line number d depths = codes "queue " ++ decimal number ++ codes " " ++ d.name ++ codes " limit "
+abbrev pub counted_line : ℕ → Definition → Depths → List ℕ
+counted_line number d depths = codes "queue " ++ decimal number ++ codes " " ++ d.name ++ codes " limit "
     ++ decimal d.limit ++ codes " error " ++ error_text d.error ++ codes " free " ++ decimal depths.free
     ++ codes " fresh " ++ decimal depths.fresh ++ codes " held " ++ decimal depths.held ++ codes "\n"

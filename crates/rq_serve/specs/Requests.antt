@@ -39,11 +39,11 @@ abbrev pub optional_name : List ℕ → Option (Option (List ℕ))
 optional_name text = if bytes_eq text (codes "-") then Some None
     else (name_of text >>= λ name. Some (Some name))
 
-abbrev pub unit_of : List ℕ → Option UnitNo
-unit_of text = number_of 18446744073709551615 text >>= λ n. Some (record { 0 = n })
+abbrev pub unit_word : List ℕ → Option UnitNo
+unit_word text = number_of 18446744073709551615 text >>= λ n. Some (record { 0 = n })
 
-abbrev pub element_of : List ℕ → Option ElemId
-element_of text = number_of 18446744073709551615 text >>= λ n. Some (record { 0 = n })
+abbrev pub element_word : List ℕ → Option ElemId
+element_word text = number_of 18446744073709551615 text >>= λ n. Some (record { 0 = n })
 
 -- `define QUEUE LIMIT ERROR`
 unfoldable pub define_words : List ℕ → Option Request
@@ -84,9 +84,9 @@ dequeue_words text = do
 
 -- the unit of `commit UNIT` and of `commit UNIT later`
 abbrev pub commit_cut : List ℕ → Option (List ℕ × List ℕ) → Option Request
-commit_cut text None = unit_of text >>= λ unit. Some (requests.Commit unit false)
+commit_cut text None = unit_word text >>= λ unit. Some (requests.Commit unit false)
 commit_cut text (Some x) = if bytes_eq x.1 (codes "later")
-    then (unit_of x.0 >>= λ unit. Some (requests.Commit unit true)) else None
+    then (unit_word x.0 >>= λ unit. Some (requests.Commit unit true)) else None
 
 abbrev pub commit_words : List ℕ → Option Request
 commit_words text = commit_cut text (cut_at 32 text)
@@ -95,7 +95,7 @@ commit_words text = commit_cut text (cut_at 32 text)
 unfoldable pub kill_words : List ℕ → Option Request
 kill_words text = do
   queue ← name_field text
-  element ← element_of queue.1
+  element ← element_word queue.1
   Some (requests.Kill queue.0 element)
 
 -- `queue QUEUE COUNT`
@@ -130,8 +130,8 @@ words_request word rest =
     if bytes_eq word (codes "enqueue") then enqueue_words rest
     else if bytes_eq word (codes "dequeue") then dequeue_words rest
     else if bytes_eq word (codes "commit") then commit_words rest
-    else if bytes_eq word (codes "begin") then (unit_of rest >>= λ unit. Some (requests.Begin (Some unit)))
-    else if bytes_eq word (codes "abort") then (unit_of rest >>= λ unit. Some (requests.Abort unit))
+    else if bytes_eq word (codes "begin") then (unit_word rest >>= λ unit. Some (requests.Begin (Some unit)))
+    else if bytes_eq word (codes "abort") then (unit_word rest >>= λ unit. Some (requests.Abort unit))
     else if bytes_eq word (codes "kill") then kill_words rest
     else if bytes_eq word (codes "define") then define_words rest
     else if bytes_eq word (codes "queue") then listing_words rest

@@ -41,7 +41,7 @@ says_safe (Some request) answer = asks_safety request && not (is_refused answer)
 
 -- an answer to what was asked is added to those that are to be told; if it says that all before it is
 -- safe, that is known
-pub record Adds (asked : Option Request) (a b : Session) : Type 0 where
+pub record AddsAnswer (asked : Option Request) (a b : Session) : Type 0 where
   pub answer : Answer
   pub lines : string_bytes b.answers ≡ string_bytes a.answers ++ answer_lines answer
   pub safe : b.asks_sync ≡ (a.asks_sync || says_safe asked answer)

@@ -60,7 +60,7 @@ fn put_payload(text: &mut String, bytes: &[u8]) -> Result<(), AllocError>
 
 /// Puts an element as a report has it: `e`, its id, the queue that it was put in, its priority and
 /// attempts, and its payload.
-pub(crate) fn put_element_line(text: &mut String, e: &KeptElement) -> Result<(), AllocError>
+pub(crate) fn put_free_element(text: &mut String, e: &KeptElement) -> Result<(), AllocError>
     ensures { OnOk result (string_bytes text.new ≡ string_bytes text.old ++ element_line e.now) }
 {
     let (id, origin, priority, attempts) = (e.id.0, e.origin.0, e.priority, e.attempts);
@@ -84,7 +84,7 @@ fn put_taken(text: &mut String, from: &Name, e: &KeptElement) -> Result<(), Allo
 }
 
 /// Puts the id of an element, or `-` if there is none.
-pub(crate) fn put_optional(text: &mut String, element: Option<ElemId>) -> Result<(), AllocError>
+pub(crate) fn put_element_id(text: &mut String, element: Option<ElemId>) -> Result<(), AllocError>
     ensures { OnOk result (string_bytes text.new ≡ string_bytes text.old ++ element_text (id_of element)) }
 {
     match element {
@@ -101,7 +101,7 @@ fn put_last(text: &mut String, last: &Last) -> Result<(), AllocError>
 {
     let (kind, tag) = (kind_word(last.kind), last.tag);
     write!(text, "last {kind} {tag} ")?;
-    put_optional(text, last.element)
+    put_element_id(text, last.element)
 }
 
 fn put_refused(text: &mut String, refused: Refused) -> Result<(), AllocError>
@@ -111,7 +111,7 @@ fn put_refused(text: &mut String, refused: Refused) -> Result<(), AllocError>
     text.push_str("refused ")?;
     text.push_str(refused.word())?;
     text.push_str(": ")?;
-    text.push_str(refused.text())
+    text.push_str(refused.meaning())
 }
 
 impl Answer {
@@ -144,7 +144,7 @@ impl Answer {
         }
     }
 
-    /// Adds its lines to the text. Refused with `Resources`: a beginning of them may stand there.
+    /// AddsAnswer its lines to the text. Refused with `Resources`: a beginning of them may stand there.
     pub fn put(&self, text: &mut String) -> Result<(), Fault>
         ensures lines { OnOk result (string_bytes text.new
             ≡ string_bytes text.old ++ answer_lines self.now) }

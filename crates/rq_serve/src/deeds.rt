@@ -229,7 +229,7 @@ fn commit<D: Device + Drop>(
     ensures doomed { is_doomed doomed.now unit.0 ≡ true
         → (m.new ≡ m.old) × IsErr result }
 {
-    if doomed.has(unit) {
+    if doomed.has_unit(unit) {
         return Err(Undone::Refused(if m.is_open(unit)? {
             Refused::Doomed
         } else {
@@ -255,7 +255,7 @@ fn abort<D: Device + Drop>(
     ensures order { IsInOrder (stand_of D.written D.synced D.doubted D.failed m.new) }
 {
     m.abort(alloc, unit)?;
-    doomed.forget(unit);
+    doomed.let_go(unit);
     Ok(Answer::Done)
 }
 

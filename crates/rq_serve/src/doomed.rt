@@ -25,7 +25,7 @@ impl Doomed {
     }
 
     /// Whether the unit is one of them.
-    pub(crate) fn has(&self, unit: UnitNo) -> bool
+    pub(crate) fn has_unit(&self, unit: UnitNo) -> bool
         ensures { result ≡ is_doomed self.now unit.0 }
     {
         unit.0 <= self.through.0 || self.others.contains(&unit.0)
@@ -54,7 +54,7 @@ impl Doomed {
     }
 
     /// Forgets a unit that ended.
-    pub(crate) fn forget(&mut self, unit: UnitNo)
+    pub(crate) fn let_go(&mut self, unit: UnitNo)
         ensures { KeepsOthers self.old self.new unit.0 }
     {
         self.others.remove(&unit.0);

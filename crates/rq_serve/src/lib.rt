@@ -8,11 +8,11 @@ mod doomed;
 mod listings;
 mod refusals;
 mod requests;
-mod serving;
+mod service;
 mod session;
 mod words;
 
 pub use answers::Answer;
 pub use refusals::Refused;
 pub use requests::{LONGEST, Request};
-pub use serving::{Unserved, serve};
+pub use service::{Unserved, serve};

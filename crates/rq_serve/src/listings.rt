@@ -3,9 +3,9 @@
 ghost use Rattle.std.specs.Prelude.{◌≡◌, ◌++◌, OnOk, map, string_bytes};
 ghost use Rattle.std.specs.List.{flat_map};
 ghost use Rattle.rq_model.specs.Reports.{element_line, registrant_line};
-ghost use Rattle.rq_serve.specs.Answers.{queue_line};
+ghost use Rattle.rq_serve.specs.Answers.{counted_line};
 
-use crate::answers::{Answer, put_element_line, put_optional};
+use crate::answers::{Answer, put_free_element, put_element_id};
 use crate::refusals::Undone;
 use rq_device::Device;
 use rq_live::{Depths, Manager};
@@ -22,7 +22,7 @@ fn put_queue_line(
     d: &Definition,
     depths: Depths,
 ) -> Result<(), AllocError>
-    ensures { OnOk result (string_bytes text.new ≡ string_bytes text.old ++ queue_line queue d.now depths) }
+    ensures { OnOk result (string_bytes text.new ≡ string_bytes text.old ++ counted_line queue d.now depths) }
 {
     let (limit, free, fresh, held) = (d.limit, depths.free, depths.fresh, depths.held);
     write!(text, "queue {queue} ")?;
@@ -59,7 +59,7 @@ fn put_registrant_line(text: &mut String, r: &KeptRegistrant) -> Result<(), Allo
     };
     let (kind, tag) = (kind_word(last.kind), last.tag);
     write!(text, " {kind} tag {tag} element ")?;
-    put_optional(text, last.element)?;
+    put_element_id(text, last.element)?;
     text.push_str("\n")
 }
 
@@ -67,7 +67,7 @@ fn put_elements(text: &mut String, elements: &[&KeptElement]) -> Result<(), Allo
     ensures { OnOk result (string_bytes text.new ≡ string_bytes text.old ++ flat_map element_line (map (λ e. e.now) elements.now)) }
 {
     for e in elements {
-        put_element_line(text, e)?;
+        put_free_element(text, e)?;
     }
     Ok(())
 }
@@ -91,7 +91,7 @@ pub(crate) fn listed<D: Device + Drop>(
     let mut text = String::new(alloc);
     let elements = m.first_elements(alloc, queue, count)?;
     put_elements(&mut text, &elements)?;
-    let registrants = m.registrants(alloc, queue)?;
+    let registrants = m.registered(alloc, queue)?;
     put_registrants(&mut text, &registrants)?;
     let lines = elements.len().saturating_add(registrants.len());
     Ok(Answer::Lines(lines, text))

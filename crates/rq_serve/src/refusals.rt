@@ -83,7 +83,7 @@ impl Refused {
     }
 
     /// What it means, for people.
-    pub fn text(self) -> &'static str
+    pub fn meaning(self) -> &'static str
         ensures { result.now ≡ refused_text self }
     {
         match self {

@@ -6,7 +6,8 @@ ghost use Rattle.rq_serve.specs.Requests as spec;
 ghost use Rattle.rq_serve.specs.Serving.{asks_safety};
 
 use crate::words::{
-    by, name, name_word, number, number_word, optional_name, payload, split_once, word,
+    cut_once, name_word, number_word, optional_name, read_by, read_name, read_number, read_payload,
+    word,
 };
 use rq_record::{By, ElemId, Fault, Name, Payload, UnitNo};
 use std::alloc::Global;
@@ -92,7 +93,7 @@ fn registration(text: &[u8]) -> Result<(Name, Name), Fault>
     ensures { Gives (λ x. x) result (spec.registration_words text.now) }
 {
     let (queue, who) = name_word(text)?;
-    let who = name(who)?;
+    let who = read_name(who)?;
     Ok((queue, who))
 }
 
@@ -111,9 +112,9 @@ fn define(text: &[u8]) -> Result<Request, Fault>
 }
 
 fn unit(text: &[u8]) -> Result<UnitNo, Fault>
-    ensures { Gives (λ x. x) result (spec.unit_of text.now) }
+    ensures { Gives (λ x. x) result (spec.unit_word text.now) }
 {
-    let number = number(u64::MAX, text)?;
+    let number = read_number(u64::MAX, text)?;
     Ok(UnitNo(number))
 }
 
@@ -126,8 +127,8 @@ fn enqueue(alloc: Global, text: &[u8]) -> Result<Request, Fault>
     let (priority, rest) = number_word(255, rest)?;
     let (who, rest) = word(rest)?;
     let (tag, rest) = number_word(u64::MAX, rest)?;
-    let by = by(who, tag)?;
-    let payload = payload(alloc, rest)?;
+    let by = read_by(who, tag)?;
+    let payload = read_payload(alloc, rest)?;
     Ok(Request::Enqueue {
         unit: UnitNo(unit),
         queue,
@@ -144,8 +145,8 @@ fn dequeue(text: &[u8]) -> Result<Request, Fault>
     let (unit, rest) = number_word(u64::MAX, text)?;
     let (queue, rest) = name_word(rest)?;
     let (who, tag) = word(rest)?;
-    let tag = number(u64::MAX, tag)?;
-    let by = by(who, tag)?;
+    let tag = read_number(u64::MAX, tag)?;
+    let by = read_by(who, tag)?;
     Ok(Request::Dequeue {
         unit: UnitNo(unit),
         queue,
@@ -156,7 +157,7 @@ fn dequeue(text: &[u8]) -> Result<Request, Fault>
 fn commit(text: &[u8]) -> Result<Request, Fault>
     ensures { Gives (λ x. x) result (spec.commit_words text.now) }
 {
-    let (text, is_later) = match split_once(b' ', text) {
+    let (text, is_later) = match cut_once(b' ', text) {
         None => (text, false),
         Some((text, later)) if later == b"later".as_slice() => (text, true),
         Some(_) => return Err(Fault::Form),
@@ -170,7 +171,7 @@ fn kill(text: &[u8]) -> Result<Request, Fault>
     ensures { Gives (λ x. x) result (spec.kill_words text.now) }
 {
     let (queue, element) = name_word(text)?;
-    let element = number(u64::MAX, element)?;
+    let element = read_number(u64::MAX, element)?;
     Ok(Request::Kill {
         queue,
         element: ElemId(element),
@@ -182,7 +183,7 @@ fn listing(text: &[u8]) -> Result<Request, Fault>
     ensures { Gives (λ x. x) result (spec.listing_words text.now) }
 {
     let (queue, count) = name_word(text)?;
-    let count = number(u64::MAX, count)?;
+    let count = read_number(u64::MAX, count)?;
     Ok(Request::Queue { queue, count })
 }
 
@@ -258,7 +259,7 @@ impl Request {
         if line.len() > LONGEST {
             return Err(Fault::Form);
         }
-        match split_once(b' ', line) {
+        match cut_once(b' ', line) {
             Some((word, rest)) => of_words(alloc, word, rest),
             None => of_word(line),
         }

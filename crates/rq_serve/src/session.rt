@@ -4,7 +4,7 @@ ghost use Rattle.std.specs.Prelude.{◌≡◌, ◌++◌, ◌||◌, OnOk, Some, N
 ghost use Rattle.rq_live.specs.Managers.{IsInOrder, stand_of};
 ghost use Rattle.rq_serve.specs.Answers.{answer_lines};
 ghost use Rattle.rq_serve.specs.Requests.{request_of};
-ghost use Rattle.rq_serve.specs.Serving.{Adds};
+ghost use Rattle.rq_serve.specs.Serving.{AddsAnswer};
 
 use crate::answers::Answer;
 use crate::deeds::done;
@@ -43,7 +43,7 @@ impl Session {
         }
     }
 
-    // Adds an answer, which says that all before it is safe, or does not.
+    // AddsAnswer an answer, which says that all before it is safe, or does not.
     fn add(&mut self, answer: &Answer, is_safe: bool) -> Result<(), Spent>
         ensures lines { OnOk result (string_bytes self.new.answers
             ≡ string_bytes self.old.answers ++ answer_lines answer.now) }
@@ -60,7 +60,7 @@ impl Session {
 
     // A line that is no request dooms all units that are open.
     fn doom_all<D: Device + Drop>(&mut self, m: &Manager<D>) -> Result<(), Spent>
-        ensures { OnOk result (Adds None self.old self.new) }
+        ensures { OnOk result (AddsAnswer None self.old self.new) }
     {
         match m.greatest() {
             Ok(greatest) => {
@@ -80,7 +80,7 @@ impl Session {
     ) -> Result<(), Spent>
         requires { IsInOrder (stand_of D.written D.synced D.doubted D.failed m.old) }
         ensures order { IsInOrder (stand_of D.written D.synced D.doubted D.failed m.new) }
-        ensures adds { OnOk result (Adds (Some request) self.old self.new) }
+        ensures adds { OnOk result (AddsAnswer (Some request) self.old self.new) }
     {
         let asks = request.asks_safety();
         self.is_closed = matches!(request, Request::Close);
@@ -101,7 +101,7 @@ impl Session {
     ) -> Result<(), Spent>
         requires { IsInOrder (stand_of D.written D.synced D.doubted D.failed m.old) }
         ensures order { IsInOrder (stand_of D.written D.synced D.doubted D.failed m.new) }
-        ensures adds { OnOk result (Adds (request_of line.now) self.old self.new) }
+        ensures adds { OnOk result (AddsAnswer (request_of line.now) self.old self.new) }
     {
         match Request::of(alloc, line) {
             Ok(request) => self.answer(alloc, m, request),

@@ -14,7 +14,7 @@ use rq_writer::decimal_number;
 use std::alloc::Global;
 
 /// What comes before the first such byte, and what after it.
-pub(crate) fn split_once(byte: u8, bytes: &[u8]) -> Option<(&[u8], &[u8])>
+pub(crate) fn cut_once(byte: u8, bytes: &[u8]) -> Option<(&[u8], &[u8])>
     ensures { option_map (λ x. (x.0.now, x.1.now)) result ≡ cut_at byte bytes.now }
 {
     let mut at = 0;
@@ -31,14 +31,14 @@ pub(crate) fn split_once(byte: u8, bytes: &[u8]) -> Option<(&[u8], &[u8])>
 pub(crate) fn word(text: &[u8]) -> Result<(&[u8], &[u8]), Fault>
     ensures { Gives (λ x. (x.0.now, x.1.now)) result (field_at text.now) }
 {
-    match split_once(b' ', text) {
+    match cut_once(b' ', text) {
         Some((word, rest)) => Ok((word, rest)),
         None => Err(Fault::Form),
     }
 }
 
 /// The number of a text, at most `most`.
-pub(crate) fn number(most: u64, text: &[u8]) -> Result<u64, Fault>
+pub(crate) fn read_number(most: u64, text: &[u8]) -> Result<u64, Fault>
     ensures number { Gives (λ x. x) result (number_of most text.now) }
     ensures most { IfOk result (λ n. n ≤ most) }
 {
@@ -55,12 +55,12 @@ pub(crate) fn number_word(most: u64, text: &[u8]) -> Result<(u64, &[u8]), Fault>
     ensures most { IfOk result (λ x. x.0 ≤ most) }
 {
     let (word, rest) = word(text)?;
-    let number = number(most, word)?;
+    let number = read_number(most, word)?;
     Ok((number, rest))
 }
 
 /// The name that a text is.
-pub(crate) fn name(text: &[u8]) -> Result<Name, Fault>
+pub(crate) fn read_name(text: &[u8]) -> Result<Name, Fault>
     ensures { Gives (λ x. x) result (name_of text.now) }
 {
     match Name::new(text) {
@@ -75,7 +75,7 @@ pub(crate) fn name_word(text: &[u8]) -> Result<(Name, &[u8]), Fault>
     ensures { Gives (λ x. (x.0, x.1.now)) result (spec.name_field text.now) }
 {
     let (word, rest) = word(text)?;
-    let name = name(word)?;
+    let name = read_name(word)?;
     Ok((name, rest))
 }
 
@@ -86,12 +86,12 @@ pub(crate) fn optional_name(text: &[u8]) -> Result<Option<Name>, Fault>
     if text == b"-".as_slice() {
         return Ok(None);
     }
-    let name = name(text)?;
+    let name = read_name(text)?;
     Ok(Some(name))
 }
 
 /// Who an operation is by: a registrant with a tag, or nobody, with tag 0.
-pub(crate) fn by(who: &[u8], tag: u64) -> Result<Option<By>, Fault>
+pub(crate) fn read_by(who: &[u8], tag: u64) -> Result<Option<By>, Fault>
     ensures { Gives (λ x. x) result (by_of who.now tag) }
 {
     if who == b"-".as_slice() {
@@ -101,7 +101,7 @@ pub(crate) fn by(who: &[u8], tag: u64) -> Result<Option<By>, Fault>
             Err(Fault::Form)
         };
     }
-    let name = name(who)?;
+    let name = read_name(who)?;
     Ok(Some(By { name, tag }))
 }
 
@@ -143,7 +143,7 @@ fn no_payload(alloc: Global) -> Result<Payload, Fault>
 }
 
 /// The payload that a text is in hexadecimal; `-` is the empty one.
-pub(crate) fn payload(alloc: Global, text: &[u8]) -> Result<Payload, Fault>
+pub(crate) fn read_payload(alloc: Global, text: &[u8]) -> Result<Payload, Fault>
     ensures { Gives (λ x. x) result (spec.payload_of text.now) }
 {
     if text == b"-".as_slice() {

@@ -107,7 +107,7 @@ fn greet<R: Print>(
     manager: &Manager<LogFile<HeldLog>>,
     greeting: Greeting,
 ) -> Result<(), Refusal> {
-    let (Ok(unit), Ok(records)) = (manager.greatest(), manager.records()) else {
+    let (Ok(unit), Ok(records)) = (manager.greatest(), manager.record_count()) else {
         return Err(Refusal::Memory);
     };
     let (bytes, aborted, cut) = (manager.len(), greeting.aborted, greeting.cut);

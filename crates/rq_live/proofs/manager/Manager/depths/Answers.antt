@@ -3,7 +3,7 @@ use Rattle.std.specs.Prelude.{filter}
 use Rattle.rq_model.specs.States.{State}
 use Rattle.rq_model.specs.Machine.{is_free_at}
 use Rattle.rq_live.specs.Managers.{stand_of}
-use Rattle.rq_live.proofs.Looks.{no_depth}
+use Rattle.rq_live.proofs.Showing.{no_depth}
 use Rattle.rq_live.proofs.manager.Manager.depths.Goals as goal
 
 pub returns-then-queue-definitions-clause-free : goal.returns-then-queue-definitions-clause-free

@@ -1,7 +1,7 @@
 use Rattle.std.proofs.Common.{◌∙◌, ap}
 use Rattle.rq_model.specs.States.{State}
 use Rattle.rq_model.specs.Machine.{best}
-use Rattle.rq_live.proofs.Looks.{takes_one_so}
+use Rattle.rq_live.proofs.Showing.{takes_one_so}
 use Rattle.rq_live.proofs.manager.Manager.dequeue_free.Goals as goal
 
 pub returns-then-is_some-clause-took : goal.returns-then-is_some-clause-took

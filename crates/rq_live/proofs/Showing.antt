@@ -1,9 +1,10 @@
 -- What a manager shows of queues, and a DEQUEUE of a queue in which an element is free.
-use Rattle.std.proofs.Common.{◌≡◌, ℕ, Bool, true, false, List, [], ◌∷◌, ◌<◌, ◌≤◌, length, Option, Some, None, refl, sym}
+use Rattle.std.proofs.Common.{◌≡◌, ℕ, Bool, true, false, List, [], ◌∷◌, ◌++◌, ◌<◌, ◌≤◌, length, Option, Some, None, refl, sym}
 use Rattle.std.proofs.Common.{subst, ap, ◌∙◌, arith}
 use Rattle.std.specs.Prelude.{Result, Ok, Err, IfOk, is_some, filter, ◌==◌}
 use Rattle.std.specs.List.{AllByRecursion}
 use Rattle.std.specs.List.Sorted.{IsPermutation}
+use Rattle.std.proofs.lemmas.List.Sorted.{IsPermutation-refl}
 use Rattle.std.proofs.lemmas.Bool.{and_parts, eqb-true, false≢true}
 use Rattle.rq_model.specs.Records.{By, Record, Version}
 use Rattle.rq_model.specs.States.{State, Element, Registrant, empty, is_free}
@@ -57,12 +58,21 @@ no_depth start runs m queue beyond version rs managed =
         (beyond_there m queue version rs managed beyond)))
 
 pub none_registered : EmptyIsWellFormed → RunsAreWellFormed → (m : Stand) (queue : ℕ) (none : List Registrant)
-    → none ≡ [] → IsPermutation {X = Registrant} [] [] → length m.kernel.machine.definitions ≤ queue
+    → none ≡ [] → length m.kernel.machine.definitions ≤ queue
     → AreRegistered m queue none
-none_registered start runs m queue none is same beyond version rs managed =
+none_registered start runs m queue none is beyond version rs managed =
     rw (is, nobody (run empty rs) queue (run empty rs).registrants
         (well_there start runs m version rs managed).registrants
-        (beyond_there m queue version rs managed beyond)) same
+        (beyond_there m queue version rs managed beyond)) (IsPermutation-refl [])
+
+-- those of a part that were poured into a list in which nobody was
+pub all_registered : (m : Stand) (queue : ℕ) (members old new tail : List Registrant) → old ≡ [] → new ≡ old ++ tail
+    → IsPermutation members tail → members ≡ registrants_at queue m.kernel.machine.registrants
+    → AreRegistered m queue new
+all_registered m queue members old new tail none is same of_part version rs managed =
+    let there = of_part ∙ ap (λ (s : State). registrants_at queue s.registrants) managed.at.state in
+    subst (λ (xs : List Registrant). IsPermutation xs new) there
+    (subst (IsPermutation members) (sym (is ∙ ap (λ (xs : List Registrant). xs ++ tail) none)) same)
 
 -- if an element is free, one is taken
 pub takes_one : (a b : Stand) (unit queue : ℕ) (by : Option By) (first : Option Element) → is_some first ≡ true

@@ -7,7 +7,7 @@ ghost use Rattle.rq_serve.specs.Serving.{EndsLine};
 
 use crate::requests::LONGEST;
 use crate::session::{Session, Spent};
-use crate::words::split_once;
+use crate::words::cut_once;
 use rq_device::Device;
 use rq_live::Manager;
 use rq_report::{Input, Output, write_all};
@@ -91,7 +91,7 @@ where
     ensures works { OnOk result (O.faults output.new ≡ O.faults output.old) }
 {
     let mut rest = bytes;
-    while let Some((line, after)) = split_once(b'\n', rest) {
+    while let Some((line, after)) = cut_once(b'\n', rest) {
         session.take(alloc, m, line)?;
         rest = after;
         if session.answers.len() > ANSWERS {

@@ -1,7 +1,7 @@
 use Rattle.std.proofs.Common.{length, ◌-◌, ◌≡◌, ◌≤◌, take, drop}
 use Rattle.rq_writer.specs.Reading.{cut_at}
 use Rattle.rq_writer.proofs.Parts.{past}
-use Rattle.rq_serve.proofs.words.split_once.Given as goal
+use Rattle.rq_serve.proofs.words.cut_once.Given as goal
 
 abbrev pub invariant-loop-at : goal.invariant-loop-at
 invariant-loop-at l = (l.at ≤ length l.bytes)
