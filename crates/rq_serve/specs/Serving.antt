@@ -1,6 +1,6 @@
 -- What is answered, and when it is told.
-use Rattle.std.specs.Prelude.{◌≡◌, ◌⊎◌, ◌-◌, ◌||◌, ◌&&◌, ℕ, Bool, true, false, not, List, ◌++◌, Option, Some, None}
-use Rattle.std.specs.Prelude.{slice_get, string_bytes, Result, Ok, Err, ⊤}
+use Rattle.std.specs.Prelude.{◌≡◌, ◌⊎◌, ◌||◌, ◌&&◌, ℕ, Bool, true, false, not, List, ◌++◌, Option, Some, None}
+use Rattle.std.specs.Prelude.{[], ◌∷◌, length, string_bytes, Result, IsErr, ⊤}
 use Rattle.rq_live.specs.Managers.{Stand, IsManaged}
 use Rattle.rq_model.specs.Records.{Record, Version}
 use Rattle.rq_model.specs.States.{empty}
@@ -51,12 +51,27 @@ abbrev pub KeepsBut : Request → Doomed → Doomed → Type 0
 KeepsBut (requests.Abort unit) a b = KeepsOthers a b unit.0
 KeepsBut _ a b = KeepsDoomed a b
 
--- an operation of the unit that is refused dooms it, if it is open
-abbrev pub DoomsIfRefused : Stand → ℕ → Result Answer Undone → Doomed → Type 0
-DoomsIfRefused m unit (Err (undone.Refused refused)) doomed = (version : Version) (rs : List Record)
+-- an operation of the unit that is refused dooms it, if it is open there
+abbrev pub DoomsUnit : Stand → ℕ → Undone → Doomed → Type 0
+DoomsUnit m unit (undone.Refused refused) doomed = (version : Version) (rs : List Record)
     → IsManaged version rs m → is_open (run empty rs) unit ≡ true → is_doomed doomed unit ≡ true
-DoomsIfRefused m unit _ doomed = ⊤
+DoomsUnit m unit undone.Spent doomed = ⊤
 
--- so many bytes are whole lines, or none
+-- the same of the unit of the request, if that is such an operation
+abbrev pub DoomsIfRefused : Request → Stand → Undone → Doomed → Type 0
+DoomsIfRefused (requests.Enqueue unit queue priority by payload) m why doomed = DoomsUnit m unit.0 why doomed
+DoomsIfRefused (requests.Dequeue unit queue by) m why doomed = DoomsUnit m unit.0 why doomed
+DoomsIfRefused _ m why doomed = ⊤
+
+-- a doomed unit is not committed: nothing is done
+abbrev pub NeverCommits : {M : Type 0} → Request → Doomed → M → M → Result Answer Undone → Type 0
+NeverCommits (requests.Commit unit is_later) doomed a b result = is_doomed doomed unit.0 ≡ true → (b ≡ a) × IsErr result
+NeverCommits _ doomed a b result = ⊤
+
+-- whole lines: none, or they end with an LF
+abbrev pub AreLines : List ℕ → Type 0
+AreLines bytes = (bytes ≡ []) ⊎ ((before : List ℕ) × (bytes ≡ before ++ 10 ∷ []))
+
+-- the first so many bytes are whole lines
 abbrev pub EndsLine : List ℕ → ℕ → Type 0
-EndsLine bytes used = (used ≡ 0) ⊎ (slice_get bytes (used - 1) ≡ Some 10)
+EndsLine bytes used = (lines rest : List ℕ) × (bytes ≡ lines ++ rest) × (used ≡ length lines) × AreLines lines

@@ -1,13 +1,13 @@
 //! What is done for each request.
 
-ghost use Rattle.std.specs.Prelude.{◌≡◌, true, IsErr};
+ghost use Rattle.std.specs.Prelude.{◌≡◌, true, IsErr, IfErr};
 ghost use Rattle.rq_live.specs.Managers.{IsInOrder, stand_of};
-ghost use Rattle.rq_serve.specs.Serving.{DoomsIfRefused, KeepsBut};
+ghost use Rattle.rq_serve.specs.Serving.{DoomsIfRefused, DoomsUnit, KeepsBut, NeverCommits};
 ghost use Rattle.rq_serve.specs.Units.{is_doomed, KeepsDoomed, KeepsOthers};
 
 use crate::answers::Answer;
 use crate::doomed::Doomed;
-use crate::listings::{listed, queues_told};
+use crate::listings::{listed, queue_at, queues_told};
 use crate::refusals::{Refused, Undone};
 use crate::requests::Request;
 use rq_device::Device;
@@ -17,8 +17,10 @@ use std::alloc::Global;
 
 // The number of the queue of this name, if there is one.
 fn number_of<D: Device + Drop>(m: &Manager<D>, queue: &Name) -> Result<Option<QueueNo>, Undone> {
-    let place = m.definitions()?.iter().position(|d| d.name == *queue);
-    Ok(place.map(|number| QueueNo(number as u32)))
+    match m.definitions()?.iter().position(|d| d.name == *queue) {
+        Some(place) => Ok(Some(queue_at(place)?)),
+        None => Ok(None),
+    }
 }
 
 // The number of the queue of this name. Refused with `NoQueue`.
@@ -64,7 +66,7 @@ fn define_new<D: Device + Drop>(
     let Some(error) = error else {
         return Err(Undone::Refused(Refused::NoQueue));
     };
-    let number = QueueNo(m.definitions()?.len() as u32);
+    let number = queue_at(m.definitions()?.len())?;
     m.define(alloc, limit, error, queue)?;
     Ok(Answer::Queue(number))
 }
@@ -199,21 +201,25 @@ fn dequeue<D: Device + Drop>(
     }
 }
 
-// An operation of a unit that is refused dooms it, if it is open.
-fn dooming<D: Device + Drop>(
+// An operation of a unit that is refused dooms it, if it is open. Why it is not done then.
+fn doomed_by<D: Device + Drop>(
     m: &Manager<D>,
     doomed: &mut Doomed,
     unit: UnitNo,
-    done: Result<Answer, Undone>,
-) -> Result<Answer, Undone>
-    ensures dooms { DoomsIfRefused (stand_of D.written D.synced D.doubted D.failed m.now)
+    why: Undone,
+) -> Undone
+    ensures dooms { DoomsUnit (stand_of D.written D.synced D.doubted D.failed m.now)
         unit.0 result doomed.new }
     ensures keeps { KeepsDoomed doomed.old doomed.new }
 {
-    if matches!(done, Err(Undone::Refused(_))) && m.is_open(unit)? {
-        doomed.add(unit)?;
+    match (why, m.is_open(unit)) {
+        (Undone::Refused(_), Ok(false)) => why,
+        (Undone::Refused(_), Ok(true)) => match doomed.add(unit) {
+            Ok(()) => why,
+            Err(_) => Undone::Spent,
+        },
+        _ => Undone::Spent,
     }
-    done
 }
 
 // Commits a unit, unless it is doomed.
@@ -324,8 +330,11 @@ pub(crate) fn done<D: Device + Drop>(
     request: Request,
 ) -> Result<Answer, Undone>
     requires { IsInOrder (stand_of D.written D.synced D.doubted D.failed m.old) }
-    ensures keeps { KeepsBut request doomed.old doomed.new }
     ensures order { IsInOrder (stand_of D.written D.synced D.doubted D.failed m.new) }
+    ensures keeps { KeepsBut request doomed.old doomed.new }
+    ensures dooms { IfErr result (λ why. DoomsIfRefused request
+        (stand_of D.written D.synced D.doubted D.failed m.new) why doomed.new) }
+    ensures never { NeverCommits request doomed.old m.old m.new result }
 {
     match request {
         Request::Enqueue {
@@ -334,14 +343,14 @@ pub(crate) fn done<D: Device + Drop>(
             priority,
             by,
             payload,
-        } => {
-            let done = enqueue(alloc, m, unit, &queue, priority, by, payload);
-            dooming(m, doomed, unit, done)
-        }
-        Request::Dequeue { unit, queue, by } => {
-            let done = dequeue(alloc, m, unit, &queue, by);
-            dooming(m, doomed, unit, done)
-        }
+        } => match enqueue(alloc, m, unit, &queue, priority, by, payload) {
+            Ok(answer) => Ok(answer),
+            Err(why) => Err(doomed_by(m, doomed, unit, why)),
+        },
+        Request::Dequeue { unit, queue, by } => match dequeue(alloc, m, unit, &queue, by) {
+            Ok(answer) => Ok(answer),
+            Err(why) => Err(doomed_by(m, doomed, unit, why)),
+        },
         Request::Commit { unit, is_later } => commit(alloc, m, doomed, unit, is_later),
         Request::Abort { unit } => abort(alloc, m, doomed, unit),
         other => done_outside(alloc, m, other),

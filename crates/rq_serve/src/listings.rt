@@ -1,6 +1,6 @@
 //! What is told of queues.
 
-ghost use Rattle.std.specs.Prelude.{◌≡◌, ◌++◌, OnOk, map, string_bytes};
+ghost use Rattle.std.specs.Prelude.{◌≡◌, ◌++◌, OnOk, IfOk, map, string_bytes};
 ghost use Rattle.std.specs.List.{flat_map};
 ghost use Rattle.rq_model.specs.Reports.{element_line, registrant_line};
 ghost use Rattle.rq_serve.specs.Answers.{counted_line};
@@ -16,20 +16,30 @@ use std::alloc::{AllocError, Global};
 use std::fmt::Write;
 
 // Puts the line of a queue as a report has it, and behind it how many elements it has.
-fn put_queue_line(
+fn put_counted_line(
     text: &mut String,
-    queue: usize,
+    queue: QueueNo,
     d: &Definition,
     depths: Depths,
 ) -> Result<(), AllocError>
-    ensures { OnOk result (string_bytes text.new ≡ string_bytes text.old ++ counted_line queue d.now depths) }
+    ensures { OnOk result (string_bytes text.new ≡ string_bytes text.old ++ counted_line queue.0 d.now depths) }
 {
     let (limit, free, fresh, held) = (d.limit, depths.free, depths.fresh, depths.held);
-    write!(text, "queue {queue} ")?;
+    write!(text, "queue {} ", queue.0)?;
     text.push_str(d.name.text())?;
     write!(text, " limit {limit} error ")?;
     put_error(text, d.error)?;
     write!(text, " free {free} fresh {fresh} held {held}\n")
+}
+
+/// The queue that is defined at a place: no log has so many that its number ends.
+pub(crate) fn queue_at(place: usize) -> Result<QueueNo, Undone>
+    ensures { IfOk result (λ queue. queue.0 ≡ place) }
+{
+    match u32::try_from(place) {
+        Ok(number) => Ok(QueueNo(number)),
+        Err(_) => Err(Undone::Spent),
+    }
 }
 
 /// The queues, by number.
@@ -39,11 +49,10 @@ pub(crate) fn queues_told<D: Device + Drop>(
 ) -> Result<Answer, Undone> {
     let mut text = String::new(alloc);
     let definitions = m.definitions()?;
-    let mut queue = 0;
-    for d in definitions {
-        let depths = m.depths(alloc, QueueNo(queue as u32))?;
-        put_queue_line(&mut text, queue, d, depths)?;
-        queue += 1;
+    for (place, d) in definitions.iter().enumerate() {
+        let queue = queue_at(place)?;
+        let depths = m.depths(alloc, queue)?;
+        put_counted_line(&mut text, queue, d, depths)?;
     }
     Ok(Answer::Lines(definitions.len(), text))
 }

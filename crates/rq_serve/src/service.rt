@@ -1,6 +1,6 @@
 //! A manager serves a program at two pipes.
 
-ghost use Rattle.std.specs.Prelude.{◌≡◌, ◌<◌, [], Err, OnOk, IfOk, true, false, string_bytes};
+ghost use Rattle.std.specs.Prelude.{◌≡◌, ◌<◌, ◌≤◌, [], length, Err, OnOk, IfOk, true, false, string_bytes};
 ghost use Rattle.std.specs.Io.KnownBytes.{Appends};
 ghost use Rattle.rq_live.specs.Managers.{IsInOrder, Settles, stand_of};
 ghost use Rattle.rq_serve.specs.Serving.{EndsLine};
@@ -9,7 +9,7 @@ use crate::requests::LONGEST;
 use crate::session::{Session, Spent};
 use crate::words::cut_once;
 use rq_device::Device;
-use rq_live::Manager;
+use rq_live::{Manager, NotDone};
 use rq_report::{Input, Output, write_all};
 use std::alloc::Global;
 
@@ -39,6 +39,17 @@ impl From<Spent> for Unserved {
     }
 }
 
+// Makes all that was done safe, if that is asked for, or shows it.
+fn make_ready<D: Device + Drop>(m: &mut Manager<D>, asks_sync: bool) -> Result<(), NotDone>
+    requires { IsInOrder (stand_of D.written D.synced D.doubted D.failed m.old) }
+    ensures order { IsInOrder (stand_of D.written D.synced D.doubted D.failed m.new) }
+    ensures safe { OnOk result (asks_sync ≡ true
+        → Settles (stand_of D.written D.synced D.doubted D.failed m.old)
+        (stand_of D.written D.synced D.doubted D.failed m.new)) }
+{
+    if asks_sync { m.settle() } else { m.preview() }
+}
+
 // Tells all answers: once all is safe, if one of them says so.
 fn tell<D, O>(m: &mut Manager<D>, session: &mut Session, output: &mut O) -> Result<(), Unserved>
 where
@@ -52,17 +63,12 @@ where
     ensures safe { OnOk result (session.old.asks_sync ≡ true
         → Settles (stand_of D.written D.synced D.doubted D.failed m.old)
         (stand_of D.written D.synced D.doubted D.failed m.new)) }
-    ensures spent { result ≡ Err Unserved.Spent → output.new ≡ output.old }
     ensures none { OnOk result ((string_bytes session.new.answers ≡ [])
         × (session.new.asks_sync ≡ false)) }
     ensures works { OnOk result (O.faults output.new ≡ O.faults output.old) }
+    ensures spent { result ≡ Err Unserved.Spent → output.new ≡ output.old }
 {
-    let ready = if session.asks_sync {
-        m.settle()
-    } else {
-        m.preview()
-    };
-    if ready.is_err() {
+    if make_ready(m, session.asks_sync).is_err() {
         return Err(Unserved::Spent);
     }
     if write_all(output, session.answers.as_bytes()).is_err() {
@@ -89,6 +95,7 @@ where
     ensures order { IsInOrder (stand_of D.written D.synced D.doubted D.failed m.new) }
     ensures lines { IfOk result (EndsLine bytes.now) }
     ensures works { OnOk result (O.faults output.new ≡ O.faults output.old) }
+    ensures spent { result ≡ Err Unserved.Spent → O.faults output.new ≡ O.faults output.old }
 {
     let mut rest = bytes;
     while let Some((line, after)) = cut_once(b'\n', rest) {
@@ -105,7 +112,9 @@ where
 }
 
 // Keeps what begins a line. A line that is too long is none, whatever comes after its beginning.
-fn keep_rest(held: &mut Vec<u8>, used: usize) {
+fn keep_rest(held: &mut Vec<u8>, used: usize)
+    requires { used ≤ length held.old.items }
+{
     held.drain(..used);
     held.truncate(LONGEST + 1);
 }
@@ -125,7 +134,8 @@ where
     requires order { IsInOrder (stand_of D.written D.synced D.doubted D.failed m.old) }
     requires reads { I.faults input.old < 18446744073709551615 }
     requires writes { O.faults output.old < 18446744073709551615 }
-    ensures { IsInOrder (stand_of D.written D.synced D.doubted D.failed m.new) }
+    ensures order { IsInOrder (stand_of D.written D.synced D.doubted D.failed m.new) }
+    ensures spent { result ≡ Err Unserved.Spent → O.faults output.new ≡ O.faults output.old }
 {
     let mut held = Vec::new(alloc);
     let mut piece = Vec::new(alloc);

@@ -38,6 +38,7 @@ pub(crate) fn word(text: &[u8]) -> Result<(&[u8], &[u8]), Fault>
 }
 
 /// The number of a text, at most `most`.
+#[tactic(auto, using(crate::proofs::Numbers::number_read))]
 pub(crate) fn read_number(most: u64, text: &[u8]) -> Result<u64, Fault>
     ensures number { Gives (λ x. x) result (number_of most text.now) }
     ensures most { IfOk result (λ n. n ≤ most) }
