@@ -1,5 +1,6 @@
 //! A log is served to one program, line by line.
 
+ghost use Rattle.std.specs.Arc.{arc_slice_items};
 ghost use Rattle.std.specs.Prelude.{IfOk, length};
 ghost use Rattle.rq_live.specs.Kernels.{StandsWithin};
 
@@ -11,7 +12,7 @@ use crate::refusal::{Refusal, Stream, failed};
 use rq_file::Patient;
 use rq_front::header_of;
 use rq_journal::{Damage, Fault, Plan, Why};
-use rq_live::{Manager, NotDone};
+use rq_live::{Kernel, Manager, NotDone};
 use rq_log_file::{HeldLog, Hold, LogFile};
 use rq_record::{LogBytes, Version};
 use rq_reopen::{FoundLog, NotOpened, Opening};
@@ -118,11 +119,35 @@ fn greet<R: Print>(
     Ok(())
 }
 
-// Serves until the input ends, or a line closes.
-fn serve_lines<R>(rt: &R, mut manager: Manager<LogFile<HeldLog>>) -> Result<(), Refusal>
+// Why a stream failed.
+fn stopped(stream: Stream, error: Option<io::Error>) -> Refusal {
+    match error {
+        Some(error) => failed(stream, error),
+        None => Refusal::Memory,
+    }
+}
+
+// Serves a log that was read, which is held: goes on behind its front, greets, and does what lines ask
+// for until the input ends, or one closes.
+fn serve_on<R>(
+    rt: &R,
+    held: HeldLog,
+    whole: ArcSlice<u8>,
+    kernel: Kernel,
+    greeting: Greeting,
+) -> Result<(), Refusal>
 where
     R: Input + Print + Clock + AllocGlobal,
+    requires { StandsWithin kernel (length (arc_slice_items whole)) }
 {
+    let stands = whole.len();
+    let mut manager = Manager::over(LogFile::new(held, Some(whole)), kernel);
+    match manager.resume(rt.alloc(), stands) {
+        Ok(()) => {}
+        Err(NotDone::Full) => return Err(Refusal::from(Fault::TooLarge)),
+        Err(_) => return Err(why_spent(manager.device(), Stream::Log)),
+    }
+    greet(rt, &manager, greeting)?;
     let mut input = OverRead::new(rt.reader());
     let mut output = OverWrite::new(Patient {
         rt,
@@ -133,14 +158,6 @@ where
         Err(Unserved::Spent) => Err(why_spent(manager.device(), Stream::Log)),
         Err(Unserved::Unread) => Err(stopped(Stream::Input, input.into_error())),
         Err(Unserved::Unheard) => Err(stopped(Stream::Output, output.into_error())),
-    }
-}
-
-// Why a stream failed.
-fn stopped(stream: Stream, error: Option<io::Error>) -> Refusal {
-    match error {
-        Some(error) => failed(stream, error),
-        None => Refusal::Memory,
     }
 }
 
@@ -155,21 +172,12 @@ where
     }
     let mut held = HeldLog::open(rt, path, Hold::ToWrite)?;
     let whole = plain_log(rt, &mut held)?;
-    let stands = whole.len();
-    let Opening { found, cut, .. } = opened(rt, whole.as_slice(), plan)?;
-    keep_cut(rt, path, &found, &cut)?;
-    held.expect_as_read(rt, stands)?;
+    let opening = opened(rt, whole.as_slice(), plan)?;
+    keep_cut(rt, path, &opening.found, &opening.cut)?;
+    held.expect_as_read(rt, whole.len())?;
     let greeting = Greeting {
-        aborted: found.kernel.open_count(),
-        cut: cut.len(),
+        aborted: opening.found.kernel.open_count(),
+        cut: opening.cut.len(),
     };
-    let mut manager = Manager::over(LogFile::new(held, Some(whole)), found.kernel);
-    match manager.resume(rt.alloc(), stands) {
-        Ok(()) => {
-            greet(rt, &manager, greeting)?;
-            serve_lines(rt, manager)
-        }
-        Err(NotDone::Full) => Err(Refusal::from(Fault::TooLarge)),
-        Err(_) => Err(why_spent(manager.device(), Stream::Log)),
-    }
+    serve_on(rt, held, whole, opening.found.kernel, greeting)
 }
