@@ -12,6 +12,12 @@ const LOG: Word = Word(
     "The file of the log, plain or carried on",
 );
 
+const PLAIN: Word = Word(
+    "LOG",
+    Value(Word::TEXT),
+    "The file of the log, which was not carried on",
+);
+
 const NEW: Word = Word(
     "NEW",
     Value(Word::TEXT),
@@ -83,7 +89,7 @@ static COMMANDS: [Subcommand; 9] = [
         name: "serve",
         about: "Serves the queues of a log to the program at standard input and output",
         words: &[
-            LOG,
+            PLAIN,
             Word("create", Flag, "Makes the log if it is not there, in version 2"),
             Word::WORKERS,
         ],
