@@ -39,12 +39,13 @@ refused_text refusals.Large = codes "the state has more bytes than a checkpoint 
 
 -- an element that was taken, and the name of the queue that it was put into
 abbrev pub taken_text : List ℕ → Element → List ℕ
-taken_text from e = codes "element " ++ decimal e.id ++ codes " " ++ from ++ codes " " ++ decimal e.priority
-    ++ codes " " ++ decimal e.attempts ++ codes " " ++ payload_text e.payload
+taken_text from e = codes "element " ++ (decimal e.id ++ (codes " " ++ (from ++ (codes " "
+    ++ (decimal e.priority ++ (codes " " ++ (decimal e.attempts ++ (codes " " ++ payload_text e.payload))))))))
 
 -- the last operation of a registrant
 abbrev pub told_last : Last → List ℕ
-told_last l = codes "last " ++ kind_text l.kind ++ codes " " ++ decimal l.tag ++ codes " " ++ element_text l.element
+told_last l = codes "last "
+    ++ (kind_text l.kind ++ (codes " " ++ (decimal l.tag ++ (codes " " ++ element_text l.element))))
 
 -- an answer, without its LF
 abbrev pub answer_text : Answer → List ℕ
@@ -60,7 +61,8 @@ answer_text (answers.Taken from e) = taken_text from e
 answer_text (answers.Checkpoint offset) = codes "checkpoint " ++ decimal offset
 answer_text (answers.Closed bytes) = codes "closed " ++ decimal bytes
 answer_text (answers.Lines count lines) = codes "lines " ++ decimal count
-answer_text (answers.Refused refused) = codes "refused " ++ refused_word refused ++ codes ": " ++ refused_text refused
+answer_text (answers.Refused refused) = codes "refused "
+    ++ (refused_word refused ++ (codes ": " ++ refused_text refused))
 answer_text answers.NoRequest = codes "error: the line is no request"
 
 -- the lines that follow it
@@ -70,10 +72,10 @@ more_lines _ = []
 
 -- the lines of an answer
 abbrev pub answer_lines : Answer → List ℕ
-answer_lines answer = answer_text answer ++ codes "\n" ++ more_lines answer
+answer_lines answer = answer_text answer ++ (codes "\n" ++ more_lines answer)
 
 -- the line of a queue, as a report has it, and behind it how many elements the queue has
 abbrev pub counted_line : ℕ → Definition → Depths → List ℕ
-counted_line number d depths = codes "queue " ++ decimal number ++ codes " " ++ d.name ++ codes " limit "
-    ++ decimal d.limit ++ codes " error " ++ error_text d.error ++ codes " free " ++ decimal depths.free
-    ++ codes " fresh " ++ decimal depths.fresh ++ codes " held " ++ decimal depths.held ++ codes "\n"
+counted_line number d depths = codes "queue " ++ (decimal number ++ (codes " " ++ (d.name ++ (codes " limit "
+    ++ (decimal d.limit ++ (codes " error " ++ (error_text d.error ++ (codes " free " ++ (decimal depths.free
+    ++ (codes " fresh " ++ (decimal depths.fresh ++ (codes " held " ++ (decimal depths.held ++ codes "\n")))))))))))))
