@@ -4,11 +4,11 @@ use Rattle.std.proofs.lemmas.List.{length-append}
 use Rattle.rq_writer.specs.Reading.{cut_at}
 use Rattle.rq_writer.proofs.Parts.{cut_takes}
 use Rattle.std.specs.Prelude.{Some}
-use Rattle.rq_serve.specs.Serving.{AreLines, EndsLine}
+use Rattle.rq_serve.specs.Serving.{AreWholeLines, EndsLine}
 
 -- these are the lines before the rest
 abbrev pub StandsBehind : List ℕ → List ℕ → Type 0
-StandsBehind bytes rest = (lines : List ℕ) × (bytes ≡ lines ++ rest) × AreLines lines
+StandsBehind bytes rest = (lines : List ℕ) × (bytes ≡ lines ++ rest) × AreWholeLines lines
 
 pub behind_none : (bytes : List ℕ) → StandsBehind bytes bytes
 behind_none bytes = ([], refl, inl refl)

@@ -69,9 +69,9 @@ NeverCommits (requests.Commit unit is_later) doomed a b result = is_doomed doome
 NeverCommits _ doomed a b result = ⊤
 
 -- whole lines: none, or they end with an LF
-abbrev pub AreLines : List ℕ → Type 0
-AreLines bytes = (bytes ≡ []) ⊎ ((before : List ℕ) × (bytes ≡ before ++ 10 ∷ []))
+abbrev pub AreWholeLines : List ℕ → Type 0
+AreWholeLines bytes = (bytes ≡ []) ⊎ ((before : List ℕ) × (bytes ≡ before ++ 10 ∷ []))
 
 -- the first so many bytes are whole lines
 abbrev pub EndsLine : List ℕ → ℕ → Type 0
-EndsLine bytes used = (lines rest : List ℕ) × (bytes ≡ lines ++ rest) × (used ≡ length lines) × AreLines lines
+EndsLine bytes used = (lines rest : List ℕ) × (bytes ≡ lines ++ rest) × (used ≡ length lines) × AreWholeLines lines
