@@ -20,6 +20,8 @@ pub struct LogFile<F> {
     kept: u64,
     len: u64,
     synced: u64,
+    // So many bytes behind these are shown already, which are to be written next.
+    shown: u64,
     error: Option<io::Error>,
     is_cut_back: bool,
 }
@@ -49,6 +51,7 @@ impl<F> LogFile<F> {
             kept: len,
             len,
             synced: len,
+            shown: 0,
             error: None,
             is_cut_back: false,
         }
@@ -102,6 +105,30 @@ impl<F: Write + Seek + OpenFile> LogFile<F> {
         OpenFile::sync_data(&self.file)
     }
 
+    // Writes what of the bytes is not shown yet behind what is.
+    fn show(&mut self, next: &[u8]) -> io::Result<()>
+        ensures { self.new.error ≡ self.old.error }
+    {
+        let Some(more) = next.get(self.shown as usize..) else {
+            return Ok(());
+        };
+        self.file.write_all(more)?;
+        self.shown = next.len() as u64;
+        Ok(())
+    }
+
+    // Goes back to where the bytes end that were written: those that were shown are written now.
+    fn stand_behind_written(&mut self) -> io::Result<()>
+        ensures { self.new.error ≡ self.old.error }
+    {
+        if self.shown == 0 {
+            return Ok(());
+        }
+        self.file.seek(SeekFrom::Start(self.len))?;
+        self.shown = 0;
+        Ok(())
+    }
+
     // Cuts the file. It stands at its end then.
     fn cut_at(&mut self, len: u64) -> io::Result<()>
         ensures { self.new.error ≡ self.old.error }
@@ -120,6 +147,9 @@ impl<F: Write + Seek + OpenFile> Device for LogFile<F> {
 
     // An interrupted write is tried again.
     fn write(&mut self, piece: &[u8]) -> Result<usize, Fault> {
+        if let Err(error) = self.stand_behind_written() {
+            return Err(self.fail(error));
+        }
         for _ in 0..u64::MAX {
             match self.file.write(piece) {
                 Ok(count) if count > 0 || piece.is_empty() => {
@@ -132,6 +162,13 @@ impl<F: Write + Seek + OpenFile> Device for LogFile<F> {
             }
         }
         Err(self.fail(io::Error::from(ErrorKind::WriteZero)))
+    }
+
+    fn preview(&mut self, next: &[u8]) -> Result<(), Fault> {
+        match self.show(next) {
+            Ok(()) => Ok(()),
+            Err(error) => Err(self.fail(error)),
+        }
     }
 
     // A sync that failed is never tried again: what the disk then holds is unknown.
@@ -149,6 +186,8 @@ impl<F: Write + Seek + OpenFile> Device for LogFile<F> {
         match self.write_again(from as u64) {
             Ok(()) => {
                 self.synced = self.len;
+                // From now on a sync reaches all. A manager that goes on for long has no use for it.
+                self.read = None;
                 Ok(())
             }
             Err(error) => Err(self.fail(error)),

@@ -7,6 +7,7 @@ mod layers;
 mod live;
 mod log_files;
 mod program;
+mod serving;
 mod standby;
 mod streams;
 mod surface;

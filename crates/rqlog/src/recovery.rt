@@ -128,8 +128,8 @@ where
     }
 }
 
-// Keeps what is cut off at an offset, if something is, and answers where.
-fn kept_cut<R>(rt: &R, path: &str, offset: usize, cut: &[u8]) -> Result<Option<String>, Refusal>
+/// Keeps what is cut off at an offset, if something is, and answers where.
+pub(crate) fn kept_cut<R>(rt: &R, path: &str, offset: usize, cut: &[u8]) -> Result<Option<String>, Refusal>
 where
     R: Files<File = File> + AllocGlobal,
 {
@@ -155,8 +155,8 @@ fn dropped(
     }
 }
 
-// Why a manager over the file of a log is spent: a call of the file failed, or memory was refused.
-fn why_spent(file: &LogFile<HeldLog>) -> Refusal {
+/// Why a manager over the file of a log is spent: a call of the file failed, or memory was refused.
+pub(crate) fn why_spent(file: &LogFile<HeldLog>, stream: Stream) -> Refusal {
     let Some(error) = file.error() else {
         return Refusal::Memory;
     };
@@ -164,7 +164,7 @@ fn why_spent(file: &LogFile<HeldLog>) -> Refusal {
         Some(code) => io::Error::from_raw_os_error(code),
         None => io::Error::from(error.kind()),
     };
-    Refusal::Failed(Stream::LogToRecover, error)
+    Refusal::Failed(stream, error)
 }
 
 // Goes on from a plain log that was read, which has room for the ABORTs of the units that are open
@@ -179,7 +179,7 @@ where
     let mut manager = Manager::over(LogFile::new(held, Some(whole)), kernel);
     match manager.resume(rt.alloc(), read) {
         Ok(()) => Ok(manager.len()),
-        Err(_) => Err(why_spent(manager.device())),
+        Err(_) => Err(why_spent(manager.device(), Stream::LogToRecover)),
     }
 }
 

@@ -37,6 +37,7 @@ pub(crate) enum Stream {
     LogToRecover,
     /// The file that keeps what is cut off at an offset.
     Kept(usize),
+    Input,
     Output,
     /// The output that was to tell what is done all the same.
     Telling,
@@ -141,12 +142,15 @@ impl Stream {
             Stream::Script => Some("SCRIPT"),
             Stream::New => Some("NEW"),
             Stream::Out => Some("OUT"),
-            Stream::Output | Stream::Telling => None,
+            Stream::Input | Stream::Output | Stream::Telling => None,
         }
     }
 
     // What it is called by these words.
     fn name<'a>(self, words: Option<&'a ArgMatches<'_>>) -> Seen<'a> {
+        if matches!(self, Stream::Input) {
+            return Seen("standard input");
+        }
         let Some(word) = self.word() else {
             return Seen("standard output");
         };

@@ -195,3 +195,21 @@ fn what_was_read_is_written_again(rt: HostRuntime) -> Result<(), Fail> {
     assert!(rt; goes_on_over(&rt, &log, lost, &plan)?);
     Ok(())
 }
+
+// What is pending stands in the file once it is shown, and is written in the same place when it is
+// settled.
+#[test]
+fn what_is_pending_is_shown(rt: HostRuntime) -> Result<(), Fail> {
+    let file = LogFile::new(HeldFile::of(Vec::new(rt.alloc()), u64::MAX), None);
+    let mut m = Manager::new(rt.alloc(), Version::Two, file)?;
+    let first = m.begin(rt.alloc()).is_ok();
+    let shown = m.preview().is_ok();
+    assert!(rt; first && shown && m.device().file().all().len() == 85);
+    let second = m.begin(rt.alloc()).is_ok();
+    let shown = m.preview().is_ok();
+    let bytes = Vec::from_slice(rt.alloc(), m.device().file().all())?;
+    assert!(rt; second && shown && bytes.len() == 130);
+    let settled = m.settle().is_ok();
+    assert!(rt; settled && m.device().file().all() == bytes.as_slice());
+    Ok(())
+}
