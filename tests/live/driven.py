@@ -63,6 +63,17 @@ def spelling(machine: Machine) -> bytes:
     return struct.pack(">QQQQ", machine.place, machine.greatest, machine.committed, machine.aborted) + b"".join(map(listed, lists))
 
 
+def body_of(record: tuple) -> bytes:
+    """The body that spells a record: what `record_of` reads."""
+    kind, *fields = record
+    if kind == "define":
+        return records.define(fields[2], fields[0], fields[1])
+    if kind == "enqueue":
+        unit, queue, priority, name, tag, payload = fields
+        return records.enqueue(unit, queue, name, tag, payload, priority)
+    return getattr(records, kind)(*fields)
+
+
 class Sequence:
     """Random lines, and what each is to be answered."""
 
@@ -87,15 +98,6 @@ class Sequence:
     def settled(self) -> None:
         self.safe.append(len(self.log))
 
-    def body(self, record: tuple) -> bytes:
-        kind, *fields = record
-        if kind == "define":
-            return records.define(fields[2], fields[0], fields[1])
-        if kind == "enqueue":
-            unit, queue, priority, name, tag, payload = fields
-            return records.enqueue(unit, queue, name, tag, payload, priority)
-        return getattr(records, kind)(*fields)
-
     def takes(self, record: tuple, body: bytes) -> bool:
         """Whether the record is lawful: it stands in the log then."""
         if not self.machine.takes(record):
@@ -104,7 +106,7 @@ class Sequence:
         return True
 
     def do(self, line: bytes, record: tuple, done: str = "done") -> None:
-        self.add(line, done if self.takes(record, self.body(record)) else "unlawful")
+        self.add(line, done if self.takes(record, body_of(record)) else "unlawful")
 
     # --- what is drawn ---------------------------------------------------------------------------------------------
 
