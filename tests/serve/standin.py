@@ -1,3 +1,4 @@
+#!/usr/bin/env python3
 """Shared. Stands in for `rqlog serve`: the model as a process. `python3 tests/serve/standin.py [serve] [--create] LOG`. It is what clients and
 tests are tried with where no program is, and what wrong programs are made of."""
 from __future__ import annotations
