@@ -2,7 +2,7 @@
 starts, with what a crash leaves and what no crash leaves; how it ends; who else holds the log; and what is synced before it is told. The log that it
 writes is that of the model, byte by byte. With --all what takes 4 GB and some minutes."""
 from __future__ import annotations
-import argparse, fcntl, functools, os, signal, subprocess, time
+import argparse, fcntl, functools, itertools, os, signal, subprocess, time
 
 import trying
 from frames import (HEADER, abort, begin, chained, checkpoint, commit, define, dequeue, enqueue, flipped, framed, header_of, register, spans_of,
@@ -233,17 +233,17 @@ def killed_starts() -> None:
         return
     left = CUT_OFF[2] + b"\0\0\x01\0" + bytes(200) + b"\xa5" * 300
     want, wrong = Start(left), []
-    for number in range(1, 1000):
+    for number in itertools.count(1):
         put("killed.log", left)
-        ended, told = run_told("serve", "killed.log", by=trying.rqlog, tells="order", at=number, does="dies")
+        ended, _ = run_told("serve", "killed.log", by=trying.rqlog, tells="order", at=number, does="dies")
         answers, status = session_of("killed.log", [])
-        kept = content(f"killed.log.cut-{len(want.front)}")
-        if len(told.splitlines()) < number and ended[0] == 0:
-            break
-        if (status, kept, answers[0].split()[:8]) != (0, want.kept(), want.greeting().split()[:8]) and content("killed.log") != bytes(want.model.log):
+        found = (status, content("killed.log"), content(f"killed.log.cut-{len(want.front)}"))
+        if found != (0, bytes(want.model.log), want.kept()):
             wrong.append((number, answers, status))
         for it in os.listdir("."):
             os.remove(it)
+        if ended[0] == 0:
+            break
     check("a start that is killed", wrong, [])
 
 
@@ -275,11 +275,12 @@ def killed_creations() -> None:
     if not is_program() or not has_shim("to kill a creation"):
         return
     wrong = []
-    for number in range(1, 1000):
-        ended, told = run_told("serve", "--create", "new.log", by=trying.rqlog, tells="order", at=number, does="dies")
+    for number in itertools.count(1):
+        ended, _ = run_told("serve", "--create", "new.log", by=trying.rqlog, tells="order", at=number, does="dies")
         left = content("new.log")
-        if left not in (None, header_of(2)):
-            wrong.append((number, left))
+        again = session_of("new.log", [], "--create")
+        if left not in (None, header_of(2)) or again != ([NEW], 0):
+            wrong.append((number, left, again))
         for it in os.listdir("."):
             os.remove(it)
         if ended[0] == 0:

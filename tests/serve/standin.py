@@ -127,7 +127,7 @@ class StandIn:
             held = held[:LONGEST_LINE + 1]
             self.do(lines)
         if not self.model.is_closed:
-            self.model.abort_all()
+            self.model.close()
             self.settle([])
 
     def do(self, lines: list[bytes]) -> None:
@@ -137,22 +137,21 @@ class StandIn:
             answers.append(self.model.answer(line))
             if self.model.is_closed:
                 break
-        if self.must_sync(answers):
-            self.settle(answers)
+        self.settle(answers)
         self.say("".join(f"{it.text}\n" for it in answers))
 
-    def must_sync(self, answers: list[Answer]) -> bool:
-        return any(it.is_safe for it in answers)
-
     def settle(self, answers: list[Answer]) -> None:
-        """Writes and syncs. If it can't, the answers up to the first that says that something is safe are given, and it ends."""
+        """Writes what was done, so that it stands if the process dies; and syncs, if an answer says that something is safe. If it can't, those
+        answers are given that are true, and it ends."""
+        true: list[Answer] = []
         try:
             self.write()
-            self.sync()
+            true = answers[:next((at for at, it in enumerate(answers) if it.is_safe), len(answers))]
+            if self.model.is_closed or len(true) < len(answers):
+                self.sync()
         except OSError as fault:
             self.take_back()
-            first = next((at for at, it in enumerate(answers) if it.is_safe), len(answers))
-            self.say("".join(f"{it.text}\n" for it in answers[:first]) + f"spent: {fault.strerror}\n" * bool(answers))
+            self.say("".join(f"{it.text}\n" for it in true) + f"spent: {fault.strerror}\n" * bool(answers))
             raise Ends(FILES, str(fault)) from None
 
     def take_back(self) -> None:
