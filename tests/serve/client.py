@@ -41,8 +41,8 @@ def started() -> tuple[Manager, Queue]:
 
 def refusals() -> None:
     """Each word of the protocol is an exception, and the manager goes on behind it."""
-    words = {it for it in re.findall(r"^\| `([a-z-]+)` \|", text_in(os.path.join(TOP, "docs", "SERVE.md")), re.M)} if served_page() else set(REFUSALS)
-    check("each word of the protocol", set(REFUSALS), words)
+    table = text_in(os.path.join(TOP, "docs", "SERVE.md")).partition("| WORD | If |")[2].partition("\n\n")[0]
+    check("each word of the protocol", set(REFUSALS), set(re.findall(r"^\| `([a-z-]+)` \|", table, re.M)))
     m, jobs = started()
     ann = jobs.register("ann")
     nowhere = m.queue("nowhere")
@@ -58,10 +58,6 @@ def refusals() -> None:
     check("it goes on", (m.settle(), jobs.kill(99), ann.last), (None, False, None))
     m.close()
     check("behind a close", raised(m.settle), "Lost")
-
-
-def served_page() -> bool:
-    return os.path.exists(os.path.join(TOP, "docs", "SERVE.md"))
 
 
 def units() -> None:

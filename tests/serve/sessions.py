@@ -155,6 +155,10 @@ error
 error
 > define jobs 0 Dead
 error
+> define jobs 65536 dead
+error
+> define jobs 18446744073709551616 -
+error
 > define jobs 0 -
 queue 0
 """,

@@ -6,12 +6,13 @@ With --wrong it tries wrong programs, which are made of the stand-in: each is ca
 with the life of this number: each life is a log that outlives so many crashes, and the same number makes the same life, but for when a kill comes.
 """
 from __future__ import annotations
-import argparse, itertools, multiprocessing, os, random, shutil, sys, tempfile, threading, time
+import argparse, itertools, multiprocessing, os, random, shutil, tempfile, threading, time
 from collections import Counter, deque
 from collections.abc import Callable
 from typing import NamedTuple
 
 import trying
+import wrong
 from clients import DEFINITIONS, STAGES, Client, Ledger, Line, Talk, Wrong, eight, must
 from disk import Disk
 from model import Model, Start
@@ -301,10 +302,18 @@ def lived(task: tuple[int, int, str, str]) -> tuple[int, str, Counter[str]]:
         life.last()
         shutil.rmtree(folder)
         return number, "", life.counted
-    except Wrong as wrong:
-        return number, f"behind run {len(ends) - 1} ({ends[-1]}), {folder}: {wrong}", life.counted
+    except Wrong as seen:
+        return number, f"behind run {len(ends) - 1} ({ends[-1]}), {folder}: {seen}", life.counted
     except Exception as fault:
         return number, f"behind run {len(ends) - 1} ({ends[-1]}), {folder}: {fault!r}", life.counted
+
+
+def caught(task: tuple[str, str, str]) -> tuple[str, str]:
+    """How a wrong program is caught; not at all, if no life shows it."""
+    name, folder, library = task
+    trying.RQLOG = wrong.program_of(name, folder)
+    lives = map(lived, ((it, RUNS, folder, library) for it in range(wrong.LIVES)))
+    return name, next((how for _, how, _ in lives if how), "")
 
 
 def takes(line: argparse.ArgumentParser) -> None:
@@ -319,8 +328,8 @@ def tortured(options: argparse.Namespace, library: str) -> None:
     lives = range(options.first, options.first + -(-options.kills // runs))
     total: Counter[str] = Counter()
     with multiprocessing.Pool(options.jobs) as pool:
-        for number, wrong, counted in pool.imap_unordered(lived, ((it, runs, options.folder, library) for it in lives)):
-            check(f"life {number}", wrong, "")
+        for number, how, counted in pool.imap_unordered(lived, ((it, runs, options.folder, library) for it in lives)):
+            check(f"life {number}", how, "")
             total += counted
     print(", ".join(f"{count} {what}" for what, count in sorted(total.items())))
 
@@ -333,9 +342,8 @@ def main(options: argparse.Namespace) -> None:
     if options.wrong is None:
         tortured(options, library)
         return
-    import wrong
-    for name in options.wrong or wrong.PROGRAMS:
-        trying.RQLOG = wrong.program_of(name, options.folder)
-        found = next((it for it in map(lived, ((it, RUNS, options.folder, library) for it in range(wrong.LIVES))) if it[1]), None)
-        print(f"{name}: {found[1] if found else 'not caught'}", flush=True)
-        check(f"{name} is caught", found is not None, True)
+    with multiprocessing.Pool(options.jobs) as pool:
+        for name, how in pool.imap_unordered(caught, ((it, options.folder, library) for it in options.wrong or wrong.PROGRAMS)):
+            if options.wrong:
+                print(f"{name}: {how}")
+            check(f"{name} is caught", how != "", True)
