@@ -377,7 +377,7 @@ def versions(package: str | None) -> None:
 PAGES = {
     "sessions": ["README.md", "docs/*.md"],
     "callers": ["crates/*/CALLING.md"],
-    "prose": ["README.md", "CHANGELOG.md", "docs/*.md", "docs/measured/*.md", "bench/README.md", "tests/README.md", "crates/*/*.md",
+    "prose": ["README.md", "CHANGELOG.md", "docs/*.md", "docs/measured/*.md", "bench/README.md", "tests/README.md", "python/README.md", "crates/*/*.md",
               "examples/many/*/README.md"],
     "versions": [],
 }

@@ -63,6 +63,17 @@ def spelling(machine: Machine) -> bytes:
     return struct.pack(">QQQQ", machine.place, machine.greatest, machine.committed, machine.aborted) + b"".join(map(listed, lists))
 
 
+def body_of(record: tuple) -> bytes:
+    """The body that spells a record: what `record_of` reads."""
+    kind, *fields = record
+    if kind == "define":
+        return records.define(fields[2], fields[0], fields[1])
+    if kind == "enqueue":
+        unit, queue, priority, name, tag, payload = fields
+        return records.enqueue(unit, queue, name, tag, payload, priority)
+    return getattr(records, kind)(*fields)
+
+
 class Rules:
     """The rules that a record breaks, as they are told, of those that a drawn record can break."""
 
@@ -139,15 +150,6 @@ class Sequence:
     def settled(self) -> None:
         self.safe.append(len(self.log))
 
-    def body(self, record: tuple) -> bytes:
-        kind, *fields = record
-        if kind == "define":
-            return records.define(fields[2], fields[0], fields[1])
-        if kind == "enqueue":
-            unit, queue, priority, name, tag, payload = fields
-            return records.enqueue(unit, queue, name, tag, payload, priority)
-        return getattr(records, kind)(*fields)
-
     def takes(self, record: tuple, body: bytes) -> bool:
         """Whether the record is lawful: it stands in the log then."""
         if not self.machine.takes(record):
@@ -157,7 +159,7 @@ class Sequence:
 
     def do(self, line: bytes, record: tuple, done: str = "done") -> None:
         refusals = [f"unlawful: {it}" for it in Rules(self.machine).broken(record)]
-        self.add(line, *([done] if self.takes(record, self.body(record)) else refusals))
+        self.add(line, *([done] if self.takes(record, body_of(record)) else refusals))
 
     # --- what is drawn ---------------------------------------------------------------------------------------------
 
