@@ -1,9 +1,8 @@
 -- What a manager shows of queues, and a DEQUEUE of a queue in which an element is free.
-use Rattle.std.proofs.Common.{◌≡◌, ℕ, Bool, true, false, List, [], ◌∷◌, ◌++◌, ◌<◌, ◌≤◌, length, Option, Some, None, refl, sym}
-use Rattle.std.proofs.Common.{subst, ap, ◌∙◌, arith}
-use Rattle.std.specs.Prelude.{Result, Ok, Err, IfOk, is_some, filter, ◌==◌}
+use Rattle.std.proofs.Common.{◌≡◌, ℕ, Bool, true, false, List, [], ◌∷◌, ◌≤◌, length, Option, Some, None, refl, sym}
+use Rattle.std.proofs.Common.{subst, ap, ◌∙◌, arith, Bor}
+use Rattle.std.specs.Prelude.{Result, Ok, Err, IfOk, is_some, option_copied, filter, ◌==◌}
 use Rattle.std.specs.List.{AllByRecursion}
-use Rattle.std.specs.List.Sorted.{IsPermutation}
 use Rattle.std.proofs.lemmas.List.Sorted.{IsPermutation-refl}
 use Rattle.std.proofs.lemmas.Bool.{and_parts, eqb-true, false≢true}
 use Rattle.rq_model.specs.Records.{By, Record, Version}
@@ -26,8 +25,8 @@ no_free s queue [] all beyond = refl
 no_free s queue (e ∷ es) all beyond =
     let home = all.0.home in
     let no : is_free_at queue e ≡ false = refuted (is_free_at queue e) (λ yes.
-      let same = eqb-true e.home queue (and_parts (is_free e.mark) (e.home == queue) yes).1 in
-      omega (arith, home, same, beyond)) in
+    let same = eqb-true e.home queue (and_parts (is_free e.mark) (e.home == queue) yes).1 in
+    omega (arith, home, same, beyond)) in
     rw no (no_free s queue es all.1 beyond)
 
 -- and nobody is registered with it
@@ -37,7 +36,7 @@ nobody s queue [] all beyond = refl
 nobody s queue (r ∷ rs) all beyond =
     let there = all.0.queue in
     let no : (r.queue == queue) ≡ false = refuted (r.queue == queue) (λ yes.
-      let same = eqb-true r.queue queue yes in omega (arith, there, same, beyond)) in
+    let same = eqb-true r.queue queue yes in omega (arith, there, same, beyond)) in
     rw no (nobody s queue rs all.1 beyond)
 
 -- the state in which a manager stands is well formed
@@ -54,25 +53,23 @@ pub no_depth : EmptyIsWellFormed → RunsAreWellFormed → (m : Stand) (queue : 
     → length m.kernel.machine.definitions ≤ queue → IsDepth m queue 0
 no_depth start runs m queue beyond version rs managed =
     sym (ap length (no_free (run empty rs) queue (run empty rs).elements
-        (well_there start runs m version rs managed).elements
-        (beyond_there m queue version rs managed beyond)))
+    (well_there start runs m version rs managed).elements
+    (beyond_there m queue version rs managed beyond)))
 
 pub none_registered : EmptyIsWellFormed → RunsAreWellFormed → (m : Stand) (queue : ℕ) (none : List Registrant)
     → none ≡ [] → length m.kernel.machine.definitions ≤ queue
     → AreRegistered m queue none
 none_registered start runs m queue none is beyond version rs managed =
-    rw (is, nobody (run empty rs) queue (run empty rs).registrants
-        (well_there start runs m version rs managed).registrants
-        (beyond_there m queue version rs managed beyond)) (IsPermutation-refl [])
+    rw (
+      is,
+      nobody (run empty rs) queue (run empty rs).registrants
+          (well_there start runs m version rs managed).registrants
+          (beyond_there m queue version rs managed beyond),
+    ) (IsPermutation-refl [])
 
--- those of a part that were poured into a list in which nobody was
-pub all_registered : (m : Stand) (queue : ℕ) (members old new tail : List Registrant) → old ≡ [] → new ≡ old ++ tail
-    → IsPermutation members tail → members ≡ registrants_at queue m.kernel.machine.registrants
-    → AreRegistered m queue new
-all_registered m queue members old new tail none is same of_part version rs managed =
-    let there = of_part ∙ ap (λ (s : State). registrants_at queue s.registrants) managed.at.state in
-    subst (λ (xs : List Registrant). IsPermutation xs new) there
-    (subst (IsPermutation members) (sym (is ∙ ap (λ (xs : List Registrant). xs ++ tail) none)) same)
+pub some_copied : {X : Type 0} (o : Option (Bor X)) → is_some o ≡ true → is_some (option_copied o) ≡ true
+some_copied (Some x) h = refl
+some_copied None h = h
 
 -- if an element is free, one is taken
 pub takes_one : (a b : Stand) (unit queue : ℕ) (by : Option By) (first : Option Element) → is_some first ≡ true
@@ -81,7 +78,7 @@ pub takes_one : (a b : Stand) (unit queue : ℕ) (by : Option By) (first : Optio
 takes_one a b unit queue by first some is (Some e) d = d
 takes_one a b unit queue by first some is None d =
     let never : (version : Version) (rs : List Record) → IsManaged version rs a → ⊥ = λ version rs m.
-      false≢true (ap is_some ((d version rs m).2 ∙ sym (is version rs m)) ∙ some) in
+    false≢true (ap is_some ((d version rs m).2 ∙ sym (is version rs m)) ∙ some) in
     (λ version rs m. absurd (never version rs m), λ version rs m. absurd (never version rs m))
 
 pub takes_one_so : (a b : Stand) (unit queue : ℕ) (by : Option By) (first : Option Element) → is_some first ≡ true

@@ -24,21 +24,19 @@ pub struct Depths {
 }
 
 impl Depths {
-    // So many elements are free, and no others are there.
-    fn of(free: usize) -> Depths
-        ensures { result.free ≡ free }
+    // None.
+    fn none() -> Depths
+        ensures { result.free ≡ 0 }
     {
         Depths {
-            free,
+            free: 0,
             fresh: 0,
             held: 0,
         }
     }
 
     // Counts what a unit put in or took.
-    fn add(&mut self, marked: &[KeptElement])
-        ensures { self.new.free ≡ self.old.free }
-    {
+    fn add(&mut self, marked: &[KeptElement]) {
         let fresh = marked
             .iter()
             .filter(|e| matches!(e.mark, Mark::Fresh(_)))
@@ -103,11 +101,12 @@ impl<D: Device + Drop> Manager<D> {
             return Err(NotDone::Spent);
         }
         let end = KeptRecord::Commit { unit };
-        Ok(self
-            .kernel
-            .machine
-            .broken(self.kernel.version, &end)
-            .is_none())
+        Ok(
+            self.kernel
+                .machine
+                .broken(self.kernel.version, &end)
+                .is_none(),
+        )
     }
 
     /// How many elements of a queue are free, fresh and held; a queue that is not there has none.
@@ -122,12 +121,13 @@ impl<D: Device + Drop> Manager<D> {
             return Err(Fault::Resources);
         }
         if queue.0 as usize >= self.kernel.machine.definitions().len() {
-            return Ok(Depths::of(0));
+            return Ok(Depths::none());
         }
-        let mut depths = Depths::of(self.kernel.machine.depth(queue));
+        let mut depths = Depths::none();
         for unit in &self.kernel.machine.open_units(alloc)? {
             depths.add(self.kernel.machine.marked_by(queue, *unit));
         }
+        depths.free = self.kernel.machine.depth(queue);
         Ok(depths)
     }
 

@@ -5,7 +5,7 @@ ghost use Rattle.std.specs.List.{flat_map};
 ghost use Rattle.rq_model.specs.Reports.{element_line, registrant_line};
 ghost use Rattle.rq_serve.specs.Answers.{counted_line};
 
-use crate::answers::{Answer, put_free_element, put_element_id};
+use crate::answers::{Answer, put_element_id, put_free_element};
 use crate::refusals::Undone;
 use rq_device::Device;
 use rq_live::{Depths, Manager};

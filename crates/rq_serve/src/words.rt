@@ -96,11 +96,7 @@ pub(crate) fn read_by(who: &[u8], tag: u64) -> Result<Option<By>, Fault>
     ensures { Gives (λ x. x) result (by_of who.now tag) }
 {
     if who == b"-".as_slice() {
-        return if tag == 0 {
-            Ok(None)
-        } else {
-            Err(Fault::Form)
-        };
+        return if tag == 0 { Ok(None) } else { Err(Fault::Form) };
     }
     let name = read_name(who)?;
     Ok(Some(By { name, tag }))
