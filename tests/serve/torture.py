@@ -26,6 +26,8 @@ RUNS, TURNS, CALLS = 20, 30, 40
 ENDS = {"signal": 10, "kills": 4, "halves": 3, "fails": 5, "stuck": 3, "full": 3, "input": 1, "close": 1}
 FAILING = ("fails", "stuck", "full")
 POWER_CUTS = 0.4
+# What may stand behind the last LF where the input ends: it is not done.
+HALVES = [b"", b"beg", b"begin", b"define more 0 -"]
 # A process that takes so many seconds for a run is said to hang.
 HANGS = 120
 
@@ -192,6 +194,7 @@ class Run:
             self.ask([("close", lambda _: None)])
         elif self.end != "signal":
             self.model.abort_all()
+            self.served.send(self.draw.choice(HALVES))
             self.served.process.stdin.close()
 
     def judge(self, status: int) -> None:

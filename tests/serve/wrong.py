@@ -228,8 +228,6 @@ PROGRAMS: dict[str, type[StandIn]] = {it.__name__: it for it in (
     AnswersBeforeItSyncs, SettlesNothing, SyncsAgain, GreetsBeforeItSyncs, TrustsWhatItReads, WritesAtTheSync, KeepsWhatIsBehind, KeepsNothingBeside,
     AbortsNothing, RefusesGarbage, DoesHalfALine, DropsAnAnswer, ForgetsAnElement, TakesTwice, CommitsWhatIsDoomed, ErrorsDoomNobody, ForgetsHowFar,
     NeverMoves, NewestFirst, SpendsNothing)}
-# What no client can see for sure: order is nobody's promise to them but the model's, and what is kept is an operator's.
-UNSEEN = {"KeepsNothingBeside", "NewestFirst", "KeepsWhatIsBehind", "DropsAnAnswer"}
 # So many lives are tried until one shows it.
 LIVES = 20
 
