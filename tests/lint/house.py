@@ -35,7 +35,7 @@ from trying import TOP, text_in
 CRATES = os.path.join(TOP, "crates")
 # The wrong bodies without which the program would be worth nothing, and how many there are at least of all.
 PINNED, LEAST = os.path.join(TOP, "tests", "lint", "pinned.txt"), 700
-TESTS, PROGRAMS = {"rq_rows", "rqdrive"}, {"rq", "rqlook", "rqlog"}
+TESTS, PROGRAMS = {"rq_rows", "rq_tests", "rq_scarce", "rqdrive"}, {"rq", "rqlook", "rqlog"}
 # The head of a definition, or of a module with parameters, in which some stand.
 HEAD = re.compile(r"^(?:abbrev |unfolding |unfoldable |pub |record |data )*(?!use |open |infix|ruleset |pub mod |mod )([^\s(){}:]+)(?= [^=\n]*(?::|where)| :)", re.M)
 INNER = re.compile(r"^  (?:abbrev |unfolding |pub |record |data )*([^\s(){}:]+)(?: [^=\n]*?)? :", re.M)
