@@ -12,7 +12,7 @@ from collections.abc import Callable
 from typing import NamedTuple
 
 import trying
-import wrong
+import wrong_programs
 from clients import DEFINITIONS, STAGES, Client, Ledger, Line, Talk, Wrong, eight, must
 from disk import Disk
 from model import Model, Start
@@ -314,8 +314,8 @@ def lived(task: tuple[int, int, str, str]) -> tuple[int, str, Counter[str]]:
 def caught(task: tuple[str, str, str]) -> tuple[str, str]:
     """How a wrong program is caught; not at all, if no life shows it."""
     name, folder, library = task
-    trying.RQLOG = wrong.program_of(name, folder)
-    lives = map(lived, ((it, RUNS, folder, library) for it in range(wrong.LIVES)))
+    trying.RQLOG = wrong_programs.program_of(name, folder)
+    lives = map(lived, ((it, RUNS, folder, library) for it in range(wrong_programs.LIVES)))
     return name, next((how for _, how, _ in lives if how), "")
 
 
@@ -346,7 +346,7 @@ def main(options: argparse.Namespace) -> None:
         tortured(options, library)
         return
     with multiprocessing.Pool(options.jobs) as pool:
-        for name, how in pool.imap_unordered(caught, ((it, options.folder, library) for it in options.wrong or wrong.PROGRAMS)):
+        for name, how in pool.imap_unordered(caught, ((it, options.folder, library) for it in options.wrong or wrong_programs.PROGRAMS)):
             if options.wrong:
                 print(f"{name}: {how}")
             check(f"{name} is caught", how != "", True)

@@ -1,4 +1,4 @@
-"""Shared. Wrong programs, made of the stand-in, which the torture test must catch. `python3 tests/serve/wrong.py NAME serve [--create] LOG` runs one."""
+"""Shared. Wrong programs, made of the stand-in, which the torture test must catch. `python3 tests/serve/wrong_programs.py NAME serve [--create] LOG` runs one."""
 from __future__ import annotations
 import os, shlex, sys
 
