@@ -294,7 +294,7 @@ goes_on at b w most rest offset number queues begun text old now after place cou
     let asked : is_wanted w e ≡ wanted = ap (is_wanted w) (sym at_place) ∙ sym told.0 in
     let after_it : List LogEntry = entries (offset + (36 + length (body_of next.r))) (step u.state next.r) next.others in
     let left_same : most - length (first_wanted w most (entries offset u.state u.todo))
-        ≡ others - length (first_wanted w others (entries place (step u.state next.r) next.others)) =
+    ≡ others - length (first_wanted w others (entries place (step u.state next.r) next.others)) =
     ap (λ (rs : List Record). most - length (first_wanted w most (entries offset u.state rs))) next.is
     ∙ as_many_left w most left e after_it wanted asked some
     ∙ sym (ap (λ (n : ℕ). n - length (first_wanted w n after_it)) others_is)

@@ -9,13 +9,14 @@ use crate::inputs::rest_of_log;
 use crate::new_log::{expect_free, put_new};
 use crate::recovery::{kept_cut, why_spent};
 use crate::refusal::{Refusal, Stream, failed};
+use rq_device::WINDOW;
 use rq_file::Patient;
 use rq_front::header_of;
 use rq_journal::{Damage, Fault, Plan, Why};
 use rq_live::{Kernel, Manager, NotDone};
 use rq_log_file::{HeldLog, Hold, LogFile};
 use rq_record::{LogBytes, Version};
-use rq_reopen::{FoundLog, NotOpened, Opening};
+use rq_reopen::{NotOpened, Opening};
 use rq_serve::{Unserved, serve};
 use rq_tool::{OverRead, OverWrite};
 use std::fs::{File, Files};
@@ -59,13 +60,15 @@ fn plain_log<R: AllocGlobal>(rt: &R, held: &mut HeldLog) -> Result<ArcSlice<u8>,
     Ok(ArcSlice::from_vec(read.bytes)?)
 }
 
-// Whether a crash can have left what stands behind a front. Frames that are right can stand behind a
-// page that was not written: a crash may leave any of the pages that were not synced.
-fn is_left_by_crash(damage: Option<Damage>) -> bool {
-    matches!(
-        damage,
-        None | Some(Damage::Right(_)) | Some(Damage::Unsearched(_))
-    )
+// Whether a crash can have left so many bytes behind a front. Frames that are right can stand behind a
+// page that was not written: a crash may leave any of the pages that were not synced. But a manager
+// leaves no more bytes than these unsynced.
+fn is_left_by_crash(damage: Option<Damage>, behind: usize) -> bool {
+    match damage {
+        None => true,
+        Some(Damage::Right(_) | Damage::Unsearched(_)) => behind <= WINDOW,
+        Some(_) => false,
+    }
 }
 
 // Where a manager goes on behind what a crash left. Payloads are copied: lent, a few that stay would
@@ -77,7 +80,7 @@ where
 {
     match Opening::of(rt, rt.alloc(), &LogBytes::borrowed(bytes), plan, true) {
         Ok(opening) => match opening.damage {
-            Some(damage) if !is_left_by_crash(opening.damage) => {
+            Some(damage) if !is_left_by_crash(opening.damage, opening.cut.len()) => {
                 let end = opening.found.end;
                 Err(Refusal::Damaged(BadEnd::damaged(end, bytes.len(), damage)))
             }
@@ -91,14 +94,15 @@ where
 }
 
 // Keeps what is cut off, if it is more than the beginning of a frame.
-fn keep_cut<R>(rt: &R, path: &str, found: &FoundLog, cut: &[u8]) -> Result<(), Refusal>
+fn keep_cut<R>(rt: &R, path: &str, opening: &Opening) -> Result<(), Refusal>
 where
     R: Files<File = File> + AllocGlobal,
 {
-    if matches!(found.end.why, Why::Cut) {
+    let end = opening.found.end;
+    if opening.damage.is_none() && matches!(end.why, Why::Cut) {
         return Ok(());
     }
-    kept_cut(rt, path, found.end.used, cut)?;
+    kept_cut(rt, path, end.used, &opening.cut)?;
     Ok(())
 }
 
@@ -173,7 +177,7 @@ where
     let mut held = HeldLog::open(rt, path, Hold::ToWrite)?;
     let whole = plain_log(rt, &mut held)?;
     let opening = opened(rt, whole.as_slice(), plan)?;
-    keep_cut(rt, path, &opening.found, &opening.cut)?;
+    keep_cut(rt, path, &opening)?;
     held.expect_as_read(rt, whole.len())?;
     let greeting = Greeting {
         aborted: opening.found.kernel.open_count(),
