@@ -7,7 +7,7 @@ from typing import NamedTuple
 
 import frames as records
 from driven import body_of, spelling
-from frames import HEADER, chained, header_of
+from frames import HEADER, chained, header_of, right_at
 from second import NAME, Machine, Restart, dashed
 
 # The longest line, before its LF; the longest log; the most bytes that a checkpoint's state may have.
@@ -303,12 +303,20 @@ class Start:
             found.machine.place += len(found.cut_off)
             self.model = Model(found.machine, found.closed)
 
+    def has_right(self) -> bool:
+        """Whether a frame that is right in itself stands behind the front."""
+        log = self.front + self.cut
+        return any(right_at(log, at) for at in range(len(self.front) + 1, len(log) - 36))
+
     def is_left_by_crash(self) -> bool:
+        """A frame that was cut short may be long; other bytes were not synced."""
+        if self.why == "cut" and len(self.cut) > WINDOW:
+            return not self.has_right()
         return self.why in ("whole", "cut") or self.why in ("length", "chain") and len(self.cut) <= WINDOW
 
     def kept(self) -> bytes:
         """What is kept beside the log: nothing, if it is the beginning of a frame."""
-        return b"" if self.why == "cut" else self.cut
+        return b"" if self.why == "cut" and not self.has_right() else self.cut
 
     def greeting(self) -> str:
         it = self.model

@@ -162,7 +162,13 @@ def left_behind(version: int) -> dict[str, bytes]:
     written = log + bytes(500) + chained(frame, [abort(2), abort(7)])
     ends = {f"{number} frames": log[:end] for number, end in enumerate([HEADER, *(end for _, end in spans_of(log))])}
     return {**torn, **{name: log + it for name, it in behind.items()}, **ends, "right frames behind a hole": written,
-            "a record that was changed": flipped(log, len(log) - 50)}
+            "a record that was changed": flipped(log, len(log) - 50), "right frames behind a length that was changed": longer(log)}
+
+
+def longer(log: bytes) -> bytes:
+    """The log with a length in its third record that is greater than the rest of the log, so that the front ends by `cut` there."""
+    at = [end for _, end in spans_of(log)][1]
+    return log[:at] + bytes([log[at] | 8]) + log[at + 1:]
 
 
 def start(name: str, left: bytes) -> None:
@@ -209,7 +215,8 @@ def no_crash() -> None:
             "a record that is not lawful": framed(log, commit(99)), "an unlawful record, and more": framed(framed(log, commit(99)), commit(2)),
             "a KILL in version 1": framed(CUT_OFF[1], b"\x0a" + bytes(12)),
             "zeros, and one byte more than a crash leaves": log + bytes(WINDOW + 1), "garbage of more": log + b"\xa5" * (WINDOW + 1),
-            "a change in an early record": flipped(framed(log, checkpoint(bytes(WINDOW))), 60)}
+            "a change in an early record": flipped(framed(log, checkpoint(bytes(WINDOW))), 60),
+            "a change in an early length": longer(framed(log, checkpoint(bytes(WINDOW))))}
     for name, bytes_ in none.items():
         put("none.log", bytes_)
         it = Served("none.log")
