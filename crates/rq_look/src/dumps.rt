@@ -121,7 +121,8 @@ pub(crate) fn put_frames<W: Output>(
             return Ok(());
         }
         let frame = ShownFrame::behind(bytes, *span);
-        if put_entry(alloc, wanted, &frame, text, output)? {
+        let is_wanted = put_entry(alloc, wanted, &frame, text, output)?;
+        if is_wanted {
             most -= 1;
         }
     }

@@ -1,7 +1,8 @@
-use Rattle.std.proofs.Common.{◌++◌, [], Bool, List, ℕ, refl, sym, subst, string_bytes}
-use Rattle.rq_look.specs.Dumps.{IsCount, IsShownBehind}
+use Rattle.std.proofs.Common.{◌++◌, [], Bool, List, ℕ, length, refl, sym, subst, string_bytes}
+use Rattle.rq_front.specs.declared.spans.Span.{Span}
+use Rattle.rq_behind.specs.Behind.{StandApart}
+use Rattle.rq_look.specs.Dumps.{AreLinesBehind, IsCount, IsShownBehind}
 use Rattle.rq_look.specs.Findings.{IsBehind}
-use Rattle.rq_behind.proofs.Sound.{found_apart}
 use Rattle.rq_look.proofs.Gathered.{none_gathered, kept_back, both_gathered}
 use Rattle.rq_look.proofs.dumps.put_wanted_behind.Goals as goal
 
@@ -15,9 +16,11 @@ returns-then-not-wanted-clause-shown g c = (
 )
 
 pub put_frames-requires-clause-apart : goal.put_frames-requires-clause-apart
-put_frames-requires-clause-apart g c =
-    let found = c.in_ok-found.ensures.found in
-    (_, found_apart found.0 c.args.bytes.now _ _ _ c.requires.within.1 found.2)
+put_frames-requires-clause-apart g c = (
+  c.args.end.now.front.used,
+  subst (λ (ss : List Span). StandApart c.args.end.now.front.used (length c.args.bytes.now) ss) (sym c.deref.ensures.value)
+      c.in_ok-found.ensures.apart,
+)
 
 pub returns-clause-shown : goal.returns-clause-shown
 returns-clause-shown g c =
@@ -39,7 +42,8 @@ returns-clause-shown g c =
             is,
             subst (λ (n : ℕ). IsBehind b n c.in_ok-found.found) e.used found,
             found.1,
-            frames.1 found.0 found.1,
+            subst (λ (ss : List Span). AreLinesBehind w found.0 b c.args.most ss frames.0) c.deref.ensures.value
+                (frames.1 found.0 found.1),
             subst (λ (n : ℕ). IsCount w.json c.in_ok-found.found n count.0) e.total count.1,
             refl,
           ),
