@@ -28,11 +28,8 @@ payload_of text = if bytes_eq text (codes "-") then Some []
     else at_most_a_payload (decode_of text)
 
 -- a name, and what comes after its space
-unfoldable pub name_field : List ℕ → Option (List ℕ × List ℕ)
-name_field text = do
-  word ← field_at text
-  name ← name_of word.0
-  Some (name, word.1)
+abbrev pub name_field : List ℕ → Option (List ℕ × List ℕ)
+name_field text = field_at text >>= λ word. name_of word.0 >>= λ name. Some (name, word.1)
 
 -- a name, or none if it is `-`
 abbrev pub optional_name : List ℕ → Option (Option (List ℕ))
@@ -115,14 +112,17 @@ word_request text =
     else if bytes_eq text (codes "close") then Some requests.Close
     else None
 
+-- what a first word asks for of a registrant
+abbrev pub registrant_asked : List ℕ → List ℕ × List ℕ → Option Request
+registrant_asked word x =
+    if bytes_eq word (codes "register") then Some (requests.Register x.0 x.1)
+    else if bytes_eq word (codes "deregister") then Some (requests.Deregister x.0 x.1)
+    else if bytes_eq word (codes "last") then Some (requests.Last x.0 x.1)
+    else None
+
 -- a first word about a registrant, and what comes after it
-unfoldable pub registrant_request : List ℕ → List ℕ → Option Request
-registrant_request word rest = do
-  x ← registration_words rest
-  if bytes_eq word (codes "register") then Some (requests.Register x.0 x.1)
-  else if bytes_eq word (codes "deregister") then Some (requests.Deregister x.0 x.1)
-  else if bytes_eq word (codes "last") then Some (requests.Last x.0 x.1)
-  else None
+abbrev pub registrant_request : List ℕ → List ℕ → Option Request
+registrant_request word rest = registration_words rest >>= λ x. registrant_asked word x
 
 -- a first word, and what comes after it
 unfoldable pub words_request : List ℕ → List ℕ → Option Request

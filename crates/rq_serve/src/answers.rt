@@ -1,7 +1,8 @@
 //! What is answered, and the lines that spell it.
 
 ghost use Rattle.std.specs.Prelude.{◌≡◌, ◌++◌, OnOk, IfErr, string_bytes};
-ghost use Rattle.rq_model.specs.Reports.{element_line, element_text, payload_text};
+ghost use Rattle.std.specs.List.{flat_map};
+ghost use Rattle.rq_model.specs.Reports.{element_line, element_text, hex_of, payload_text};
 ghost use Rattle.rq_record.specs.declared.fault.Fault.TheVariants.{Resources};
 ghost use Rattle.rq_state.specs.Views.{id_of};
 ghost use Rattle.rq_serve.specs.Answers.{answer_lines, answer_text, taken_text, told_last};
@@ -47,6 +48,14 @@ pub enum Answer {
     NoRequest,
 }
 
+// Puts bytes in hexadecimal.
+fn put_digits(text: &mut String, bytes: &[u8]) -> Result<(), AllocError>
+    ensures { OnOk result (string_bytes text.new ≡ string_bytes text.old ++ flat_map hex_of bytes.now) }
+{
+    let digits = hex::encode(*text.allocator(), bytes)?;
+    text.push_str(&digits)
+}
+
 // Puts the bytes of a payload in hexadecimal, or `-` for none.
 fn put_payload(text: &mut String, bytes: &[u8]) -> Result<(), AllocError>
     ensures { OnOk result (string_bytes text.new ≡ string_bytes text.old ++ payload_text bytes.now) }
@@ -54,8 +63,7 @@ fn put_payload(text: &mut String, bytes: &[u8]) -> Result<(), AllocError>
     if bytes.is_empty() {
         return text.push_str("-");
     }
-    let digits = hex::encode(*text.allocator(), bytes)?;
-    text.push_str(&digits)
+    put_digits(text, bytes)
 }
 
 /// Puts an element as a report has it: `e`, its id, the queue that it was put in, its priority and
@@ -144,7 +152,7 @@ impl Answer {
         }
     }
 
-    /// AddsAnswer its lines to the text. Refused with `Resources`: a beginning of them may stand there.
+    /// Adds its lines to the text. Refused with `Resources`: a beginning of them may stand there.
     pub fn put(&self, text: &mut String) -> Result<(), Fault>
         ensures lines { OnOk result (string_bytes text.new
             ≡ string_bytes text.old ++ answer_lines self.now) }

@@ -295,7 +295,7 @@ fn close<D: Device + Drop>(alloc: Global, m: &mut Manager<D>) -> Result<Answer, 
 fn done_outside<D: Device + Drop>(
     alloc: Global,
     m: &mut Manager<D>,
-    request: Request,
+    request: &Request,
 ) -> Result<Answer, Undone>
     requires { IsInOrder (stand_of D.written D.synced D.doubted D.failed m.old) }
     ensures { IsInOrder (stand_of D.written D.synced D.doubted D.failed m.new) }
@@ -305,17 +305,17 @@ fn done_outside<D: Device + Drop>(
             queue,
             limit,
             error,
-        } => define(alloc, m, queue, limit, error),
-        Request::Register { queue, who } => register(alloc, m, queue, who),
-        Request::Deregister { queue, who } => deregister(alloc, m, queue, who),
-        Request::Begin { unit } => begin(alloc, m, unit),
-        Request::Kill { queue, element } => kill(alloc, m, &queue, element),
+        } => define(alloc, m, *queue, *limit, *error),
+        Request::Register { queue, who } => register(alloc, m, *queue, *who),
+        Request::Deregister { queue, who } => deregister(alloc, m, *queue, *who),
+        Request::Begin { unit } => begin(alloc, m, *unit),
+        Request::Kill { queue, element } => kill(alloc, m, queue, *element),
         Request::Checkpoint => Ok(Answer::Checkpoint(m.checkpoint(alloc)?)),
-        Request::Last { queue, who } => tell_last(alloc, m, &queue, &who),
+        Request::Last { queue, who } => tell_last(alloc, m, queue, who),
         Request::Queues => queues_told(alloc, m),
         Request::Queue { queue, count } => {
-            let queue = expect_queue(m, &queue)?;
-            listed(alloc, m, queue, count as usize)
+            let queue = expect_queue(m, queue)?;
+            listed(alloc, m, queue, *count as usize)
         }
         Request::Close => close(alloc, m),
         _ => Ok(Answer::Done),
@@ -353,6 +353,6 @@ pub(crate) fn done<D: Device + Drop>(
         },
         Request::Commit { unit, is_later } => commit(alloc, m, doomed, unit, is_later),
         Request::Abort { unit } => abort(alloc, m, doomed, unit),
-        other => done_outside(alloc, m, other),
+        other => done_outside(alloc, m, &other),
     }
 }

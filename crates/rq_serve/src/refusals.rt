@@ -2,6 +2,7 @@
 
 ghost use Rattle.std.specs.Prelude.{◌≡◌};
 ghost use Rattle.rq_serve.specs.Answers.{refused_text, refused_word};
+ghost use Rattle.rq_serve.specs.Refusals.{refused_by, refused_for};
 
 use rq_lawful::Rule;
 use rq_live::NotDone;
@@ -37,7 +38,9 @@ pub enum Refused {
 
 impl Refused {
     // The refusal of a record that breaks a rule.
-    fn by_rule(rule: Rule) -> Refused {
+    fn by_rule(rule: Rule) -> Refused
+        ensures { result ≡ refused_by rule }
+    {
         match rule {
             Rule::NotOpen(_) => Refused::NoUnit,
             Rule::NotDefined(_) => Refused::NoQueue,
@@ -53,7 +56,9 @@ impl Refused {
     }
 
     /// The refusal of what a manager did not do; none if it is spent.
-    pub fn of(why: NotDone) -> Option<Refused> {
+    pub fn of(why: NotDone) -> Option<Refused>
+        ensures { result ≡ refused_for why }
+    {
         match why {
             NotDone::Unlawful(rule) => Some(Refused::by_rule(rule)),
             NotDone::Full => Some(Refused::Full),

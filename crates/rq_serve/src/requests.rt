@@ -6,8 +6,7 @@ ghost use Rattle.rq_serve.specs.Requests as spec;
 ghost use Rattle.rq_serve.specs.Serving.{asks_safety};
 
 use crate::words::{
-    cut_once, name_word, number_word, optional_name, read_by, read_name, read_number, read_payload,
-    word,
+    cut_once, number_word, optional_name, read_by, read_name, read_number, read_payload, word,
 };
 use rq_record::{By, ElemId, Fault, Name, Payload, UnitNo};
 use std::alloc::Global;
@@ -92,7 +91,8 @@ pub enum Request {
 fn registration(text: &[u8]) -> Result<(Name, Name), Fault>
     ensures { Gives (λ x. x) result (spec.registration_words text.now) }
 {
-    let (queue, who) = name_word(text)?;
+    let (queue, who) = word(text)?;
+    let queue = read_name(queue)?;
     let who = read_name(who)?;
     Ok((queue, who))
 }
@@ -101,7 +101,8 @@ fn registration(text: &[u8]) -> Result<(Name, Name), Fault>
 fn define(text: &[u8]) -> Result<Request, Fault>
     ensures { Gives (λ x. x) result (spec.define_words text.now) }
 {
-    let (queue, rest) = name_word(text)?;
+    let (queue, rest) = word(text)?;
+    let queue = read_name(queue)?;
     let (limit, error) = number_word(65_535, rest)?;
     let error = optional_name(error)?;
     Ok(Request::Define {
@@ -123,7 +124,8 @@ fn enqueue(alloc: Global, text: &[u8]) -> Result<Request, Fault>
     ensures { Gives (λ x. x) result (spec.enqueue_words text.now) }
 {
     let (unit, rest) = number_word(u64::MAX, text)?;
-    let (queue, rest) = name_word(rest)?;
+    let (queue, rest) = word(rest)?;
+    let queue = read_name(queue)?;
     let (priority, rest) = number_word(255, rest)?;
     let (who, rest) = word(rest)?;
     let (tag, rest) = number_word(u64::MAX, rest)?;
@@ -143,7 +145,8 @@ fn dequeue(text: &[u8]) -> Result<Request, Fault>
     ensures { Gives (λ x. x) result (spec.dequeue_words text.now) }
 {
     let (unit, rest) = number_word(u64::MAX, text)?;
-    let (queue, rest) = name_word(rest)?;
+    let (queue, rest) = word(rest)?;
+    let queue = read_name(queue)?;
     let (who, tag) = word(rest)?;
     let tag = read_number(u64::MAX, tag)?;
     let by = read_by(who, tag)?;
@@ -170,7 +173,8 @@ fn commit(text: &[u8]) -> Result<Request, Fault>
 fn kill(text: &[u8]) -> Result<Request, Fault>
     ensures { Gives (λ x. x) result (spec.kill_words text.now) }
 {
-    let (queue, element) = name_word(text)?;
+    let (queue, element) = word(text)?;
+    let queue = read_name(queue)?;
     let element = read_number(u64::MAX, element)?;
     Ok(Request::Kill {
         queue,
@@ -182,7 +186,8 @@ fn kill(text: &[u8]) -> Result<Request, Fault>
 fn listing(text: &[u8]) -> Result<Request, Fault>
     ensures { Gives (λ x. x) result (spec.listing_words text.now) }
 {
-    let (queue, count) = name_word(text)?;
+    let (queue, count) = word(text)?;
+    let queue = read_name(queue)?;
     let count = read_number(u64::MAX, count)?;
     Ok(Request::Queue { queue, count })
 }
@@ -207,7 +212,6 @@ fn of_word(text: &[u8]) -> Result<Request, Fault>
 }
 
 // The request of a first word about a registrant, and of what comes after it.
-#[tactic(auto, unfolding(crate::specs::Requests::registrant_request))]
 fn of_registrant(word: &[u8], rest: &[u8]) -> Result<Request, Fault>
     ensures { Gives (λ x. x) result (spec.registrant_request word.now rest.now) }
 {

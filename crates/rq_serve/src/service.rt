@@ -1,8 +1,10 @@
 //! A manager serves a program at two pipes.
 
-ghost use Rattle.std.specs.Prelude.{◌≡◌, ◌<◌, ◌≤◌, [], length, Err, OnOk, IfOk, true, false, string_bytes};
+ghost use Rattle.std.specs.Prelude.{◌≡◌, ◌<◌, ◌≤◌, [], length, Err, OnOk, IfOk, IfSome, true, false};
+ghost use Rattle.std.specs.Prelude.{string_bytes};
 ghost use Rattle.std.specs.Io.KnownBytes.{Appends};
 ghost use Rattle.rq_live.specs.Managers.{IsInOrder, Settles, stand_of};
+ghost use Rattle.rq_writer.specs.Reading.{cut_at};
 ghost use Rattle.rq_serve.specs.Serving.{EndsLine};
 
 use crate::requests::LONGEST;
@@ -79,6 +81,40 @@ where
     Ok(())
 }
 
+// The next line of the bytes, and what comes after it; none behind a line that closed.
+fn next_line(is_closed: bool, bytes: &[u8]) -> Option<(&[u8], &[u8])>
+    ensures { IfSome result (λ x. cut_at 10 bytes.now ≡ Some (x.0.now, x.1.now)) }
+{
+    if is_closed {
+        return None;
+    }
+    cut_once(b'\n', bytes)
+}
+
+// Does a line, and tells all answers if they are long together.
+fn done_line<D, O>(
+    alloc: Global,
+    m: &mut Manager<D>,
+    session: &mut Session,
+    output: &mut O,
+    line: &[u8],
+) -> Result<(), Unserved>
+where
+    D: Device + Drop,
+    O: Output,
+    requires order { IsInOrder (stand_of D.written D.synced D.doubted D.failed m.old) }
+    requires faults { O.faults output.old < 18446744073709551615 }
+    ensures order { IsInOrder (stand_of D.written D.synced D.doubted D.failed m.new) }
+    ensures works { OnOk result (O.faults output.new ≡ O.faults output.old) }
+    ensures spent { result ≡ Err Unserved.Spent → O.faults output.new ≡ O.faults output.old }
+{
+    session.take(alloc, m, line)?;
+    if session.answers.len() > ANSWERS {
+        return tell(m, session, output);
+    }
+    Ok(())
+}
+
 // Does each whole line of the bytes, and answers how many bytes these are.
 fn done_lines<D, O>(
     alloc: Global,
@@ -98,15 +134,9 @@ where
     ensures spent { result ≡ Err Unserved.Spent → O.faults output.new ≡ O.faults output.old }
 {
     let mut rest = bytes;
-    while let Some((line, after)) = cut_once(b'\n', rest) {
-        session.take(alloc, m, line)?;
+    while let Some((line, after)) = next_line(session.is_closed, rest) {
+        done_line(alloc, m, session, output, line)?;
         rest = after;
-        if session.answers.len() > ANSWERS {
-            tell(m, session, output)?;
-        }
-        if session.is_closed {
-            break;
-        }
     }
     Ok(bytes.len().saturating_sub(rest.len()))
 }

@@ -43,7 +43,7 @@ impl Session {
         }
     }
 
-    // AddsAnswer an answer, which says that all before it is safe, or does not.
+    // Adds an answer, which says that all before it is safe, or does not.
     fn add(&mut self, answer: &Answer, is_safe: bool) -> Result<(), Spent>
         ensures lines { OnOk result (string_bytes self.new.answers
             ≡ string_bytes self.old.answers ++ answer_lines answer.now) }

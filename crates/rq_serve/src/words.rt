@@ -70,16 +70,6 @@ pub(crate) fn read_name(text: &[u8]) -> Result<Name, Fault>
     }
 }
 
-/// A name, and what comes after its space.
-#[tactic(auto, unfolding(crate::specs::Requests::name_field))]
-pub(crate) fn name_word(text: &[u8]) -> Result<(Name, &[u8]), Fault>
-    ensures { Gives (λ x. (x.0, x.1.now)) result (spec.name_field text.now) }
-{
-    let (word, rest) = word(text)?;
-    let name = read_name(word)?;
-    Ok((name, rest))
-}
-
 /// The name that a text is, or none if it is `-`.
 pub(crate) fn optional_name(text: &[u8]) -> Result<Option<Name>, Fault>
     ensures { Gives (λ x. x) result (spec.optional_name text.now) }

@@ -3,9 +3,7 @@
 use rq_device::Memory;
 use rq_live::Manager;
 use rq_record::Version;
-use rq_report::{OverRead, OverWrite};
-use rq_serve::{Unserved, serve};
-use std::io::Cursor;
+use rq_rows::answers_to;
 use std::test::Fail;
 
 // What is asked: each request once at least, and each way in which one is refused.
@@ -92,10 +90,8 @@ const ANSWERED: &str = "queue 0\n\
 fn a_program_is_served(rt: HostRuntime) -> Result<(), Fail> {
     let alloc = rt.alloc();
     let mut m = Manager::new(alloc, Version::Two, Memory::new(alloc))?;
-    let mut input = OverRead::new(Cursor::new(ASKED));
-    let mut output = OverWrite::new(Vec::new(alloc));
-    assert_eq!(rt; serve(alloc, &mut m, &mut input, &mut output), Ok(()));
-    assert_eq!(rt; output.into_inner().as_slice(), ANSWERED.as_bytes());
+    let answered = answers_to(alloc, &mut m, ASKED).ok().ok_or("served")?;
+    assert_eq!(rt; answered.as_slice(), ANSWERED.as_bytes());
     assert_eq!(rt; m.device().synced(), m.device().bytes().len());
     Ok(())
 }
@@ -105,9 +101,8 @@ fn a_program_is_served(rt: HostRuntime) -> Result<(), Fail> {
 fn half_a_line_is_not_done(rt: HostRuntime) -> Result<(), Fail> {
     let alloc = rt.alloc();
     let mut m = Manager::new(alloc, Version::Two, Memory::new(alloc))?;
-    let mut input = OverRead::new(Cursor::new(b"define jobs 0 -\nbegin\nbegin 10".as_slice()));
-    let mut output = OverWrite::new(Vec::new(alloc));
-    assert_eq!(rt; serve(alloc, &mut m, &mut input, &mut output), Ok(()));
-    assert_eq!(rt; output.into_inner().as_slice(), b"queue 0\nunit 1\n".as_slice());
+    let asked = b"define jobs 0 -\nbegin\nbegin 10".as_slice();
+    let answered = answers_to(alloc, &mut m, asked).ok().ok_or("served")?;
+    assert_eq!(rt; answered.as_slice(), b"queue 0\nunit 1\n".as_slice());
     Ok(())
 }
