@@ -4,10 +4,8 @@ ghost use Rattle.std.specs.Prelude.{◌≡◌, ◌≤◌, ℕ, List, [], OnOk, I
 ghost use Rattle.std.specs.Prelude.{length, map, take, drop};
 ghost use Rattle.rq_model.specs.Records as model;
 ghost use Rattle.rq_record.specs.Views.{record_of, version_of};
-ghost use Rattle.rq_record.specs.declared.fault.Fault.TheVariants as faults;
 ghost use Rattle.rq_front.specs.Framers.{Place, behind_header};
 ghost use Rattle.rq_judged.specs.JudgedFronts.{IsJudged, IsJudgedAt};
-ghost use Rattle.rq_restart.specs.RedoneFronts.{IsRedoneAt, IsRedoneFront};
 ghost use Rattle.rq_journal.specs.Appenders.{IsAppenderAt, IsSpelled, IsJudgedAs};
 ghost use Rattle.rq_journal.specs.Appenders.{Refuses, KeepsPlace, AppendsUpTo, AppendsOne, AppendsEach};
 ghost use Rattle.rq_journal.specs.Openings.{IsOpened, IsOpenedAt};
@@ -19,7 +17,6 @@ use rq_lawful::Rule;
 use rq_record::{
     CheckBytes, Fault, KeptBy, KeptPayload, KeptRecord, Payload, Record, Version, encode,
 };
-use rq_restart::RedoneFront;
 use std::alloc::Global;
 
 /// Why a record is not taken.
@@ -196,20 +193,5 @@ impl Opened {
             framer: Framer::after(last, end.used),
         };
         Opened { appender, end }
-    }
-
-    /// Stands behind a front of which the state was made. Refused with `Resources` alone.
-    pub fn of_redone(alloc: Global, front: &RedoneFront) -> Result<Opened, Fault>
-        ensures whole { IfOk result (λ opened. (b : List ℕ) → IsRedoneFront b front.now → IsOpened b opened) }
-        ensures from { IfOk result (λ opened. (b : List ℕ) (offset : ℕ) → IsRedoneAt b offset front.now
-            → IsOpenedAt b offset opened) }
-        ensures refused { IfErr result (λ e. e ≡ faults.Resources) }
-    {
-        let judge = Judge::of(alloc, front.version, &front.state)?;
-        Ok(Opened::of(JudgedFront {
-            judge,
-            last: front.last,
-            end: front.end,
-        }))
     }
 }
