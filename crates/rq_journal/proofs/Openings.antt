@@ -1,4 +1,5 @@
--- The appender of a judged front, of a log or from a checkpoint on, and records behind the front.
+-- The appender of a judged front, of a log or from a checkpoint on, and records behind the front; and the judge behind a
+-- front of which the state was made.
 use Rattle.std.proofs.Common.{◌≡◌, ℕ, ◌≤◌, List, ◌∷◌, length, drop, ap, arith, [], ◌++◌, sym, subst, ◌∙◌}
 use Rattle.std.proofs.lemmas.List.{length-append, length-drop}
 use Rattle.rq_model.specs.Records.{Record, Checkpoint, Version}
@@ -7,6 +8,12 @@ use Rattle.rq_model.specs.Fronts.{IsFront}
 use Rattle.rq_model.proofs.Longest.{front_whole, log_joins}
 use Rattle.rq_model.proofs.Restarts.{header_long}
 use Rattle.rq_model.specs.Appending.{CrashWhileAppending, AppendedIsFront}
+use Rattle.rq_model.specs.States.{State}
+use Rattle.rq_record.specs.Views.{version_of}
+use Rattle.rq_catalog.specs.declared.judge.Judge.{Judge}
+use Rattle.rq_catalog.specs.Judges.{StandsIn}
+use Rattle.rq_restart.specs.declared.redone.RedoneFront.{RedoneFront}
+use Rattle.rq_restart.specs.RedoneFronts.{IsRedoneAt, IsRedoneFront}
 use Rattle.rq_judged.specs.declared.judged.JudgedFront.{JudgedFront}
 use Rattle.rq_judged.specs.JudgedFronts.{IsJudged, IsJudgedAt}
 use Rattle.rq_front.specs.declared.framer.Framer.{Framer}
@@ -16,6 +23,38 @@ use Rattle.rq_journal.specs.Openings.{IsOpened, IsOpenedAt, AreWrittenBehind}
 use Rattle.rq_journal.specs.declared.appender.Appender.{Appender}
 use Rattle.rq_journal.specs.declared.appender.Opened.{Opened}
 use Rattle.rq_journal.proofs.Taking.{later}
+
+-- a judge of the state behind a front
+abbrev pub with_judge : RedoneFront → Judge → JudgedFront
+with_judge f j = record { judge = j; last = f.last; end = f.end }
+
+pub judged_of : (b : List ℕ) (f : RedoneFront) (j : Judge) → IsRedoneFront b f → StandsIn (version_of f.version) j f.state
+    → IsJudged b (with_judge f j)
+judged_of b f j h stands = record {
+  version = version_of f.version;
+  records = h.records;
+  front = h.front;
+  ends = h.ends;
+  used = h.used;
+  count = h.count;
+  last = h.last;
+  judge = subst (λ (s : State). StandsIn (version_of f.version) j s) h.state stands;
+}
+
+pub judged_at : (b : List ℕ) (offset : ℕ) (f : RedoneFront) (j : Judge) → IsRedoneAt b offset f
+    → StandsIn (version_of f.version) j f.state → IsJudgedAt b offset (with_judge f j)
+judged_at b offset f j h stands = record {
+  version = version_of f.version;
+  base = h.base;
+  kept = h.kept;
+  after = h.after;
+  front = h.front;
+  ends = h.ends;
+  used = h.used;
+  count = h.count;
+  last = h.last;
+  judge = subst (λ (s : State). StandsIn (version_of f.version) j s) h.state stands;
+}
 
 -- how long a log is
 pub log_long : (version : Version) (rs : List Record)

@@ -1,15 +1,12 @@
 -- Records whose frames are gathered behind the front of a log, and what a crash leaves of them.
-use Rattle.std.specs.Prelude.{◌≡◌, ◌≤◌, ◌+◌, ℕ, List, [], ◌∷◌, ◌++◌, length, drop}
+use Rattle.std.specs.Prelude.{◌≡◌, ◌+◌, ℕ, List, [], ◌∷◌, ◌++◌, length, drop}
 use Rattle.rq_model.specs.Records.{Record, Checkpoint, Version}
-use Rattle.rq_model.specs.Frames.{log_limit, log_of, frames_of, last_of, before}
+use Rattle.rq_model.specs.Frames.{log_of, frames_of, last_of, before}
 use Rattle.rq_model.specs.States.{State}
-use Rattle.rq_model.specs.Machine.{run}
 use Rattle.rq_model.specs.Fronts.{IsFront}
 use Rattle.rq_model.specs.Carrying.{IsFrontAt}
 use Rattle.rq_model.specs.Appending.{MayFollow, HasGrown}
-use Rattle.rq_record.specs.Views.{version_of}
-use Rattle.rq_front.specs.Framers.{Place, behind_header, at_checkpoint, length_with}
-use Rattle.rq_restart.specs.declared.redone.RedoneFront.{RedoneFront}
+use Rattle.rq_front.specs.Framers.{Place, behind_header, at_checkpoint}
 use Rattle.rq_journal.specs.Appenders.{IsAppenderAt, IsRefused}
 use Rattle.rq_journal.specs.declared.appender.NotTaken.{NotTaken}
 use Rattle.rq_journal.specs.declared.growths.Growth.{Growth}
@@ -64,12 +61,3 @@ StopsGrowing a r why = (at : Place) (rs xs : List Record) → IsGrownAt at rs xs
 -- wherever a stood, b stands
 abbrev pub StaysGrown : Growth → Growth → Type 0
 StaysGrown a b = (at : Place) (rs xs : List Record) → IsGrownAt at rs xs a → IsGrownAt at rs xs b
-
--- the front ends behind these records, in the state there
-pub record IsRedoneBehind (at : Place) (rs : List Record) (f : RedoneFront) : Type 0 where
-  pub rules : version_of f.version ≡ at.version
-  pub may : MayFollow at.version at.state rs
-  pub short : length_with at rs ≤ log_limit
-  pub state : f.state ≡ run at.state rs
-  pub last : f.last ≡ last_of at.link rs
-  pub used : f.end.used ≡ length_with at rs

@@ -1,13 +1,12 @@
 //! What takes records behind the front of a log, and gives their frames; and where it stands there.
 
-ghost use Rattle.std.specs.Prelude.{◌≡◌, ◌≤◌, ℕ, List, [], OnOk, IfOk, IfErr};
-ghost use Rattle.std.specs.Prelude.{length, map, take, drop};
+ghost use Rattle.std.specs.Prelude.{◌≡◌, ℕ, List, [], OnOk, IfOk, IfErr};
 ghost use Rattle.rq_model.specs.Records as model;
 ghost use Rattle.rq_record.specs.Views.{record_of, version_of};
 ghost use Rattle.rq_front.specs.Framers.{Place, behind_header};
 ghost use Rattle.rq_judged.specs.JudgedFronts.{IsJudged, IsJudgedAt};
 ghost use Rattle.rq_journal.specs.Appenders.{IsAppenderAt, IsSpelled, IsJudgedAs};
-ghost use Rattle.rq_journal.specs.Appenders.{Refuses, KeepsPlace, AppendsUpTo, AppendsOne, AppendsEach};
+ghost use Rattle.rq_journal.specs.Appenders.{Refuses, KeepsPlace, AppendsOne};
 ghost use Rattle.rq_journal.specs.Openings.{IsOpened, IsOpenedAt};
 
 use rq_catalog::Judge;
@@ -144,30 +143,6 @@ impl Appender {
         self.framer.put(body, out).unwrap();
         Ok(())
     }
-
-    /// Takes the records one by one, up to the first that is not taken, and appends their frames.
-    /// Answers how many were taken, and why the next was not; none where all were.
-    pub fn append_each(
-        &mut self,
-        alloc: Global,
-        records: &[Record],
-        out: &mut Vec<u8>,
-    ) -> (usize, Option<NotTaken>)
-        ensures within { result.0 ≤ length records.now }
-        ensures taken { AppendsEach self.old self.new (map record_of (take result.0 records.now))
-            out.old.items out.new.items }
-        ensures stops { AppendsUpTo self.old (map record_of (take result.0 records.now))
-            (map record_of (drop result.0 records.now)) result.1 }
-    {
-        let mut count = 0;
-        for next in records {
-            if let Err(why) = self.append(alloc, next, out) {
-                return (count, Some(why));
-            }
-            count += 1;
-        }
-        (count, None)
-    }
 }
 
 /// An appender that stands where the front of a log ends, and where that is.
@@ -186,6 +161,7 @@ impl Opened {
     pub fn of(front: JudgedFront) -> Opened
         ensures whole { (b : List ℕ) → IsJudged b front → IsOpened b result }
         ensures from { (b : List ℕ) (offset : ℕ) → IsJudgedAt b offset front → IsOpenedAt b offset result }
+        ensures end { result.end ≡ front.end }
     {
         let JudgedFront { judge, last, end } = front;
         let appender = Appender {

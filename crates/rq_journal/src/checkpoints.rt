@@ -129,7 +129,8 @@ impl Growth {
         ensures refused { IfErr result (StaysUnended self.old state.now) }
         ensures end { self.new.end ≡ self.old.end }
     {
-        let count = state.units().len();
+        let units = state.units();
+        let count = units.len();
         if count as u64 > State::RECORDS.saturating_sub(state.next()) {
             return Err(NotMarked::Ended);
         }
@@ -139,7 +140,7 @@ impl Growth {
         let Ok(mut machine) = Machine::of(alloc, state) else {
             return Err(NotMarked::Resources);
         };
-        self.end_each(alloc, &mut machine, state.units())?;
+        self.end_each(alloc, &mut machine, units)?;
         match machine.state(alloc) {
             Ok(state) => Ok(state),
             Err(_) => Err(NotMarked::Resources),

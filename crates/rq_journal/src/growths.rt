@@ -5,14 +5,14 @@ ghost use Rattle.rq_model.specs.Records as model;
 ghost use Rattle.rq_record.specs.Views.{record_of, version_of};
 ghost use Rattle.rq_record.specs.declared.fault.Fault.TheVariants.{Resources};
 ghost use Rattle.rq_front.specs.Framers.{Place};
+ghost use Rattle.rq_restart.specs.RedoneFronts.{IsRedoneAt, IsRedoneFront};
 ghost use Rattle.rq_journal.specs.Growths.{AreWrittenFrom, GrowsBy, IsGrownAt, IsGrownBehind};
-ghost use Rattle.rq_journal.specs.Growths.{IsGrownFrom, IsRedoneBehind, StaysGrown, StopsGrowing};
+ghost use Rattle.rq_journal.specs.Growths.{IsGrownFrom, StaysGrown, StopsGrowing};
 ghost use Rattle.rq_journal.specs.Openings.{AreWrittenBehind, IsOpened, IsOpenedAt};
 
 use crate::appender::{Appender, NotTaken, Opened};
 use rq_catalog::Judge;
-use rq_front::Framer;
-use rq_judged::Edge;
+use rq_judged::{Edge, JudgedFront};
 use rq_record::{Fault, Record, Version};
 use rq_restart::RedoneFront;
 use std::alloc::Global;
@@ -33,6 +33,7 @@ impl Growth {
         ensures whole { (b : List ℕ) → IsOpened b opened → IsGrownBehind b [] result }
         ensures from { (b : List ℕ) (offset : ℕ) → IsOpenedAt b offset opened
             → IsGrownFrom b offset [] result }
+        ensures end { result.end ≡ opened.end }
     {
         let Opened { appender, end } = opened;
         Growth {
@@ -44,18 +45,20 @@ impl Growth {
 
     /// No records yet, behind a front of which the state was made. Refused with `Resources` alone.
     pub fn behind_redone(alloc: Global, front: &RedoneFront) -> Result<Growth, Fault>
-        ensures grown { IfOk result (λ growth. (at : Place) (rs : List model.Record)
-            → IsRedoneBehind at rs front.now → IsGrownAt at rs [] growth) }
+        ensures whole { IfOk result (λ growth. (b : List ℕ) → IsRedoneFront b front.now
+            → IsGrownBehind b [] growth) }
+        ensures from { IfOk result (λ growth. (b : List ℕ) (offset : ℕ)
+            → IsRedoneAt b offset front.now → IsGrownFrom b offset [] growth) }
         ensures end { IfOk result (λ growth. growth.end ≡ front.now.end) }
         ensures refused { IfErr result (λ e. e ≡ Resources) }
     {
         let judge = Judge::of(alloc, front.version, &front.state)?;
-        let framer = Framer::after(front.last, front.end.used);
-        Ok(Growth {
-            appender: Appender { judge, framer },
+        let opened = Opened::of(JudgedFront {
+            judge,
+            last: front.last,
             end: front.end,
-            frames: Vec::new(alloc),
-        })
+        });
+        Ok(Growth::behind(alloc, opened))
     }
 
     /// The version by whose rules it takes records.
