@@ -14,10 +14,11 @@ use Rattle.rq_model.proofs.Runs.{frame_long}
 use Rattle.rq_model.proofs.Longest.{frames_of_join, log_joins}
 use Rattle.rq_model.proofs.Restarts.{run_join}
 use Rattle.rq_front.specs.Framers.{Place, behind_header, length_with}
-use Rattle.rq_journal.specs.Checkpoints.{IsCrowdedBy, IsMarked, Marks, MarksTruly, checkpoint_in, unmarked}
+use Rattle.rq_journal.specs.Checkpoints.{IsCrowdedBy, IsMarked, Marks, MarksTruly, StaysUnmarked, checkpoint_in, unmarked}
 use Rattle.rq_journal.specs.Growths.{GrowsBy, IsGrownAt, StopsGrowing}
 use Rattle.rq_journal.specs.declared.appender.NotTaken.{NotTaken}
 use Rattle.rq_journal.specs.declared.appender.NotTaken.TheVariants as not
+use Rattle.rq_journal.specs.declared.checkpoints.NotMarked.{NotMarked}
 use Rattle.rq_journal.specs.declared.growths.Growth.{Growth}
 use Rattle.rq_journal.proofs.Openings.{log_long}
 use Rattle.rq_journal.proofs.Taking.{later}
@@ -120,3 +121,15 @@ marks_truly a b s offset appended truth queues same m whole version rs xs rest f
       report = λ text. same (with_checkpoint version all) (length (log_of version all)) text true_there;
       queues = λ bytes. queues (log_of version all) version all [] bytes front_there fits short;
     }))
+
+pub stays_unmarked : (a : Growth) (s : State) (r : Record) (why : NotTaken) (told : NotMarked) → StopsGrowing a r why
+    → r ≡ checkpoint_in s → told ≡ unmarked why → StaysUnmarked a s told
+stays_unmarked a s r why told h is tells =
+    subst (StaysUnmarked a s) (sym tells)
+    (stays a s why (subst (λ (x : Record). IsCrowdedBy a (x ∷ []) (unmarked why)) is (crowded a r why h)))
+  where
+    stays : (a : Growth) (s : State) (why : NotTaken) → IsCrowdedBy a (checkpoint_in s ∷ []) (unmarked why)
+        → StaysUnmarked a s (unmarked why)
+    stays a s not.Full h = h
+    stays a s (not.Unlawful rule) h = h
+    stays a s not.Resources h = h
