@@ -1,5 +1,5 @@
 -- Units that are ended, and a checkpoint, among the frames that are gathered behind a front.
-use Rattle.std.proofs.Common.{◌≡◌, ◌+◌, ◌*◌, ◌<◌, ◌≤◌, ℕ, List, [], ◌∷◌, ◌++◌, length, map, sym, ap, subst, ◌∙◌}
+use Rattle.std.proofs.Common.{◌≡◌, ◌+◌, ◌-◌, ◌*◌, ◌/◌, ◌<◌, ◌≤◌, ℕ, List, [], ◌∷◌, ◌++◌, length, map, sym, ap, subst, ◌∙◌}
 use Rattle.std.proofs.Common.{append_assoc, refl, arith}
 use Rattle.std.proofs.lemmas.List.{append-nil, length-append}
 use Rattle.rq_model.specs.Records.{Record, Abort, Version}
@@ -67,6 +67,10 @@ ends_long at rs xs g units h =
       length-append (frames_of at.link (rs ++ xs)) (frames_of q (map Abort units)),
       aborts_long q units,
     )
+
+-- room for so many ABORTs in what is left of a log
+pub no_room : (len count left : ℕ) → left ≡ log_limit - len → left / 45 < count → log_limit < len + 45 * count
+no_room len count left is many = omega arith
 
 -- why a record that is lawful is not taken
 pub crowded : (a : Growth) (r : Record) (why : NotTaken) → StopsGrowing a r why → IsCrowdedBy a (r ∷ []) (unmarked why)
