@@ -1,15 +1,15 @@
 //! What is written behind the front of a log: records, a checkpoint, and a log that goes on from it.
 
 use crate::logs::{ONE_ELEMENT, log_of};
-use rq_journal::{Appender, NotTaken, Opened, Rule, carried, is_carried, marked, read_as_log};
+use rq_journal::{Growth, NotTaken, Opened, Rule, carried, is_carried, read_as_log};
 use rq_record::{LogBytes, QueueNo, Record, UnitNo, Version};
 use rq_restart::{Fault, Open, Plan, RedoneFront, Restarted, audit, restart, restart_at};
 use std::alloc::Global;
 use std::test::Fail;
 use std::thread::Threads;
 
-/// Unit 2 takes the element of `ONE_ELEMENT` and commits.
-pub const TAKING: [Record; 3] = [
+// Unit 2 takes the element of `ONE_ELEMENT` and commits.
+const TAKING: [Record; 3] = [
     Record::Begin { unit: UnitNo(2) },
     Record::Dequeue {
         unit: UnitNo(2),
@@ -19,18 +19,27 @@ pub const TAKING: [Record; 3] = [
     Record::Commit { unit: UnitNo(2) },
 ];
 
-/// Whether the records are taken one by one, with these frames, and a second commit is not.
+// Whether the records are taken one by one.
+fn takes_each(alloc: Global, growth: &mut Growth, records: &[Record]) -> bool {
+    for next in records {
+        if growth.append(alloc, next).is_err() {
+            return false;
+        }
+    }
+    true
+}
+
+/// Whether the records of a second unit, which takes the element of `ONE_ELEMENT` and commits, are taken
+/// one by one, with these frames, and a second commit is not.
 pub fn takes(alloc: Global, opened: Opened, frames: &[u8]) -> bool {
-    let mut appender = opened.appender;
-    let mut out = Vec::new(alloc);
-    let is_first = appender.version() == Version::One;
-    let each = appender.append_each(alloc, &TAKING, &mut out);
-    let again = appender.append(alloc, &TAKING[2], &mut out);
+    let mut growth = Growth::behind(alloc, opened);
+    let is_taken = takes_each(alloc, &mut growth, &TAKING);
+    let again = growth.append(alloc, &TAKING[2]);
     let rule = Rule::NotOpen(UnitNo(2));
-    is_first
-        && each == (3, None)
+    is_taken
+        && growth.version() == Version::One
         && again == Err(NotTaken::Unlawful(rule))
-        && out.as_slice() == frames
+        && growth.frames() == frames
 }
 
 // Whether a restart found five records.
@@ -76,12 +85,24 @@ fn is_carried_on<R: Threads + Sync + AllocGlobal>(
     Ok(is_other && is_none && is_read && has_all)
 }
 
+// The log up to the end of its front, and behind that a checkpoint, behind ABORTs of the open units.
+fn marked<R: Threads + Sync + AllocGlobal>(rt: &R, log: Vec<u8>, plan: &Plan) -> Result<Vec<u8>, Fail> {
+    let front = RedoneFront::of(rt, rt.alloc(), &LogBytes::borrowed(&log), plan)?;
+    let mut growth = Growth::behind_redone(rt.alloc(), &front)?;
+    let state = growth.end_units(rt.alloc(), &front.state)?;
+    growth.mark(rt.alloc(), &state)?;
+    let mut log = log;
+    log.truncate(front.end.used);
+    log.extend_from_slice(growth.frames())?;
+    Ok(log)
+}
+
 /// Whether a log of four records is carried on so, and marked where its front ends.
 pub fn is_marked_and_carried_on<R: Threads + Sync + AllocGlobal>(rt: &R) -> Result<bool, Fail> {
     let plan = Plan::new(1, 1).ok_or("plan")?;
     let log = log_of(rt, ONE_ELEMENT)?;
     let is_carried_on = is_carried_on(rt, &log, &plan)?;
     let at = log.len() as u64;
-    let marked = marked(rt, rt.alloc(), log, &plan)?;
+    let marked = marked(rt, log, &plan)?;
     Ok(is_carried_on && goes_on_from(rt, &marked, at, &plan))
 }

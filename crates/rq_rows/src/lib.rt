@@ -15,7 +15,7 @@ mod standby;
 mod surface;
 mod texts;
 
-pub use appenders::{TAKING, is_marked_and_carried_on, takes};
+pub use appenders::{is_marked_and_carried_on, takes};
 pub use by_hand::{is_killed, is_spelled};
 pub use countdowns::{Parcel, tells_a_second_arrival};
 pub use lanes::{are_right, put_message};

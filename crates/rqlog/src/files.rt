@@ -1,9 +1,8 @@
 //! What is written to the file of a log.
 
-use crate::fronts::OpenLog;
 use crate::refusal::{Refusal, Stream, failed};
 use rq_file::Replaces;
-use rq_journal::Ending;
+use rq_journal::{Ending, Growth};
 use rq_log_file::HeldLog;
 use std::fs::{File, Files, OpenFile};
 use std::io::{self, Seek, SeekFrom, Write};
@@ -18,15 +17,20 @@ fn take_back(file: &mut File, used: usize) -> Stream {
     }
 }
 
-/// Writes the frames behind the front of the log, and tells the disk. If that fails, what was
-/// written is taken back, as far as the system lets us.
-pub(crate) fn write_frames<R>(rt: &R, held: &mut HeldLog, log: &OpenLog) -> Result<(), Refusal>
+/// Writes the frames that were gathered behind the front of a log of which so many bytes were read, and
+/// tells the disk. If that fails, what was written is taken back, as far as the system lets us.
+pub(crate) fn write_frames<R>(
+    rt: &R,
+    held: &mut HeldLog,
+    read: usize,
+    growth: &Growth,
+) -> Result<(), Refusal>
 where
     R: Files<File = File>,
 {
-    held.expect_as_read(rt, log.read)?;
-    let used = log.opened.end.used;
-    match write_behind(held.file(), log.read, used, &log.frames) {
+    held.expect_as_read(rt, read)?;
+    let used = growth.end().used;
+    match write_behind(held.file(), read, used, growth.frames()) {
         Ok(()) => Ok(()),
         Err(error) => {
             let left = take_back(held.file(), used);

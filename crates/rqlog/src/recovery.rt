@@ -4,7 +4,7 @@ ghost use Rattle.std.specs.Arc.{arc_slice_items};
 ghost use Rattle.std.specs.Prelude.{IfOk, length};
 ghost use Rattle.rq_live.specs.Kernels.{StandsWithin};
 
-use crate::damage::{BadEnd, LastBytes, LeftOut, left_out};
+use crate::damage::{BadEnd, LastBytes, LeftOut, left_out, tell_left_out};
 use crate::files::write_ending;
 use crate::inputs::{bytes_from, rest_of_log};
 use crate::new_log::put_new;
@@ -285,8 +285,6 @@ where
     } else {
         recover_plain(rt, path, held, ArcSlice::from_vec(read.bytes)?, plan, drops)?
     };
-    if let Some(left) = done.left {
-        left.tell(rt);
-    }
+    tell_left_out(rt, done.left);
     tell_recovered(rt, json, &done).map_err(|error| untold(error))
 }

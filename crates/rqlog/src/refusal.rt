@@ -5,7 +5,7 @@ use crate::refused_lines::{LineRefused, Reason};
 use clap::ArgMatches;
 use clap::error::ErrorKind;
 use rq_found::Seen;
-use rq_journal::Fault;
+use rq_journal::{Fault, NotMarked};
 use rq_log_file::NotHeld;
 use std::alloc::AllocError;
 use std::io;
@@ -97,6 +97,17 @@ impl From<NotHeld> for Refusal {
             NotHeld::Locked => Refusal::Held,
             NotHeld::Changed => Refusal::Changed,
             NotHeld::Failed(error) => failed(Stream::Log, error),
+        }
+    }
+}
+
+impl From<NotMarked> for Refusal {
+    fn from(not: NotMarked) -> Refusal {
+        match not {
+            NotMarked::Ended => Refusal::Ended,
+            NotMarked::Full => Refusal::Full,
+            NotMarked::Large => Refusal::from(Fault::TooLarge),
+            NotMarked::Resources => Refusal::Memory,
         }
     }
 }

@@ -1,13 +1,13 @@
 //! What is written behind the front of a log: records, a checkpoint, and a log that goes on from it.
 
-use rq_journal::{Appender, frames_behind, open};
+use rq_journal::{Appender, open};
 use rq_record::Version;
 use rq_restart::{Plan, Why};
-use rq_rows::{ONE_ELEMENT, TAKING, is_marked_and_carried_on, log_of, records_of, takes};
+use rq_rows::{ONE_ELEMENT, is_marked_and_carried_on, log_of, records_of, takes};
 use std::test::Fail;
 use std::thread::Threads;
 
-// `ONE_ELEMENT`, whose log has 237 bytes, and the lines of `TAKING`.
+// `ONE_ELEMENT`, whose log has 237 bytes, and the lines of what `takes` appends.
 const TAKEN: &[u8] = b"define jobs 0 -\n\
     begin 1\nenqueue 1 0 5 - 0 61\ncommit 1\n\
     begin 2\ndequeue 2 0 - 0\ncommit 2\n";
@@ -30,15 +30,12 @@ fn is_opened<R: Threads + Sync + AllocGlobal>(
     }
 }
 
-// The lines' frames are made all at once, and one by one.
 #[test]
 fn records_are_appended_behind_a_front(rt: HostRuntime) -> Result<(), Fail> {
     let plan = Plan::new(2, 1).ok_or("plan")?;
     let whole = log_of(&rt, TAKEN)?;
     let log = whole.get(..237).unwrap_or(&[]);
     let frames = whole.get(237..).unwrap_or(&[]);
-    let made = frames_behind(&rt, rt.alloc(), log, &TAKING, &plan)?;
-    assert!(rt; made.as_slice() == frames);
     assert!(rt; is_opened(&rt, log, &plan, frames));
     Ok(())
 }
@@ -50,8 +47,9 @@ fn records_are_appended_behind_a_header(rt: HostRuntime) -> Result<(), Fail> {
     let records = records_of(rt.alloc(), Version::One, &log)?;
     let mut appender = Appender::new(rt.alloc(), Version::One);
     let mut frames = Vec::new(rt.alloc());
-    let each = appender.append_each(rt.alloc(), &records, &mut frames);
-    assert!(rt; each == (4, None));
+    for record in &records {
+        assert!(rt; appender.append(rt.alloc(), record, &mut frames) == Ok(()));
+    }
     assert!(rt; frames.as_slice() == log.get(40..).unwrap_or(&[]));
     Ok(())
 }
