@@ -2,7 +2,6 @@
 
 ghost use Rattle.std.specs.Prelude.{◌≡◌, [], ◌∷◌, map, OnOk, IfOk, IfErr};
 ghost use Rattle.rq_model.specs.Records as model;
-ghost use Rattle.rq_model.specs.Frames.{AreBytes};
 ghost use Rattle.rq_model.specs.Machine.{run};
 ghost use Rattle.rq_state.specs.Views.{unit_of};
 ghost use Rattle.rq_journal.specs.Checkpoints.{EndsUnits, MakesCheckpoint, Marks, MarksTruly};
@@ -44,13 +43,6 @@ pub(crate) fn checkpoint_body(alloc: Global, state: &State) -> Result<Vec<u8>, F
     let mut body = Vec::new(alloc);
     encode(&checkpoint, &mut body)?;
     Ok(body)
-}
-
-/// The members of a slice of bytes are bytes of 8 bits.
-pub(crate) fn are_octets(bytes: &[u8])
-    ensures { AreBytes bytes.now }
-{
-    let _ = bytes;
 }
 
 /// Why no checkpoint is gathered.
@@ -150,7 +142,7 @@ impl Growth {
     /// Gathers a checkpoint of the state where it stands. Its offset in the log, where it is true: a
     /// restart from it and one of the whole log have one report. If it is refused, nothing is
     /// gathered.
-    pub fn mark(&mut self, alloc: Global, state: &State) -> Result<usize, NotMarked>
+    pub fn append_checkpoint(&mut self, alloc: Global, state: &State) -> Result<usize, NotMarked>
         ensures marked { IfOk result (Marks self.old self.new state.now) }
         ensures truth { IfOk result (MarksTruly self.old self.new state.now) }
         ensures refused { IfErr result (StaysUnmarked self.old state.now) }

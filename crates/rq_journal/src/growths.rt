@@ -29,7 +29,7 @@ pub struct Growth {
 
 impl Growth {
     /// No records yet, behind the front of a log that was opened.
-    pub fn behind(alloc: Global, opened: Opened) -> Growth
+    pub fn of(alloc: Global, opened: Opened) -> Growth
         ensures whole { (b : List ℕ) → IsOpened b opened → IsGrownBehind b [] result }
         ensures from { (b : List ℕ) (offset : ℕ) → IsOpenedAt b offset opened
             → IsGrownFrom b offset [] result }
@@ -58,7 +58,7 @@ impl Growth {
             last: front.last,
             end: front.end,
         });
-        Ok(Growth::behind(alloc, opened))
+        Ok(Growth::of(alloc, opened))
     }
 
     /// The version by whose rules it takes records.

@@ -90,16 +90,16 @@ AreLinesBehind w version b (suc n) (s ∷ ss) text = (wanted : Bool) × (line mo
     × AreLinesBehind w version b (if wanted then n else suc n) ss more × (text ≡ line ++ more)
 
 -- how many they are: some object of JSON, or the lines that say so
-abbrev pub IsCount : Bool → Found → ℕ → List ℕ → Type 0
-IsCount true found total line = (object : List ℕ) × (line ≡ object ++ codes "\n")
-IsCount false found total line = line ≡ behind_text found total
+abbrev pub IsCountLine : Bool → Found → ℕ → List ℕ → Type 0
+IsCountLine true found total line = (object : List ℕ) × (line ≡ object ++ codes "\n")
+IsCountLine false found total line = line ≡ behind_text found total
 
 -- what stands behind the front of b: the lines of its right frames, so many at most, and how many they
 -- are
 abbrev pub IsBehindFront : Option ℕ → List ℕ → Wanted → ℕ → List ℕ → Type 0
 IsBehindFront at b w most text = (r : Restarted) × (found : Found) × (version : Version)
     × (lines count : List ℕ) × IsRestartFrom at b r × IsBehind b r.used found × HasHeader version b
-    × AreLinesBehind w version b most found.spans.items lines × IsCount w.json found r.total count
+    × AreLinesBehind w version b most found.spans.items lines × IsCountLine w.json found r.total count
     × (text ≡ lines ++ count)
 
 -- it, if it is wanted

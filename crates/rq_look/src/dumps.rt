@@ -13,7 +13,7 @@ ghost use Rattle.rq_front.specs.Chains.{IsLog};
 ghost use Rattle.rq_found.specs.Ends.{IsRestartFrom};
 ghost use Rattle.rq_found.specs.Records.{SpelledIn, front_at};
 ghost use Rattle.rq_found.specs.Refusals.{CountsFaults, IsBroken, StaysUnshown};
-ghost use Rattle.rq_look.specs.Dumps.{AreFrontLines, AreLinesBehind, IsCount, IsShownBehind};
+ghost use Rattle.rq_look.specs.Dumps.{AreFrontLines, AreLinesBehind, IsCountLine, IsShownBehind};
 ghost use Rattle.rq_look.specs.Dumps.{PutsDump, origin};
 ghost use Rattle.rq_look.specs.Findings.{EndsWithin};
 ghost use Rattle.rq_look.specs.Looks.{Gathers, IsClosing};
@@ -137,7 +137,7 @@ pub(crate) fn put_counted(
     total: u64,
     wanted: &Wanted<'_>,
 ) -> Put
-    ensures { OnOk result ((line : List ℕ) × IsCount wanted.now.json found.now total line
+    ensures { OnOk result ((line : List ℕ) × IsCountLine wanted.now.json found.now total line
         × (string_bytes text.new ≡ string_bytes text.old ++ line)) }
 {
     if wanted.json {

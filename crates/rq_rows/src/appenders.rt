@@ -32,7 +32,7 @@ fn takes_each(alloc: Global, growth: &mut Growth, records: &[Record]) -> bool {
 /// Whether the records of a second unit, which takes the element of `ONE_ELEMENT` and commits, are taken
 /// one by one, with these frames, and a second commit is not.
 pub fn takes(alloc: Global, opened: Opened, frames: &[u8]) -> bool {
-    let mut growth = Growth::behind(alloc, opened);
+    let mut growth = Growth::of(alloc, opened);
     let is_taken = takes_each(alloc, &mut growth, &TAKING);
     let again = growth.append(alloc, &TAKING[2]);
     let rule = Rule::NotOpen(UnitNo(2));
@@ -86,11 +86,15 @@ fn is_carried_on<R: Threads + Sync + AllocGlobal>(
 }
 
 // The log up to the end of its front, and behind that a checkpoint, behind ABORTs of the open units.
-fn marked<R: Threads + Sync + AllocGlobal>(rt: &R, log: Vec<u8>, plan: &Plan) -> Result<Vec<u8>, Fail> {
+fn marked<R: Threads + Sync + AllocGlobal>(
+    rt: &R,
+    log: Vec<u8>,
+    plan: &Plan,
+) -> Result<Vec<u8>, Fail> {
     let front = RedoneFront::of(rt, rt.alloc(), &LogBytes::borrowed(&log), plan)?;
     let mut growth = Growth::behind_redone(rt.alloc(), &front)?;
     let state = growth.end_units(rt.alloc(), &front.state)?;
-    growth.mark(rt.alloc(), &state)?;
+    growth.append_checkpoint(rt.alloc(), &state)?;
     let mut log = log;
     log.truncate(front.end.used);
     log.extend_from_slice(growth.frames())?;

@@ -31,10 +31,10 @@ fn mark_behind(
     ends_units: bool,
 ) -> Result<usize, Refusal> {
     if !ends_units {
-        return Ok(growth.mark(alloc, state)?);
+        return Ok(growth.append_checkpoint(alloc, state)?);
     }
     let ended = growth.end_units(alloc, state)?;
-    Ok(growth.mark(alloc, &ended)?)
+    Ok(growth.append_checkpoint(alloc, &ended)?)
 }
 
 /// A checkpoint of the state behind the front of a log, behind ABORTs of the open units if these are

@@ -70,7 +70,7 @@ fn numbered_before(bytes: &[u8], is_carried: bool) -> u64 {
 fn open_at(alloc: Global, opened: Opened, read: usize, before: u64) -> OpenLog {
     let next = before.saturating_add(opened.end.records as u64);
     OpenLog {
-        growth: Growth::behind(alloc, opened),
+        growth: Growth::of(alloc, opened),
         read,
         next,
         left_out: None,

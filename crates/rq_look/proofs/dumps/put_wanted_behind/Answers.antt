@@ -1,7 +1,7 @@
 use Rattle.std.proofs.Common.{◌++◌, [], Bool, List, ℕ, length, refl, sym, subst, string_bytes}
 use Rattle.rq_front.specs.declared.spans.Span.{Span}
 use Rattle.rq_behind.specs.Behind.{StandApart}
-use Rattle.rq_look.specs.Dumps.{AreLinesBehind, IsCount, IsShownBehind}
+use Rattle.rq_look.specs.Dumps.{AreLinesBehind, IsCountLine, IsShownBehind}
 use Rattle.rq_look.specs.Findings.{IsBehind}
 use Rattle.rq_look.proofs.Gathered.{none_gathered, kept_back, both_gathered}
 use Rattle.rq_look.proofs.dumps.put_wanted_behind.Goals as goal
@@ -44,7 +44,7 @@ returns-clause-shown g c =
             found.1,
             subst (λ (ss : List Span). AreLinesBehind w found.0 b c.args.most ss frames.0) c.deref.ensures.value
                 (frames.1 found.0 found.1),
-            subst (λ (n : ℕ). IsCount w.json c.in_ok-found.found n count.0) e.total count.1,
+            subst (λ (n : ℕ). IsCountLine w.json c.in_ok-found.found n count.0) e.total count.1,
             refl,
           ),
       both_gathered frames.0 count.0 (string_bytes c.args.text.now) (string_bytes c.put_frames.new.text)

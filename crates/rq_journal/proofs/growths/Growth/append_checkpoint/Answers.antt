@@ -2,7 +2,7 @@ use Rattle.std.proofs.Common.{[], ◌∷◌, subst}
 use Rattle.rq_model.specs.Records.{Record}
 use Rattle.rq_journal.specs.Growths.{GrowsBy}
 use Rattle.rq_journal.proofs.Marking.{marks, marks_truly, stays_unmarked}
-use Rattle.rq_journal.proofs.growths.Growth.mark.Goals as goal
+use Rattle.rq_journal.proofs.growths.Growth.append_checkpoint.Goals as goal
 
 pub returns-in-Ok-append-clause-marked : goal.returns-in-Ok-append-clause-marked
 returns-in-Ok-append-clause-marked c =
