@@ -18,7 +18,7 @@ use Rattle.rq_record.specs.Views as rt
 use Rattle.rq_record.specs.Views.{record_of}
 use Rattle.rq_front.specs.Framers.{Place, behind_header, length_with}
 use Rattle.rq_journal.specs.declared.appender.NotTaken.{NotTaken}
-use Rattle.rq_journal.specs.declared.appender.NotTaken.TheVariants as not
+use Rattle.rq_journal.specs.declared.appender.NotTaken.TheVariants as untaken
 use Rattle.rq_journal.specs.declared.checkpoints.NotMarked.{NotMarked}
 use Rattle.rq_journal.specs.declared.checkpoints.NotMarked.TheVariants.{Ended, Full, Large, Resources}
 use Rattle.rq_journal.specs.declared.growths.Growth.{Growth}
@@ -102,5 +102,5 @@ StaysUnmarked a s why = IsCrowdedBy a (checkpoint_in s ∷ []) why
 
 -- why a record that is lawful is not taken
 abbrev pub unmarked : NotTaken → NotMarked
-unmarked not.Full = Full
+unmarked untaken.Full = Full
 unmarked why = Resources
