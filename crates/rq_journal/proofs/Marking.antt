@@ -17,7 +17,7 @@ use Rattle.rq_front.specs.Framers.{Place, behind_header, length_with}
 use Rattle.rq_journal.specs.Checkpoints.{IsCrowdedBy, IsMarked, Marks, MarksTruly, StaysUnmarked, checkpoint_in, unmarked}
 use Rattle.rq_journal.specs.Growths.{GrowsBy, IsGrownAt, StopsGrowing}
 use Rattle.rq_journal.specs.declared.appender.NotTaken.{NotTaken}
-use Rattle.rq_journal.specs.declared.appender.NotTaken.TheVariants as not
+use Rattle.rq_journal.specs.declared.appender.NotTaken.TheVariants as untaken
 use Rattle.rq_journal.specs.declared.checkpoints.NotMarked.{NotMarked}
 use Rattle.rq_journal.specs.declared.growths.Growth.{Growth}
 use Rattle.rq_journal.proofs.Openings.{log_long}
@@ -74,10 +74,10 @@ no_room len count left is many = omega arith
 
 -- why a record that is lawful is not taken
 pub crowded : (a : Growth) (r : Record) (why : NotTaken) → StopsGrowing a r why → IsCrowdedBy a (r ∷ []) (unmarked why)
-crowded a r not.Full h = λ at rs xs g.
+crowded a r untaken.Full h = λ at rs xs g.
     subst (λ (ys : List Record). log_limit < length_with at ys) (append_assoc rs xs (r ∷ [])) (h at rs xs g)
-crowded a r (not.Unlawful rule) h = tt
-crowded a r not.Resources h = tt
+crowded a r (untaken.Unlawful rule) h = tt
+crowded a r untaken.Resources h = tt
 
 -- a checkpoint that was gathered
 pub marks : (a b : Growth) (s : State) (offset : ℕ) → GrowsBy a b (checkpoint_in s ∷ []) → FitsCheckpoint s
@@ -134,6 +134,6 @@ stays_unmarked a s r why told h is tells =
   where
     stays : (a : Growth) (s : State) (why : NotTaken) → IsCrowdedBy a (checkpoint_in s ∷ []) (unmarked why)
         → StaysUnmarked a s (unmarked why)
-    stays a s not.Full h = h
-    stays a s (not.Unlawful rule) h = h
-    stays a s not.Resources h = h
+    stays a s untaken.Full h = h
+    stays a s (untaken.Unlawful rule) h = h
+    stays a s untaken.Resources h = h
