@@ -58,7 +58,8 @@ impl Growth {
             last: front.last,
             end: front.end,
         });
-        Ok(Growth::of(alloc, opened))
+        let growth = Growth::of(alloc, opened);
+        Ok(growth)
     }
 
     /// The version by whose rules it takes records.
