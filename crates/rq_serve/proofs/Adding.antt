@@ -1,5 +1,5 @@
 -- An answer that is added to those that are to be told.
-use Rattle.std.proofs.Common.{◌≡◌, Bool, true, false, List, ◌++◌, Option, refl, sym, ◌∙◌, ap}
+use Rattle.std.proofs.Common.{◌≡◌, Bool, ◌++◌, Option, ◌∙◌, ap}
 use Rattle.std.specs.Prelude.{Result, Ok, Err, OnOk, string_bytes, ◌||◌}
 use Rattle.rq_serve.specs.Answers.{answer_lines}
 use Rattle.rq_serve.specs.Serving.{AddsAnswer, says_safe}

@@ -1,5 +1,5 @@
 -- A number in decimal, as it is read.
-use Rattle.std.proofs.Common.{◌≡◌, ℕ, ◌^◌, ◌<◌, List, Option, Some, None, refl, sym}
+use Rattle.std.proofs.Common.{◌≡◌, ℕ, ◌^◌, ◌<◌, List, Option, Some, None, refl}
 use Rattle.rq_writer.specs.Decimals.{IsNumber}
 use Rattle.rq_writer.specs.Reading.{number_of}
 use Rattle.rq_writer.proofs.Numbers.{number_takes, number_again}

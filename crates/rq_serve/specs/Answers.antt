@@ -1,8 +1,8 @@
 -- The lines of an answer.
-use Rattle.std.specs.Prelude.{ℕ, List, [], ◌∷◌, ◌++◌, codes, string_bytes}
+use Rattle.std.specs.Prelude.{ℕ, List, [], ◌++◌, codes, string_bytes}
 use Rattle.std.specs.Fmt.{decimal}
-use Rattle.rq_model.specs.States.{Element, Last, Definition, Registrant}
-use Rattle.rq_model.specs.Reports.{element_text, error_text, kind_text, last_text, payload_text}
+use Rattle.rq_model.specs.States.{Element, Last, Definition}
+use Rattle.rq_model.specs.Reports.{element_text, error_text, kind_text, payload_text}
 use Rattle.rq_live.specs.declared.looks.Depths.{Depths}
 use Rattle.rq_serve.specs.declared.answers.Answer.{Answer}
 use Rattle.rq_serve.specs.declared.answers.Answer.TheVariants as answers

@@ -1,11 +1,10 @@
 -- What a line spells, read from left to right.
-use Rattle.std.specs.Prelude.{◌≡◌, ℕ, ◌||◌, ◌&&◌, ◌==◌, if◌then◌else◌, nat_le, not, Bool, true, false}
+use Rattle.std.specs.Prelude.{ℕ, ◌||◌, ◌&&◌, ◌==◌, if◌then◌else◌, nat_le, not, Bool, true, false}
 use Rattle.std.specs.Prelude.{List, [], length, codes, Option, Some, None, Result, Ok, Err}
 use Rattle.std.specs.List.{list_all}
 use Rattle.std.specs.Str.{bytes_eq}
 use Rattle.hex.specs.Hex.{decode_of}
 use Rattle.rq_bytes.specs.Readers.{◌>>=◌}
-use Rattle.rq_model.specs.Records.{By}
 use Rattle.rq_record.specs.declared.record.UnitNo.{UnitNo}
 use Rattle.rq_record.specs.declared.record.ElemId.{ElemId}
 use Rattle.rq_writer.specs.Reading.{cut_at, field_at, number_of, number_field, by_of, name_of}

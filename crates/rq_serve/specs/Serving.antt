@@ -6,7 +6,6 @@ use Rattle.rq_model.specs.Records.{Record, Version}
 use Rattle.rq_model.specs.States.{empty}
 use Rattle.rq_model.specs.Machine.{is_open, run}
 use Rattle.rq_serve.specs.Answers.{answer_lines}
-use Rattle.rq_serve.specs.Requests.{request_of}
 use Rattle.rq_serve.specs.Units.{is_doomed, KeepsDoomed, KeepsOthers}
 use Rattle.rq_serve.specs.declared.answers.Answer.{Answer}
 use Rattle.rq_serve.specs.declared.answers.Answer.TheVariants as answers

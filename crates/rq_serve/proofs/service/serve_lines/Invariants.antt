@@ -1,4 +1,4 @@
-use Rattle.std.proofs.Common.{◌≡◌, ◌<◌}
+use Rattle.std.proofs.Common.{◌≡◌}
 use Rattle.rq_live.specs.Managers.{IsInOrder, stand_of}
 use Rattle.rq_serve.proofs.service.serve_lines.Given as goal
 
