@@ -1,5 +1,5 @@
 -- A log that goes on where a front of it ends.
-use Rattle.std.proofs.Common.{◌≡◌, ℕ, Bool, List, ◌++◌, take, drop, Option, ap, sym, subst, ◌∙◌}
+use Rattle.std.proofs.Common.{ℕ, Bool, List, ◌++◌, take, drop, Option, ap, sym, subst, ◌∙◌}
 use Rattle.std.specs.Prelude.{Result, Ok, Err}
 use Rattle.rq_model.specs.Frames.{AreBytes}
 use Rattle.rq_model.specs.Closing.{ClosedStands, StandsFor}

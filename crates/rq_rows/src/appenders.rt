@@ -86,7 +86,11 @@ fn is_carried_on<R: Threads + Sync + AllocGlobal>(
 }
 
 // The log up to the end of its front, and behind that a checkpoint, behind ABORTs of the open units.
-fn marked<R: Threads + Sync + AllocGlobal>(rt: &R, log: Vec<u8>, plan: &Plan) -> Result<Vec<u8>, Fail> {
+fn marked<R: Threads + Sync + AllocGlobal>(
+    rt: &R,
+    log: Vec<u8>,
+    plan: &Plan,
+) -> Result<Vec<u8>, Fail> {
     let front = RedoneFront::of(rt, rt.alloc(), &LogBytes::borrowed(&log), plan)?;
     let mut growth = Growth::behind_redone(rt.alloc(), &front)?;
     let state = growth.end_units(rt.alloc(), &front.state)?;

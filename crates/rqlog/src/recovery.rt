@@ -129,7 +129,12 @@ where
 }
 
 /// Keeps what is cut off at an offset, if something is, and answers where.
-pub(crate) fn kept_cut<R>(rt: &R, path: &str, offset: usize, cut: &[u8]) -> Result<Option<String>, Refusal>
+pub(crate) fn kept_cut<R>(
+    rt: &R,
+    path: &str,
+    offset: usize,
+    cut: &[u8],
+) -> Result<Option<String>, Refusal>
 where
     R: Files<File = File> + AllocGlobal,
 {

@@ -90,7 +90,11 @@ static COMMANDS: [Subcommand; 9] = [
         about: "Serves the queues of a log to the program at standard input and output",
         words: &[
             PLAIN,
-            Word("create", Flag, "Makes the log if it is not there, in version 2"),
+            Word(
+                "create",
+                Flag,
+                "Makes the log if it is not there, in version 2",
+            ),
             Word::WORKERS,
         ],
     },

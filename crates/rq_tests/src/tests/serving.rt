@@ -108,6 +108,9 @@ fn half_a_line_is_not_done(rt: HostRuntime) -> Result<(), Fail> {
     let mut input = OverRead::new(Cursor::new(b"define jobs 0 -\nbegin\nbegin 10".as_slice()));
     let mut output = OverWrite::new(Vec::new(alloc));
     assert_eq!(rt; serve(alloc, &mut m, &mut input, &mut output), Ok(()));
-    assert_eq!(rt; output.into_inner().as_slice(), b"queue 0\nunit 1\n".as_slice());
+    assert_eq!(rt;
+        output.into_inner().as_slice(),
+        b"queue 0\nunit 1\n".as_slice()
+    );
     Ok(())
 }
