@@ -87,6 +87,8 @@ ONE_THING = {
     "greatest": ("rq_catalog rq_live rq_standing rq_state", "the greatest unit that began"),
     "committed": ("rq_catalog rq_restart rq_state", "how many units were committed"),
     "broken": ("rq_catalog rq_journal rq_lawful rq_standing", "a rule that the record breaks: an appender asks its judge"),
+    "behind": ("rq_journal rq_look", "what stands behind the front of a log"),
+    "mark": ("rq_journal rq_live", "puts a checkpoint of the state behind the records so far"),
     "bytes": ("rq_device rq_record rq_writer", "the bytes of a value"),
     "compare": ("rq_queue rq_standing rq_state", "the value's spelling is to come next in the bytes"),
     "count": ("rq_queue rq_standing", "how many members there are"),
