@@ -2,11 +2,11 @@
 use Rattle.std.proofs.Common.{◌≡◌, ◌+◌, ◌-◌, ◌*◌, ◌/◌, ◌<◌, ◌≤◌, ℕ, List, [], ◌∷◌, ◌++◌, length, map, sym, ap, subst, ◌∙◌}
 use Rattle.std.proofs.Common.{append_assoc, refl, arith}
 use Rattle.std.proofs.lemmas.List.{append-nil, length-append}
-use Rattle.rq_model.specs.Records.{Record, Abort, Version}
+use Rattle.rq_model.specs.Records.{Record, Abort}
 use Rattle.rq_model.specs.Spelling.{body_of}
 use Rattle.rq_model.specs.Frames.{log_limit, log_of, digest, frame, frames_of, last_of}
 use Rattle.rq_model.specs.LogLaws.{TrueSaysTheSame}
-use Rattle.rq_model.specs.States.{State, empty}
+use Rattle.rq_model.specs.States.{State}
 use Rattle.rq_model.specs.Machine.{run}
 use Rattle.rq_model.specs.Fronts.{IsFront}
 use Rattle.rq_model.specs.Appending.{AppendedIsFront, CheckpointIsTrue, CheckpointSaysTheSame, FitsCheckpoint, with_checkpoint}

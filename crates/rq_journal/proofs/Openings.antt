@@ -21,7 +21,6 @@ use Rattle.rq_front.specs.Framers.{length_with, behind_header}
 use Rattle.rq_journal.specs.Appenders.{IsAppenderAt}
 use Rattle.rq_journal.specs.Openings.{IsOpened, IsOpenedAt, AreWrittenBehind}
 use Rattle.rq_journal.specs.declared.appender.Appender.{Appender}
-use Rattle.rq_journal.specs.declared.appender.Opened.{Opened}
 use Rattle.rq_journal.proofs.Taking.{later}
 
 -- a judge of the state behind a front

@@ -1,5 +1,5 @@
 -- A log that goes on where a front of it ends.
-use Rattle.std.proofs.Common.{◌≡◌, ℕ, Bool, List, drop, Option, ap, sym, subst, ◌∙◌}
+use Rattle.std.proofs.Common.{ℕ, Bool, List, drop, Option, ap, sym, subst, ◌∙◌}
 use Rattle.std.specs.Prelude.{Result, Ok, Err}
 use Rattle.rq_judged.specs.Views.{why_of}
 use Rattle.rq_restart.specs.Tails.{IsEndingAt, StaysOpenAt}

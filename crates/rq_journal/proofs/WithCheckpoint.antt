@@ -1,5 +1,5 @@
 -- A state that has no checkpoint, and the one behind the front of a log.
-use Rattle.std.proofs.Common.{◌≡◌, ℕ, ◌<◌, ◌≤◌, List, [], ◌++◌, length, drop, sym, subst}
+use Rattle.std.proofs.Common.{ℕ, ◌≤◌, List, [], drop, sym, subst}
 use Rattle.std.specs.Prelude.{Err}
 use Rattle.std.proofs.lemmas.List.{append-nil}
 use Rattle.rq_model.specs.Records.{Record}

@@ -1,11 +1,11 @@
 -- Records whose frames are gathered behind the front of a log, and what a crash leaves of them.
-use Rattle.std.specs.Prelude.{◌≡◌, ◌+◌, ℕ, List, [], ◌∷◌, ◌++◌, length, drop}
+use Rattle.std.specs.Prelude.{◌≡◌, ◌+◌, ℕ, List, ◌∷◌, ◌++◌, length, drop}
 use Rattle.rq_model.specs.Records.{Record, Checkpoint, Version}
 use Rattle.rq_model.specs.Frames.{log_of, frames_of, last_of, before}
 use Rattle.rq_model.specs.States.{State}
 use Rattle.rq_model.specs.Fronts.{IsFront}
 use Rattle.rq_model.specs.Carrying.{IsFrontAt}
-use Rattle.rq_model.specs.Appending.{MayFollow, HasGrown}
+use Rattle.rq_model.specs.Appending.{HasGrown}
 use Rattle.rq_front.specs.Framers.{Place, behind_header, at_checkpoint}
 use Rattle.rq_journal.specs.Appenders.{IsAppenderAt, IsRefused}
 use Rattle.rq_journal.specs.declared.appender.NotTaken.{NotTaken}

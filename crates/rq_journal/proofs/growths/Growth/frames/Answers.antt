@@ -1,4 +1,4 @@
-use Rattle.std.proofs.Common.{ℕ, List, sym, subst}
+use Rattle.std.proofs.Common.{sym, subst}
 use Rattle.rq_journal.specs.Growths.{AreWrittenFrom}
 use Rattle.rq_journal.specs.Openings.{AreWrittenBehind}
 use Rattle.rq_journal.proofs.Growing.{written_behind, written_from}
