@@ -327,6 +327,9 @@ def ends() -> None:
     check("a close", (it.ask(["close"]), it.end()), (["closed 535"], (0, [], "")))
     check("behind a close", attempts_at_next(), ["ready 1 unit 3 records 10 bytes 535 aborted 0 cut 0", element])
     for number in (signal.SIGKILL, signal.SIGTERM, signal.SIGINT, signal.SIGHUP):
+        if number != signal.SIGKILL:
+            # What runs behind nohup ignores some, and so does all that it starts.
+            signal.signal(number, signal.SIG_DFL)
         os.remove("ends.log")
         it = open_one()
         it.ask(["settle"])
