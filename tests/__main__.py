@@ -14,12 +14,12 @@ from types import ModuleType
 # A run leaves nothing in the clone.
 sys.dont_write_bytecode = True
 HERE = os.path.dirname(os.path.abspath(__file__))
-FOLDERS = ("programs", "faults", "others", "many", "live", "lint", "tools")
+FOLDERS = ("programs", "faults", "others", "many", "live", "serve", "lint", "tools")
 sys.path[:0] = [HERE, *(os.path.join(HERE, it) for it in FOLDERS)]
 import trying  # noqa: E402
 
 # Tests of what stands in the clone ask for the programs by themselves, if they need one.
-OF_PROGRAMS = ("", "programs", "faults", "others")
+OF_PROGRAMS = ("", "programs", "faults", "others", "serve")
 
 
 def files() -> dict[str, str]:

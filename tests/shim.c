@@ -1,4 +1,5 @@
-// The one shim of the tests, loaded before the C library by `trying.py`. Variables say what it does; without them it does nothing.
+// The shim of the tests, loaded before the C library by `trying.py`. Variables say what it does; without them it does nothing.
+// `torture` has another one, the disk of serve/disk.c.
 //
 // SHIM_TOLD   the descriptor on which it tells.
 // SHIM_TELLS  `threads`: a byte for each thread that begins (b) or ends (e). `order`: for each call that has to do with files, in

@@ -166,17 +166,22 @@ def making(path: str, *words: object, **options: object) -> tuple[Ended, bytes |
 # --- the shim ------------------------------------------------------------------------------------------------------
 
 @functools.lru_cache(None)
-def shim() -> str | None:
-    """The library of shim.c, to be loaded before the C library; none if there is no C compiler."""
+def built_shim(source: str) -> str | None:
+    """The library of a C file of the tests, to be loaded before the C library; none if there is no C compiler."""
     compiler = next((path for path in map(shutil.which, ("cc", "gcc", "clang")) if path), None)
     if compiler is None:
         return None
     folder = tempfile.mkdtemp(prefix="rq-shim-")
     atexit.register(shutil.rmtree, folder, True)
     library = os.path.join(folder, "shim.so")
-    words = [compiler, "-O2", "-shared", "-fPIC", os.path.join(HERE, "shim.c"), "-o", library, "-ldl", "-lpthread"]
+    words = [compiler, "-O2", "-shared", "-fPIC", os.path.join(HERE, source), "-o", library, "-ldl", "-lpthread"]
     subprocess.run(words, check=True)
     return library
+
+
+def shim() -> str | None:
+    """The library of shim.c."""
+    return built_shim("shim.c")
 
 
 @functools.lru_cache(None)

@@ -6,8 +6,8 @@ Run where `rt ci` runs. It says and keeps what `rt ci` does, and ends as that do
 only if hardly anything else is ready, so the longest chain of crates takes half an hour on four processors. Here the crate that has
 the longest chain of others behind it gets several of them, all if nothing else is ready. Beside it others get up to half of them
 each, and are nicer than it, so that they take what it leaves idle. As for rt, RT_JOBS is the number of processors, and then free
-memory decides only whether a check gets more than one. If the toolchain's rt is not made as that of rattle-kit-13f is, its `rt ci`
-shares them out by itself.
+memory decides only whether a check gets more than one. The tests of a crate that ONLY_RUN names are not proved: tests.py runs them. If
+the toolchain's rt is not made as that of rattle-kit-13f is, its `rt ci` shares processors out by itself, and proves these tests too.
 """
 from __future__ import annotations
 import os, sys
@@ -27,6 +27,8 @@ COMPILED = 0.1
 # What rt calls the two checks of a crate, in the name of a task behind that of the crate; and what its wrong bodies take, which
 # fill what these leave free.
 CHECKS, FILLS = ("proof", "tests"), ("seed", "edits")
+# The crates of tests whose tests are run without a proof.
+ONLY_RUN = ("rq_tests",)
 # The name of a task: that of the crate, what is done, and a number if there are several.
 Key = Tuple[Any, ...]
 
@@ -122,9 +124,11 @@ def main() -> int:
         rt = loaded("rt_main", "rt")
     except (OSError, SyntaxError, ValueError):
         rt = None
-    if not all(hasattr(rt, it) for it in ("in_lanes", "processors", "free", "ending", "main")):
+    if not all(hasattr(rt, it) for it in ("in_lanes", "processors", "free", "ending", "main", "Crate")):
         os.execvp("rt", ["rt", "ci"])
     rt.in_lanes = lambda tasks: side_by_side(rt, tasks)
+    has_tests = rt.Crate.has_tests
+    rt.Crate.has_tests = lambda crate: crate.name not in ONLY_RUN and has_tests(crate)
     return rt.main(["ci"])
 
 

@@ -9,7 +9,7 @@ and is no such session fails. Other blocks are not run.
 
 `callers`: a caller is a fenced block marked `rust`, in crates/*/CALLING.md. The paragraph before it names, in backquotes, the file that has these
 lines, and the test that runs them: `crates/NAME/src/FILE.rt` and `the_name_of_the_test`. The block passes if its lines stand in that file, one
-after the other, as they are but for how far all of them are indented; if `crates.txt` has the file's crate, so that the gate proves it; and if a
+after the other, as they are but for how far all of them are indented; if the gate proves the file's crate, which stands in `crates.txt`; and if a
 test of that name stands in some crate of `crates.txt`. A page without a caller fails.
 
 `prose`: a sentence has at most 30 words. A command, a name or a number in backquotes is one word, and of a link its text counts. Headings, tables,
@@ -115,7 +115,11 @@ class Caller(NamedTuple):
     code: list[str]
 
 
-def proved_crates() -> set[str]:
+# The crate whose tests the gate runs and does not prove.
+ONLY_RUN = "rq_tests"
+
+
+def all_crates() -> set[str]:
     lines = (it.partition("#")[0] for it in text_in(os.path.join(TOP, "crates.txt")).split("\n"))
     return {it.replace(":", " ").split()[0] for it in lines if ":" in it}
 
@@ -155,8 +159,8 @@ def trouble(caller: Caller, crates: set[str], tests: set[str]) -> str | None:
     if not named:
         return "names no file crates/NAME/src/FILE.rt before it"
     path, crate = named.groups()
-    if crate not in crates:
-        return f"{crate} is no crate of crates.txt"
+    if crate not in crates or crate == ONLY_RUN:
+        return f"{crate} is no crate of crates.txt that the gate proves"
     if not os.path.isfile(os.path.join(TOP, path)):
         return f"there is no {path}"
     if not any(line.strip() for line in caller.code):
@@ -169,7 +173,7 @@ def trouble(caller: Caller, crates: set[str], tests: set[str]) -> str | None:
 
 
 def shown_callers(paths: list[str]) -> None:
-    crates = proved_crates()
+    crates = all_crates()
     tests = tests_of(crates)
     for path in paths:
         name, found = os.path.relpath(path, TOP), callers(path)
@@ -373,7 +377,7 @@ def versions(package: str | None) -> None:
 PAGES = {
     "sessions": ["README.md", "docs/*.md"],
     "callers": ["crates/*/CALLING.md"],
-    "prose": ["README.md", "CHANGELOG.md", "docs/*.md", "docs/measured/*.md", "bench/README.md", "tests/README.md", "crates/*/*.md",
+    "prose": ["README.md", "CHANGELOG.md", "docs/*.md", "docs/measured/*.md", "bench/README.md", "tests/README.md", "python/README.md", "crates/*/*.md",
               "examples/many/*/README.md"],
     "versions": [],
 }

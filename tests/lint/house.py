@@ -35,7 +35,7 @@ from trying import TOP, text_in
 CRATES = os.path.join(TOP, "crates")
 # The wrong bodies without which the program would be worth nothing, and how many there are at least of all.
 PINNED, LEAST = os.path.join(TOP, "tests", "lint", "pinned.txt"), 700
-TESTS, PROGRAMS = {"rq_rows", "rqdrive"}, {"rq", "rqlook", "rqlog"}
+TESTS, PROGRAMS = {"rq_rows", "rq_tests", "rq_scarce", "rqdrive"}, {"rq", "rqlook", "rqlog"}
 # The head of a definition, or of a module with parameters, in which some stand.
 HEAD = re.compile(r"^(?:abbrev |unfolding |unfoldable |pub |record |data )*(?!use |open |infix|ruleset |pub mod |mod )([^\s(){}:]+)(?= [^=\n]*(?::|where)| :)", re.M)
 INNER = re.compile(r"^  (?:abbrev |unfolding |pub |record |data )*([^\s(){}:]+)(?: [^=\n]*?)? :", re.M)
@@ -82,7 +82,9 @@ ONE_THING = {
     "settle": ("rq_file rq_live", "ends the work on what was written, so that it stays"),
     "aborted": ("rq_catalog rq_restart rq_state", "how many units were aborted"),
     "definitions": ("rq_catalog rq_live rq_standing rq_state", "the definitions of all queues, by number"),
-    "greatest": ("rq_catalog rq_standing rq_state", "the greatest unit that began"),
+    "Request": ("rq_serve rqlook", "what is asked of a service or of a program"),
+    "word": ("rq_judged rq_serve", "the word by which a value is told"),
+    "greatest": ("rq_catalog rq_live rq_standing rq_state", "the greatest unit that began"),
     "committed": ("rq_catalog rq_restart rq_state", "how many units were committed"),
     "broken": ("rq_catalog rq_journal rq_lawful rq_standing", "a rule that the record breaks: an appender asks its judge"),
     "bytes": ("rq_device rq_record rq_writer", "the bytes of a value"),
@@ -104,6 +106,8 @@ ONE_THING = {
     "key": ("rq_queue rq_state", "what a member is in order by"),
     "marked_by": ("rq_queue rq_standing", "what a unit put in or took of a queue"),
     "note": ("rq_queue rq_state", "the note of an operation"),
+    "into_file": ("rq_file rq_log_file", "the open file of a value, which is let go"),
+    "open_count": ("rq_live rq_standing", "how many units are open"),
     "open_units": ("rq_catalog rq_found rq_live rq_standing", "the units that are open"),
     "place": ("rq_queue rq_state", "the record's number in the log"),
     "queue": ("rq_found rq_queue rq_state", "the queue that a value is of"),

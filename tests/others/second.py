@@ -192,16 +192,25 @@ class Machine:
     def checkpoint(self) -> bool:
         return True
 
+    def queue_line(self, queue: int) -> str:
+        name, limit, error = self.queues[queue]
+        return f"queue {queue} {name.decode()} limit {limit} error {dashed(error)}"
+
+    def element_line(self, id: int) -> str:
+        it = self.elements[id]
+        return f"e {id} from {it.origin} priority {it.priority} attempts {it.attempts} {it.payload.hex() or '-'}"
+
+    def registrant_lines(self, queue: int) -> Iterator[str]:
+        for (_, who), last in sorted((it for it in self.registrants.items() if it[0][0] == queue), key=lambda it: it[0]):
+            said = "none" if last is None else f"{last.said[0]} tag {last.said[1]} element {dashed(last.said[2])}"
+            yield f"r {who.decode()} {said}"
+
     def lines(self) -> Iterator[str]:
         """What is left, queue by queue."""
-        for queue, (name, limit, error) in enumerate(self.queues):
-            yield f"queue {queue} {name.decode()} limit {limit} error {dashed(error)}"
-            for id in self.free(queue):
-                it = self.elements[id]
-                yield f"e {id} from {it.origin} priority {it.priority} attempts {it.attempts} {it.payload.hex() or '-'}"
-            for (_, who), last in sorted((it for it in self.registrants.items() if it[0][0] == queue), key=lambda it: it[0]):
-                said = "none" if last is None else f"{last.said[0]} tag {last.said[1]} element {dashed(last.said[2])}"
-                yield f"r {who.decode()} {said}"
+        for queue in range(len(self.queues)):
+            yield self.queue_line(queue)
+            yield from map(self.element_line, self.free(queue))
+            yield from self.registrant_lines(queue)
 
 
 def dashed(number: int | None) -> str:
@@ -226,14 +235,14 @@ class Restart:
 
     def take(self, log: bytes) -> str:
         """Takes the frame that comes next, or says why it is none of the front."""
-        frame = log[self.used:]
-        size = int.from_bytes(frame[:4], "big")
-        if len(frame) >= 4 and not 1 <= size <= MOST + 1:
+        left, size = len(log) - self.used, int.from_bytes(log[self.used:self.used + 4], "big")
+        if left >= 4 and not 1 <= size <= MOST + 1:
             return "length"
-        if len(frame) < 4 or len(frame) < 36 + size:
+        if left < 4 or left < 36 + size:
             return "cut"
-        body, digest = frame[4:4 + size], frame[4 + size:36 + size]
-        if sha256(log[self.used - 32:self.used] + frame[:4 + size]).digest() != digest:
+        end = self.used + 4 + size
+        body, digest = log[self.used + 4:end], log[end:end + 32]
+        if sha256(log[self.used - 32:end]).digest() != digest:
             return "chain"
         record = record_of(body, log[7])
         if record is None:

@@ -55,8 +55,11 @@ def parts() -> None:
     check("a part that is not there", test.script("tests/no_such_part.py").failed, 1)
     told = io.StringIO()
     with contextlib.redirect_stdout(told):
-        status = test.sum_up([test.Ended(2, 0, ""), test.left_out("a tool"), test.ended(0, "left out: one\nleft out: two\n1 passed, 0 failed\n")])
-    check("what is left out is counted", (status, told.getvalue()), (0, "3 left out for want of a tool\n3 passed, 0 failed\n"))
+        status = test.sum_up([test.Ended(2, 0, "", 90), test.left_out("a tool"), test.ended(0, "left out: one\nleft out: two\n1 passed, 0 failed\n", 40)])
+    check("what is left out is counted, and the time taken", (status, told.getvalue()),
+          (0, "2 minutes of a processor\n3 left out for want of a tool\n3 passed, 0 failed\n"))
+    busy = test.script("-c", "import time\nwhile time.process_time() < 0.3: pass\nprint('1 passed, 0 failed')")
+    check("what a part takes of a processor", (busy.failed, 0.3 <= busy.took < 3), (0, True))
 
 
 def verdict_on(edit: Edit, said: str) -> Verdict:

@@ -5,7 +5,7 @@ from typing import Dict, FrozenSet, Iterator, List, NamedTuple, Tuple
 
 # The head of a function, and of what its methods stand in.
 HEAD = re.compile(r"^( *)(?:pub(?:\([^)]*\))? )?(?:const )?(?:unsafe )?fn (\w+)", re.M)
-HOLDER = re.compile(r"^(?:unsafe )?impl\b[^{;]*\{", re.M)
+HOLDER = re.compile(r"^(?:(?:unsafe )?impl\b|(?:pub )?trait (?P<trait>\w+))[^{;]*\{", re.M)
 CONST = re.compile(r"^(?:pub(?:\([^)]*\))? )?(?:const|static) (\w+)")
 CLAUSE = re.compile(r"^\s*(?:ghost|requires|ensures)\b", re.M)
 # As many wrong bodies are tried in one check at most.
@@ -130,7 +130,7 @@ def body_of(text: str, indent: str, at: int) -> Tuple[int, int]:
 def functions_of(path: str, text: str) -> List[Span]:
     """The functions of the file. The files are laid out: a body begins and ends at a brace below the head, or stands behind the head
     in its line."""
-    holders = [(it.start(), text.find("\n}", it.end()), holder_of(it[0])) for it in HOLDER.finditer(text)]
+    holders = [(it.start(), text.find("\n}", it.end()), it["trait"] or holder_of(it[0])) for it in HOLDER.finditer(text)]
     found = []
     for head in HEAD.finditer(text):
         holder = next((name for begin, last, name in holders if begin < head.start() < last), "")

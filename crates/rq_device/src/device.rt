@@ -44,6 +44,22 @@ pub trait Device {
         ensures fails { failed self.new ≡ is_err result }
         ensures refused { IfErr result (λ e. e ≡ WriteFailed) };
 
+    /// Shows the bytes that are to be written next, behind those that stand there, to who reads the
+    /// log meanwhile, or after this process was killed. They are not written by that: a crash of the
+    /// host may leave any of them. A device that nobody else reads need not. Refused with
+    /// `WriteFailed` alone.
+    fn preview(&mut self, next: &[u8]) -> Result<(), Fault>
+        requires { failed self.old ≡ false }
+        ensures bytes { written self.new ≡ written self.old }
+        ensures synced { synced self.new ≡ synced self.old }
+        ensures doubts { doubted self.new ≡ doubted self.old }
+        ensures fails { failed self.new ≡ is_err result }
+        ensures refused { IfErr result (λ e. e ≡ WriteFailed) }
+    {
+        let _ = next;
+        Ok(())
+    }
+
     /// Makes all that was written survive a crash, if no bytes are doubted. Refused with
     /// `WriteFailed` alone.
     fn sync(&mut self) -> Result<(), Fault>

@@ -1,5 +1,7 @@
 mod Taking
 mod Openings
+mod Growing
+mod Marking
 mod WithCheckpoint
 mod CarriedOn
 mod CarriedAgain

@@ -1,16 +1,14 @@
 -- The appender of a judged front, of a log or from a checkpoint on, and records behind the front; and the judge behind a
 -- front of which the state was made.
-use Rattle.std.proofs.Common.{◌≡◌, ℕ, ◌≤◌, List, ◌∷◌, length, drop, ap, arith, [], ◌++◌, take, sym, subst, ◌∙◌}
-use Rattle.std.proofs.lemmas.List.{length-append, length-drop, append-nil, take-append-drop}
-use Rattle.std.specs.Prelude.{Some}
+use Rattle.std.proofs.Common.{◌≡◌, ℕ, ◌≤◌, List, ◌∷◌, length, drop, ap, arith, [], ◌++◌, sym, subst, ◌∙◌}
+use Rattle.std.proofs.lemmas.List.{length-append, length-drop}
 use Rattle.rq_model.specs.Records.{Record, Checkpoint, Version}
-use Rattle.rq_model.specs.Frames.{log_limit, header, start, log_of, frames_of, before}
+use Rattle.rq_model.specs.Frames.{log_limit, header, start, log_of, frames_of, last_of, before}
 use Rattle.rq_model.specs.Fronts.{IsFront}
 use Rattle.rq_model.proofs.Longest.{front_whole, log_joins}
 use Rattle.rq_model.proofs.Restarts.{header_long}
 use Rattle.rq_model.specs.Appending.{CrashWhileAppending, AppendedIsFront}
-use Rattle.rq_model.specs.States.{State, empty}
-use Rattle.rq_model.specs.Machine.{run}
+use Rattle.rq_model.specs.States.{State}
 use Rattle.rq_record.specs.Views.{version_of}
 use Rattle.rq_catalog.specs.declared.judge.Judge.{Judge}
 use Rattle.rq_catalog.specs.Judges.{StandsIn}
@@ -20,11 +18,9 @@ use Rattle.rq_judged.specs.declared.judged.JudgedFront.{JudgedFront}
 use Rattle.rq_judged.specs.JudgedFronts.{IsJudged, IsJudgedAt}
 use Rattle.rq_front.specs.declared.framer.Framer.{Framer}
 use Rattle.rq_front.specs.Framers.{length_with, behind_header}
-use Rattle.rq_journal.specs.Appenders.{AppendsEach, AppendsUpTo}
-use Rattle.rq_journal.specs.Openings.{IsOpened, IsOpenedAt, AreWrittenBehind, IsHeldBack}
+use Rattle.rq_journal.specs.Appenders.{IsAppenderAt}
+use Rattle.rq_journal.specs.Openings.{IsOpened, IsOpenedAt, AreWrittenBehind}
 use Rattle.rq_journal.specs.declared.appender.Appender.{Appender}
-use Rattle.rq_journal.specs.declared.appender.NotTaken.{NotTaken}
-use Rattle.rq_journal.specs.declared.appender.Opened.{Opened}
 use Rattle.rq_journal.proofs.Taking.{later}
 
 -- a judge of the state behind a front
@@ -127,54 +123,30 @@ opened_at b offset f framer last len h =
     }
 
 -- records behind the front
-pub behind : (b : List ℕ) (o : Opened) (a : Appender) (xs : List Record) (written : List ℕ) → IsOpened b o
-    → AppendsEach o.appender a xs [] written → CrashWhileAppending → AppendedIsFront → AreWrittenBehind b xs written
-behind b o a xs written h takes crash appended =
-    let v = h.version in
-    let rs = h.records in
-    let (there, bytes) = takes (behind_header v) rs h.stands in
-    let may = later (behind_header v) rs xs a there in
-    let joined : log_of v (rs ++ xs) ≡ log_of v rs ++ written =
-    log_joins v rs xs ∙ ap (λ (z : List ℕ). log_of v rs ++ z) (sym bytes) in
-    let short : length (log_of v (rs ++ xs)) ≤ log_limit = omega (arith, log_long v (rs ++ xs), there.short) in
+pub behind : (b : List ℕ) (version : Version) (rs xs : List Record) (rest : List ℕ) (a : Appender) (written : List ℕ)
+    → IsFront b version rs rest → IsAppenderAt (behind_header version) (rs ++ xs) a
+    → written ≡ frames_of (last_of (start version) rs) xs → CrashWhileAppending → AppendedIsFront
+    → AreWrittenBehind b xs written
+behind b version rs xs rest a written front there bytes crash appended =
+    let may = later (behind_header version) rs xs a there in
+    let joined : log_of version (rs ++ xs) ≡ log_of version rs ++ written =
+    log_joins version rs xs ∙ ap (λ (z : List ℕ). log_of version rs ++ z) (sym bytes) in
+    let short : length (log_of version (rs ++ xs)) ≤ log_limit = omega (arith, log_long version (rs ++ xs), there.short) in
     record {
-      version = v;
+      version = version;
       records = rs;
-      rest = drop o.end.used b;
-      front = h.front;
-      crash = λ part missing parts. crash b v rs (drop o.end.used b) xs part missing h.front may (sym bytes ∙ parts)
+      rest = rest;
+      front = front;
+      crash = λ part missing parts. crash b version rs rest xs part missing front may (sym bytes ∙ parts)
           (omega (
             arith,
             short,
             ap length joined,
             ap length parts,
             length-append part missing,
-            length-append (log_of v rs) written,
-            length-append (log_of v rs) part,
+            length-append (log_of version rs) written,
+            length-append (log_of version rs) part,
           ));
-      whole = subst (λ (z : List ℕ). IsFront z v (rs ++ xs) []) joined
-          (appended b v rs (drop o.end.used b) xs h.front may short);
-    }
-
--- where none is left, all were taken
-pub all_taken : (n : ℕ) (xs : List Record) → drop n xs ≡ [] → take n xs ≡ xs
-all_taken n xs none =
-    sym (append-nil (take n xs)) ∙ ap (λ (z : List Record). take n xs ++ z) (sym none) ∙ take-append-drop n xs
-
-pub held_back : (b : List ℕ) (o : Opened) (a : Appender) (xs : List Record) (index : ℕ) (written : List ℕ)
-    (why : NotTaken) → IsOpened b o → AppendsEach o.appender a (take index xs) [] written
-    → AppendsUpTo o.appender (take index xs) (drop index xs) (Some why) → IsHeldBack b xs index why
-held_back b o a xs index written why h takes (next, more, left, refused) =
-    let v = h.version in
-    let rs = h.records in
-    record {
-      version = v;
-      records = rs;
-      rest = drop o.end.used b;
-      next = next;
-      more = more;
-      front = h.front;
-      may = later (behind_header v) rs (take index xs) a (takes (behind_header v) rs h.stands).0;
-      left = left;
-      refused = refused (behind_header v) rs h.stands;
+      whole = subst (λ (z : List ℕ). IsFront z version (rs ++ xs) []) joined
+          (appended b version rs rest xs front may short);
     }

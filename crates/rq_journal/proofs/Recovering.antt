@@ -1,13 +1,11 @@
 -- A log that goes on where a front of it ends.
-use Rattle.std.proofs.Common.{◌≡◌, ℕ, Bool, List, ◌++◌, take, drop, Option, ap, sym, subst, ◌∙◌}
+use Rattle.std.proofs.Common.{ℕ, Bool, List, drop, Option, ap, sym, subst, ◌∙◌}
 use Rattle.std.specs.Prelude.{Result, Ok, Err}
-use Rattle.rq_model.specs.Frames.{AreBytes}
-use Rattle.rq_model.specs.Closing.{ClosedStands, StandsFor}
 use Rattle.rq_judged.specs.Views.{why_of}
-use Rattle.rq_restart.specs.Tails.{IsEnding, IsEndingAt, StaysOpen, StaysOpenAt}
+use Rattle.rq_restart.specs.Tails.{IsEndingAt, StaysOpenAt}
 use Rattle.rq_restart.specs.declared.tails.Ending.{Ending}
 use Rattle.rq_journal.specs.LeftBehind.{IsDamage}
-use Rattle.rq_journal.specs.Recoveries.{CutsOff, MayGo, Recovers, RecoversAt, RecoversFrom}
+use Rattle.rq_journal.specs.Recoveries.{CutsOff, MayGo, RecoversAt, RecoversFrom}
 use Rattle.rq_journal.specs.declared.left_behind.Damage.{Damage}
 use Rattle.rq_journal.specs.declared.recoveries.NotRecovered.{NotRecovered}
 use Rattle.rq_journal.specs.declared.recoveries.NotRecovered.TheVariants.{Log, Damaged}
@@ -26,24 +24,6 @@ goes b e drops damage (Ok r) cut may = (
 )
 goes b e drops damage (Err (Log fault)) cut may = cut
 goes b e drops damage (Err (Damaged found other)) cut may = absurd cut
-
--- where the front of all of it does
-pub from_start : (b : List ℕ) (e : Ending) (drops : Bool) → IsEnding b e → AreBytes b → ClosedStands
-    → (result : Result MadeWhole NotRecovered) → RecoversFrom b e drops result → Recovers b drops result
-from_start b e drops end bytes stands (Ok r) is =
-    let same = sym is.0 in
-    record {
-      ending = subst (IsEnding b) same end;
-      is = is.1;
-      stands = subst (λ (x : Ending). StandsFor b (take x.end.used b ++ x.tail.items)) same
-          (stands b (take e.end.used b ++ e.tail.items) bytes (e.tail.items, end.closed) end.room);
-    }
-from_start b e drops end bytes stands (Err (Log fault)) is = subst (StaysOpen b) (sym is) tt
-from_start b e drops end bytes stands (Err (Damaged x damage)) is = (
-  subst (IsEnding b) (sym is.0) end,
-  is.1,
-  subst (λ (z : Ending). IsDamage b z.end.used (why_of z.end.why) damage) (sym is.0) is.2,
-)
 
 -- where the front from a checkpoint on does
 pub from_there : (b : List ℕ) (offset : ℕ) (e : Ending) (drops : Bool) → IsEndingAt b offset e

@@ -1,9 +1,8 @@
 -- A record that is taken, and one that is not.
 use Rattle.std.proofs.Common.{◌≡◌, ℕ, ◌+◌, ◌≤◌, true, List, [], ◌∷◌, ◌++◌, length, refl, sym, ap, subst}
-use Rattle.std.proofs.Common.{◌∙◌, append_assoc, arith}
-use Rattle.std.specs.Prelude.{Some}
+use Rattle.std.proofs.Common.{◌∙◌, arith}
 use Rattle.std.proofs.lemmas.Bool.{and_from}
-use Rattle.std.proofs.lemmas.List.{append-nil, length-append}
+use Rattle.std.proofs.lemmas.List.{length-append}
 use Rattle.rq_model.specs.Records.{Record, Define, Register, Deregister, Begin, Enqueue, Dequeue, Commit, Abort}
 use Rattle.rq_model.specs.Records.{Checkpoint, Kill, Version, One, Two}
 use Rattle.rq_model.specs.Spelling.{body_of, IsRecord, Spells}
@@ -21,9 +20,7 @@ use Rattle.rq_catalog.specs.declared.judge.Judge.{Judge}
 use Rattle.rq_front.specs.Framers.{Place, Frames, length_with}
 use Rattle.rq_catalog.specs.Judges.{StandsIn, KeepsStanding}
 use Rattle.rq_journal.specs.declared.appender.Appender.{Appender}
-use Rattle.rq_journal.specs.declared.appender.NotTaken.{NotTaken}
-use Rattle.rq_journal.specs.Appenders.{IsAppenderAt}
-use Rattle.rq_journal.specs.Appenders.{AppendsOne, AppendsEach, KeepsPlace, Refuses, AppendsUpTo}
+use Rattle.rq_journal.specs.Appenders.{IsAppenderAt, AppendsOne}
 
 -- a body fits into a frame
 pub body_fits : (r : Record) → RecordHasOneBody
@@ -96,38 +93,6 @@ moves_on a b r old new spelled lawful stands framed room at rs h =
       },
       framed.bytes ∙ ap (λ (q : List ℕ). old ++ frame q (body_of r)) h.framer.last,
     )
-
--- one more
-pub takes_one_more : (a b c : Appender) (xs ys : List Record) (r : Record) (old new newer : List ℕ)
-    → AppendsEach a b xs old new → AppendsOne b c r new newer → ys ≡ xs ++ r ∷ [] → AppendsEach a c ys old newer
-takes_one_more a b c xs ys r old new newer some one is at rs h =
-    let (there, bytes) = some at rs h in
-    let (further, frame_is) = one at (rs ++ xs) there in
-    let q = last_of at.link rs in
-    let f = frame (last_of q xs) (body_of r) in
-    let same : rs ++ ys ≡ (rs ++ xs) ++ r ∷ [] =
-    ap (λ (z : List Record). rs ++ z) is ∙ sym (append_assoc rs xs (r ∷ [])) in
-    let frames : old ++ frames_of q ys ≡ (old ++ frames_of q xs) ++ (f ++ []) =
-    ap (λ (z : List Record). old ++ frames_of q z) is ∙ ap (λ (z : List ℕ). old ++ z) (frames_of_join q xs (r ∷ []))
-    ∙ sym (append_assoc old (frames_of q xs) (f ++ [])) in
-    let link : frame (last_of at.link (rs ++ xs)) (body_of r) ≡ f =
-    ap (λ (z : List ℕ). frame z (body_of r)) (last_of_join at.link rs xs) in (
-      subst (λ (z : List Record). IsAppenderAt at z c) (sym same) further,
-      frame_is ∙ (λ i. bytes i ++ link i) ∙ ap (λ (z : List ℕ). (old ++ frames_of q xs) ++ z) (sym (append-nil f))
-          ∙ sym frames,
-    )
-
--- one that was not taken
-pub takes_no_more : (a b c : Appender) (xs : List Record) (old new newer : List ℕ)
-    → AppendsEach a b xs old new → KeepsPlace b c → newer ≡ new → AppendsEach a c xs old newer
-takes_no_more a b c xs old new newer some still same at rs h =
-    let (there, bytes) = some at rs h in
-    (still at (rs ++ xs) there, same ∙ bytes)
-
-pub stops_there : (a b : Appender) (xs left more : List Record) (r : Record) (why : NotTaken) (old new : List ℕ)
-    → AppendsEach a b xs old new → Refuses b r why → left ≡ r ∷ more → AppendsUpTo a xs left (Some why)
-stops_there a b xs left more r why old new some refused is =
-    (r, more, is, λ at rs h. refused at (rs ++ xs) (some at rs h).0)
 
 -- what stands behind others may follow them
 pub later : (at : Place) (rs xs : List Record) (a : Appender) → IsAppenderAt at (rs ++ xs) a

@@ -1,8 +1,8 @@
 -- Where an appender stands, what it takes there, and what it does not.
-use Rattle.std.specs.Prelude.{◌≡◌, ◌≤◌, ◌<◌, ⊤, ℕ, false, List, [], ◌∷◌, ◌++◌, length, Option, Some, None}
+use Rattle.std.specs.Prelude.{◌≡◌, ◌≤◌, ◌<◌, ⊤, ℕ, false, List, [], ◌∷◌, ◌++◌, length}
 use Rattle.rq_model.specs.Records.{Record, Version}
 use Rattle.rq_model.specs.Spelling.{body_of, Spells}
-use Rattle.rq_model.specs.Frames.{IsBodyLength, log_limit, frame, frames_of, last_of}
+use Rattle.rq_model.specs.Frames.{IsBodyLength, log_limit, frame, last_of}
 use Rattle.rq_model.specs.States.{State}
 use Rattle.rq_model.specs.Machine.{is_lawful, run, step}
 use Rattle.rq_model.specs.Appending.{MayFollow}
@@ -58,14 +58,3 @@ IsRefused at rs r Resources = ⊤
 -- so it is refused at each place where a stands
 abbrev pub Refuses : Appender → Record → NotTaken → Type 0
 Refuses a r why = (at : Place) (rs : List Record) → IsAppenderAt at rs a → IsRefused at rs r why
-
--- if a stands behind some records, b stands behind these too, and their frames are what came
-abbrev pub AppendsEach : Appender → Appender → List Record → List ℕ → List ℕ → Type 0
-AppendsEach a b xs old new = (at : Place) (rs : List Record) → IsAppenderAt at rs a
-    → IsAppenderAt at (rs ++ xs) b × (new ≡ old ++ frames_of (last_of at.link rs) xs)
-
--- why no more are taken behind these: none is left, or the next is refused there
-abbrev pub AppendsUpTo : Appender → List Record → List Record → Option NotTaken → Type 0
-AppendsUpTo a xs left None = left ≡ []
-AppendsUpTo a xs left (Some why) = (next : Record) × (more : List Record) × (left ≡ next ∷ more)
-    × ((at : Place) (rs : List Record) → IsAppenderAt at rs a → IsRefused at (rs ++ xs) next why)

@@ -1,5 +1,6 @@
 pub mod Appenders
 pub mod Openings
+pub mod Growths
 pub mod Checkpoints
 pub mod Carries
 pub mod LeftBehind

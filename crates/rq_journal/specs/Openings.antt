@@ -1,23 +1,19 @@
--- A log that is opened to write behind its front, and records that are written there.
-use Rattle.std.specs.Prelude.{◌≡◌, ℕ, ◌+◌, List, [], ◌∷◌, ◌++◌, length, take, drop, Result, Ok, Err}
-use Rattle.std.specs.Global.{Vec}
+-- A log that is opened to write behind its front, and frames that are written there.
+use Rattle.std.specs.Prelude.{◌≡◌, ℕ, ◌+◌, List, [], ◌∷◌, ◌++◌, length, drop, Result, Ok, Err}
 use Rattle.rq_model.specs.Records.{Record, Checkpoint, Version}
 use Rattle.rq_model.specs.Frames.{start, log_of, frames_of, last_of, before}
 use Rattle.rq_model.specs.States.{State, empty}
 use Rattle.rq_model.specs.Machine.{run}
 use Rattle.rq_model.specs.Fronts.{IsFront, IsWhy}
 use Rattle.rq_model.specs.Carrying.{IsFrontAt, carried_at}
-use Rattle.rq_model.specs.Appending.{MayFollow, IsLeftOf}
+use Rattle.rq_model.specs.Appending.{IsLeftOf}
 use Rattle.rq_record.specs.declared.fault.Fault.{Fault}
 use Rattle.rq_front.specs.Chains.{Refused}
 use Rattle.rq_front.specs.Framers.{behind_header, at_checkpoint}
 use Rattle.rq_judged.specs.Refusals.{RefusedAt}
 use Rattle.rq_judged.specs.Views.{why_of}
-use Rattle.rq_journal.specs.Appenders.{IsAppenderAt, IsRefused}
-use Rattle.rq_journal.specs.declared.appender.NotTaken.{NotTaken}
+use Rattle.rq_journal.specs.Appenders.{IsAppenderAt}
 use Rattle.rq_journal.specs.declared.appender.Opened.{Opened}
-use Rattle.rq_journal.specs.declared.opened_logs.NotWritten.{NotWritten}
-use Rattle.rq_journal.specs.declared.opened_logs.NotWritten.TheVariants.{Log, At}
 
 -- the appender stands behind the front of b, which ends here for this reason
 pub record IsOpened (b : List ℕ) (o : Opened) : Type 0 where
@@ -66,21 +62,3 @@ pub record AreWrittenBehind (b : List ℕ) (xs : List Record) (written : List �
   pub crash : (part missing : List ℕ) → written ≡ part ++ missing →
       IsLeftOf version records xs part (log_of version records ++ part)
   pub whole : IsFront (log_of version records ++ written) version (records ++ xs) []
-
--- so many of the records may follow the front of b, and the next is refused there
-pub record IsHeldBack (b : List ℕ) (xs : List Record) (index : ℕ) (why : NotTaken) : Type 0 where
-  pub version : Version
-  pub records : List Record
-  pub rest : List ℕ
-  pub next : Record
-  pub more : List Record
-  pub front : IsFront b version records rest
-  pub may : MayFollow version (run empty records) (take index xs)
-  pub left : drop index xs ≡ next ∷ more
-  pub refused : IsRefused (behind_header version) (records ++ take index xs) next why
-
--- the frames, or why there are none
-abbrev pub WritesBehind : List ℕ → List Record → Result (Vec ℕ) NotWritten → Type 0
-WritesBehind b xs (Ok written) = AreWrittenBehind b xs written.items
-WritesBehind b xs (Err (Log e)) = Refused b e
-WritesBehind b xs (Err (At index why)) = IsHeldBack b xs index why

@@ -1,11 +1,10 @@
 -- A log that a crash left goes on.
-use Rattle.std.specs.Prelude.{◌≡◌, ℕ, Bool, true, false, List, ◌++◌, take, drop, Option, None, Some, MatchOption}
+use Rattle.std.specs.Prelude.{◌≡◌, ℕ, Bool, true, false, List, drop, Option, None, Some}
 use Rattle.std.specs.Prelude.{Result, Ok, Err}
-use Rattle.rq_model.specs.Closing.{StandsFor}
 use Rattle.rq_record.specs.Views.{version_of}
 use Rattle.rq_record.specs.declared.fault.Fault.TheVariants.{Resources}
 use Rattle.rq_judged.specs.Views.{why_of}
-use Rattle.rq_restart.specs.Tails.{IsEnding, IsEndingAt, StaysOpen, StaysOpenAt}
+use Rattle.rq_restart.specs.Tails.{IsEndingAt, StaysOpenAt}
 use Rattle.rq_restart.specs.declared.tails.Ending.{Ending}
 use Rattle.rq_journal.specs.LeftBehind.{IsDamage, IsLeftByCrash}
 use Rattle.rq_journal.specs.declared.left_behind.Damage.{Damage}
@@ -38,20 +37,7 @@ CutsOff b e damage (Ok r) = (r.ending ≡ e) × (r.cut.items ≡ drop e.end.used
 CutsOff b e damage (Err (Log fault)) = fault ≡ Resources
 CutsOff b e damage (Err (Damaged found _)) = ⊥
 
--- the new log is the front of b and its tail, and stands for b, however much of the tail is written
-pub record IsRecovered (b : List ℕ) (drops : Bool) (r : MadeWhole) : Type 0 where
-  pub ending : IsEnding b r.ending
-  pub is : IsCutAt b drops r
-  pub stands : StandsFor b (take r.ending.end.used b ++ r.ending.tail.items)
-
--- that, or why b is not recovered
-abbrev pub Recovers : List ℕ → Bool → Result MadeWhole NotRecovered → Type 0
-Recovers b drops (Ok r) = IsRecovered b drops r
-Recovers b drops (Err (Log fault)) = StaysOpen b fault
-Recovers b drops (Err (Damaged e damage)) = IsEnding b e × (drops ≡ false)
-    × IsDamage b e.end.used (why_of e.end.why) damage
-
--- the same from a checkpoint on
+-- the ending of b from a checkpoint on, and what is cut there; or why b is not recovered
 abbrev pub RecoversAt : List ℕ → ℕ → Bool → Result MadeWhole NotRecovered → Type 0
 RecoversAt b offset drops (Ok r) = IsEndingAt b offset r.ending × IsCutAt b drops r
 RecoversAt b offset drops (Err (Log fault)) = StaysOpenAt b offset fault

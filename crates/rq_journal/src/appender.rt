@@ -1,15 +1,12 @@
 //! What takes records behind the front of a log, and gives their frames; and where it stands there.
 
-ghost use Rattle.std.specs.Prelude.{◌≡◌, ◌≤◌, ℕ, List, [], OnOk, IfOk, IfErr};
-ghost use Rattle.std.specs.Prelude.{length, map, take, drop};
+ghost use Rattle.std.specs.Prelude.{◌≡◌, ℕ, List, [], OnOk, IfOk, IfErr};
 ghost use Rattle.rq_model.specs.Records as model;
 ghost use Rattle.rq_record.specs.Views.{record_of, version_of};
-ghost use Rattle.rq_record.specs.declared.fault.Fault.TheVariants as faults;
 ghost use Rattle.rq_front.specs.Framers.{Place, behind_header};
 ghost use Rattle.rq_judged.specs.JudgedFronts.{IsJudged, IsJudgedAt};
-ghost use Rattle.rq_restart.specs.RedoneFronts.{IsRedoneAt, IsRedoneFront};
 ghost use Rattle.rq_journal.specs.Appenders.{IsAppenderAt, IsSpelled, IsJudgedAs};
-ghost use Rattle.rq_journal.specs.Appenders.{Refuses, KeepsPlace, AppendsUpTo, AppendsOne, AppendsEach};
+ghost use Rattle.rq_journal.specs.Appenders.{Refuses, KeepsPlace, AppendsOne};
 ghost use Rattle.rq_journal.specs.Openings.{IsOpened, IsOpenedAt};
 
 use rq_catalog::Judge;
@@ -19,7 +16,6 @@ use rq_lawful::Rule;
 use rq_record::{
     CheckBytes, Fault, KeptBy, KeptPayload, KeptRecord, Payload, Record, Version, encode,
 };
-use rq_restart::RedoneFront;
 use std::alloc::Global;
 
 /// Why a record is not taken.
@@ -147,30 +143,6 @@ impl Appender {
         self.framer.put(body, out).unwrap();
         Ok(())
     }
-
-    /// Takes the records one by one, up to the first that is not taken, and appends their frames.
-    /// Answers how many were taken, and why the next was not; none where all were.
-    pub fn append_each(
-        &mut self,
-        alloc: Global,
-        records: &[Record],
-        out: &mut Vec<u8>,
-    ) -> (usize, Option<NotTaken>)
-        ensures within { result.0 ≤ length records.now }
-        ensures taken { AppendsEach self.old self.new (map record_of (take result.0 records.now))
-            out.old.items out.new.items }
-        ensures stops { AppendsUpTo self.old (map record_of (take result.0 records.now))
-            (map record_of (drop result.0 records.now)) result.1 }
-    {
-        let mut count = 0;
-        for next in records {
-            if let Err(why) = self.append(alloc, next, out) {
-                return (count, Some(why));
-            }
-            count += 1;
-        }
-        (count, None)
-    }
 }
 
 /// An appender that stands where the front of a log ends, and where that is.
@@ -189,6 +161,7 @@ impl Opened {
     pub fn of(front: JudgedFront) -> Opened
         ensures whole { (b : List ℕ) → IsJudged b front → IsOpened b result }
         ensures from { (b : List ℕ) (offset : ℕ) → IsJudgedAt b offset front → IsOpenedAt b offset result }
+        ensures end { result.end ≡ front.end }
     {
         let JudgedFront { judge, last, end } = front;
         let appender = Appender {
@@ -196,20 +169,5 @@ impl Opened {
             framer: Framer::after(last, end.used),
         };
         Opened { appender, end }
-    }
-
-    /// Stands behind a front of which the state was made. Refused with `Resources` alone.
-    pub fn of_redone(alloc: Global, front: &RedoneFront) -> Result<Opened, Fault>
-        ensures whole { IfOk result (λ opened. (b : List ℕ) → IsRedoneFront b front.now → IsOpened b opened) }
-        ensures from { IfOk result (λ opened. (b : List ℕ) (offset : ℕ) → IsRedoneAt b offset front.now
-            → IsOpenedAt b offset opened) }
-        ensures refused { IfErr result (λ e. e ≡ faults.Resources) }
-    {
-        let judge = Judge::of(alloc, front.version, &front.state)?;
-        Ok(Opened::of(JudgedFront {
-            judge,
-            last: front.last,
-            end: front.end,
-        }))
     }
 }

@@ -1,16 +1,23 @@
-//! A checkpoint of a state, and a log with one behind its front.
+//! A checkpoint of a state, behind the front of a log too, and the ABORTs before it.
 
-ghost use Rattle.std.specs.Prelude.{◌≤◌, length, take};
-ghost use Rattle.rq_model.specs.Frames.{AreBytes, IsBodyLength, log_limit};
-ghost use Rattle.rq_journal.specs.Checkpoints.{MakesCheckpoint, Marks, PutsFrame, SpellsBody};
+ghost use Rattle.std.specs.Prelude.{◌≡◌, [], ◌∷◌, map, OnOk, IfOk, IfErr};
+ghost use Rattle.rq_model.specs.Records as model;
+ghost use Rattle.rq_model.specs.Machine.{run};
+ghost use Rattle.rq_state.specs.Views.{unit_of};
+ghost use Rattle.rq_journal.specs.Checkpoints.{EndsUnits, MakesCheckpoint, Marks, MarksTruly};
+ghost use Rattle.rq_journal.specs.Checkpoints.{SpellsBody, StaysUnended, StaysUnmarked, unmarked};
+ghost use Rattle.rq_journal.specs.Growths.{GrowsBy, StaysGrown};
 
-use rq_front::Framer;
-use rq_record::{CheckBytes, Fault, LogBytes, Record, encode};
-use rq_restart::{Plan, RedoneFront};
+use crate::appender::NotTaken;
+use crate::growths::Growth;
+use rq_front::LOG_LIMIT;
+use rq_record::{CheckBytes, Fault, KeptRecord, Record, UnitNo, encode};
+use rq_standing::{Machine, Taken};
 use rq_state::{State, spell};
 use std::alloc::Global;
-use std::marker::Sync;
-use std::thread::Threads;
+
+// What the frame of an ABORT has: 36 bytes, and the 9 of its body.
+const ABORT_LEN: usize = 45;
 
 /// A checkpoint of a state. `TooLong` if it numbers more than 4,294,967,295 records, `TooLarge` if
 /// its spelling has more than 268,435,455 bytes, and `Resources` if memory is refused.
@@ -38,49 +45,125 @@ pub(crate) fn checkpoint_body(alloc: Global, state: &State) -> Result<Vec<u8>, F
     Ok(body)
 }
 
-/// The members of a slice of bytes are bytes of 8 bits.
-pub(crate) fn are_octets(bytes: &[u8])
-    ensures { AreBytes bytes.now }
-{
-    let _ = bytes;
+/// Why no checkpoint is gathered.
+#[derive(Clone, Copy, PartialEq, Eq, Debug)]
+pub enum NotMarked {
+    /// So many records would be numbered that no state behind one more can be spelled:
+    /// 4,294,967,295.
+    Ended,
+    /// With it the log would have more than 4,294,967,295 bytes.
+    Full,
+    /// The spelling of the state has more than 268,435,455 bytes.
+    Large,
+    /// The host refused memory.
+    Resources,
 }
 
-// The first bytes of a log, and the frame of a body behind them and these 32 bytes.
-fn framed(bytes: Vec<u8>, used: usize, last: &[u8; 32], body: &[u8]) -> Result<Vec<u8>, Fault>
-    requires within { used ≤ length bytes.items }
-    requires short { used ≤ log_limit }
-    requires body { IsBodyLength (length body.now) }
-    ensures { PutsFrame (take used bytes.items) last.now body.now result }
+// Why a record that is lawful is not taken.
+fn unmarked(why: NotTaken) -> NotMarked
+    ensures { result ≡ unmarked why }
 {
-    let mut framer = Framer::after(*last, used);
-    if !framer.has_room(body.len()) {
-        return Err(Fault::TooLarge);
+    match why {
+        NotTaken::Full => NotMarked::Full,
+        _ => NotMarked::Resources,
     }
-    let mut bytes = bytes;
-    bytes.truncate(used);
-    framer.put(body, &mut bytes)?;
-    Ok(bytes)
 }
 
-/// The log up to the end of its front, and behind it a checkpoint of the state there. What stood
-/// behind the front is dropped. The checkpoint begins where the front ended; a restart from it and
-/// one of the whole log have one report, whose queue lines are those from before.
-///
-/// Refuses with `TooLarge` a state whose spelling has more than 268,435,455 bytes, and a log that
-/// would have more than 4,294,967,295; and else as `open` does.
-pub fn marked<R: Threads + Sync>(
-    rt: &R,
-    alloc: Global,
-    bytes: Vec<u8>,
-    plan: &Plan,
-) -> Result<Vec<u8>, Fault>
-    ensures marks { Marks bytes.items result }
-{
-    are_octets(&bytes);
-    rq_model::appended_checkpoints();
-    rq_model::fronts_are_spelt();
-    rq_model::true_checkpoints_report_the_same();
-    let front = RedoneFront::of(rt, alloc, &LogBytes::borrowed(&bytes), plan)?;
-    let body = checkpoint_body(alloc, &front.state)?;
-    framed(bytes, front.end.used, &front.last, &body)
+impl Growth {
+    // Ends a unit by an ABORT, on the machine too.
+    fn end_unit(
+        &mut self,
+        alloc: Global,
+        machine: &mut Machine,
+        unit: UnitNo,
+    ) -> Result<(), NotMarked>
+        ensures grown { OnOk result
+            (GrowsBy self.old self.new (model.Abort (unit_of unit) ∷ [])) }
+        ensures state { OnOk result
+            (machine.new ≡ run machine.old (model.Abort (unit_of unit) ∷ [])) }
+        ensures refused { IfErr result (λ why. why ≡ NotMarked.Resources) }
+        ensures end { self.new.end ≡ self.old.end }
+    {
+        let Ok(()) = self.append(alloc, &Record::Abort { unit }) else {
+            return Err(NotMarked::Resources);
+        };
+        match machine.take(alloc, self.version(), &KeptRecord::Abort { unit }) {
+            Ok(Taken::Done(_)) => Ok(()),
+            _ => Err(NotMarked::Resources),
+        }
+    }
+
+    // The same of these units, in turn.
+    fn end_each(
+        &mut self,
+        alloc: Global,
+        machine: &mut Machine,
+        units: &[UnitNo],
+    ) -> Result<(), NotMarked>
+        ensures grown { OnOk result (GrowsBy self.old self.new
+            (map model.Abort (map unit_of units.now))) }
+        ensures state { OnOk result (machine.new
+            ≡ run machine.old (map model.Abort (map unit_of units.now))) }
+        ensures refused { IfErr result (λ why. why ≡ NotMarked.Resources) }
+        ensures end { self.new.end ≡ self.old.end }
+    {
+        for unit in units {
+            self.end_unit(alloc, machine, *unit)?;
+        }
+        Ok(())
+    }
+
+    /// Gathers an ABORT for each unit that is open in the state where it stands, rising. The state
+    /// behind them. If memory is refused, nothing is known of the frames from then on; else, if it
+    /// is refused, nothing is gathered.
+    pub fn end_units(&mut self, alloc: Global, state: &State) -> Result<State, NotMarked>
+        ensures ended { IfOk result (EndsUnits self.old self.new state.now) }
+        ensures refused { IfErr result (StaysUnended self.old state.now) }
+        ensures end { self.new.end ≡ self.old.end }
+    {
+        let units = state.units();
+        let count = units.len();
+        if count as u64 > State::RECORDS.saturating_sub(state.next()) {
+            return Err(NotMarked::Ended);
+        }
+        if count > LOG_LIMIT.saturating_sub(self.len()) / ABORT_LEN {
+            return Err(NotMarked::Full);
+        }
+        let Ok(mut machine) = Machine::of(alloc, state) else {
+            return Err(NotMarked::Resources);
+        };
+        self.end_each(alloc, &mut machine, units)?;
+        match machine.state(alloc) {
+            Ok(state) => Ok(state),
+            Err(_) => Err(NotMarked::Resources),
+        }
+    }
+
+    /// Gathers a checkpoint of the state where it stands. Its offset in the log, where it is true: a
+    /// restart from it and one of the whole log have one report. If it is refused, nothing is
+    /// gathered.
+    pub fn append_checkpoint(&mut self, alloc: Global, state: &State) -> Result<usize, NotMarked>
+        ensures marked { IfOk result (Marks self.old self.new state.now) }
+        ensures truth { IfOk result (MarksTruly self.old self.new state.now) }
+        ensures refused { IfErr result (StaysUnmarked self.old state.now) }
+        ensures stays { IfErr result (λ why. StaysGrown self.old self.new) }
+        ensures end { self.new.end ≡ self.old.end }
+    {
+        rq_model::appended_logs();
+        rq_model::appended_checkpoints();
+        rq_model::true_checkpoints_report_the_same();
+        if state.next() >= State::RECORDS {
+            return Err(NotMarked::Ended);
+        }
+        let checkpoint = match checkpoint_of(alloc, state) {
+            Ok(checkpoint) => checkpoint,
+            Err(Fault::TooLarge) => return Err(NotMarked::Large),
+            Err(_) => return Err(NotMarked::Resources),
+        };
+        let offset = self.len();
+        match self.append(alloc, &checkpoint) {
+            Ok(()) => Ok(offset),
+            Err(why) => Err(unmarked(why)),
+        }
+    }
 }

@@ -5,15 +5,17 @@
 mod appender;
 mod carried_logs;
 mod checkpoints;
+mod growths;
 mod left_behind;
 mod opened_logs;
 mod recoveries;
 
 pub use appender::{Appender, NotTaken, Opened};
 pub use carried_logs::{Truth, audit_carried, carried};
-pub use checkpoints::{checkpoint_of, marked};
+pub use checkpoints::{NotMarked, checkpoint_of};
+pub use growths::Growth;
 pub use left_behind::Damage;
-pub use opened_logs::{NotWritten, frames_behind, open, open_carried};
+pub use opened_logs::{open, open_carried};
 pub use recoveries::{MadeWhole, NotRecovered};
 pub use rq_front::{CARRIED_AT, is_carried, read_as_log, write_as_carried};
 pub use rq_lawful::Rule;

@@ -1,13 +1,11 @@
-//! A log is opened to write behind its front, and records are written there.
+//! A log is opened to write behind its front.
 
-ghost use Rattle.std.specs.Prelude.{map};
-ghost use Rattle.rq_record.specs.Views.{record_of};
-ghost use Rattle.rq_journal.specs.Openings.{Opens, OpensCarried, WritesBehind};
+ghost use Rattle.rq_journal.specs.Openings.{Opens, OpensCarried};
 
-use crate::appender::{NotTaken, Opened};
+use crate::appender::Opened;
 use rq_front::CARRIED_AT;
 use rq_judged::JudgedFront;
-use rq_record::{Fault, Record};
+use rq_record::Fault;
 use rq_restart::Plan;
 use std::alloc::Global;
 use std::marker::Sync;
@@ -42,41 +40,4 @@ pub fn open_carried<R: Threads + Sync>(
     ensures opens { OpensCarried bytes.now result }
 {
     Ok(Opened::of(JudgedFront::judged_at(rt, alloc, bytes, CARRIED_AT as u64, plan)?))
-}
-
-/// Why records are not written.
-#[derive(Clone, Copy, PartialEq, Eq, Debug)]
-pub enum NotWritten {
-    /// The log is refused.
-    Log(Fault),
-    /// The record at this index is not taken behind those before it.
-    At(usize, NotTaken),
-}
-
-/// The frames of these records behind the front of a log, if all of them may follow it. Whatever
-/// beginning of the frames stands there, no record whose frame is wholly there is lost, and none is
-/// invented.
-///
-/// Refuses with `Log` what `open` refuses, and with `At` the first record that is not taken.
-pub fn frames_behind<R: Threads + Sync>(
-    rt: &R,
-    alloc: Global,
-    bytes: &[u8],
-    records: &[Record],
-    plan: &Plan,
-) -> Result<Vec<u8>, NotWritten>
-    ensures { WritesBehind bytes.now (map record_of records.now) result }
-{
-    rq_model::appended_logs();
-    let opened = match open(rt, alloc, bytes, plan) {
-        Ok(opened) => opened,
-        Err(fault) => return Err(NotWritten::Log(fault)),
-    };
-    let mut appender = opened.appender;
-    let mut out = Vec::new(alloc);
-    let (count, why) = appender.append_each(alloc, records, &mut out);
-    match why {
-        None => Ok(out),
-        Some(why) => Err(NotWritten::At(count, why)),
-    }
 }

@@ -2,9 +2,8 @@
 
 ghost use Rattle.std.specs.Prelude.{◌≡◌, ◌≤◌, length, drop, IfOk, IfErr};
 ghost use Rattle.rq_record.specs.declared.fault.Fault.TheVariants.{Resources};
-ghost use Rattle.rq_journal.specs.Recoveries.{CutsOff, Recovers, RecoversAt, RecoversFrom};
+ghost use Rattle.rq_journal.specs.Recoveries.{CutsOff, RecoversAt, RecoversFrom};
 
-use crate::checkpoints::are_octets;
 use crate::left_behind::Damage;
 use rq_record::Fault;
 use rq_restart::{Ending, Plan};
@@ -95,31 +94,10 @@ fn recovered_behind(
 }
 
 impl MadeWhole {
-    /// How a log goes on that a crash left: the new log is its front, and behind that its tail, the
-    /// ABORTs of the units that are open there. What stood behind the front is handed back as what was
-    /// cut. If that is not what a crash leaves (`Damage::left_behind`), it is cut only if it is to be dropped.
-    ///
-    /// Whatever beginning of the tail is written, a restart has the same queue lines.
-    ///
-    /// Refuses damage that is not to be dropped with `Damaged`, and with `Log` what `closed` refuses.
-    pub fn of<R: Threads + Sync>(
-        rt: &R,
-        alloc: Global,
-        bytes: &[u8],
-        plan: &Plan,
-        drops: bool,
-    ) -> Result<MadeWhole, NotRecovered>
-        ensures { Recovers bytes.now drops result }
-    {
-        are_octets(bytes);
-        rq_model::closed_logs();
-        match Ending::of(rt, alloc, bytes, plan) {
-            Ok(ending) => recovered_behind(alloc, bytes, ending, drops),
-            Err(fault) => Err(NotRecovered::Log(fault)),
-        }
-    }
-
-    /// The same of a log from the checkpoint at an offset on, which is taken at its word.
+    /// How a log goes on that a crash left, from the checkpoint at an offset on, which is taken at its
+    /// word: the new log is the front from there, and behind that its tail, the ABORTs of the units that
+    /// are open there. What stood behind the front is handed back as what was cut. If that is not what a
+    /// crash leaves (`Damage::left_behind`), it is cut only if it is to be dropped.
     ///
     /// Refuses damage that is not to be dropped with `Damaged`, and with `Log` what `Ending::ending_at` refuses.
     pub fn made_at<R: Threads + Sync>(

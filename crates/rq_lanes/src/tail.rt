@@ -27,18 +27,16 @@ fn front(zeros: usize) -> &'static [u8]
     &PADDING[..zeros + 1]
 }
 
-/// The last block or two of a message of `len` bytes; `rest` are the bytes after its last whole
-/// block.
-pub(crate) fn last_blocks(rest: &[u8], len: u64) -> [u8; 128]
+/// Puts the last block or two of a message of `len` bytes at the front of this room; `rest` are the
+/// bytes after its last whole block. What stands behind them stays.
+pub(crate) fn put_last_blocks(room: &mut [u8; 128], rest: &[u8], len: u64)
     requires { length rest.now ≡ len % 64 }
-    ensures { take (len % 64 + (119 - len % 64) % 64 + 9) result ≡ rest.now ++ padding len }
+    ensures { take (len % 64 + (119 - len % 64) % 64 + 9) room.new ≡ rest.now ++ padding len }
 {
     let used = rest.len();
     let zeros = (119 - used) % 64;
     let end = used + (zeros + 1);
-    let mut out = [0u8; 128];
-    out[..used].copy_from_slice(rest);
-    out[used..end].copy_from_slice(front(zeros));
-    out[end..end + 8].copy_from_slice(&len.wrapping_mul(8).to_be_bytes());
-    out
+    room[..used].copy_from_slice(rest);
+    room[used..end].copy_from_slice(front(zeros));
+    room[end..end + 8].copy_from_slice(&len.wrapping_mul(8).to_be_bytes());
 }

@@ -1,6 +1,6 @@
 -- A manager that does a record, and one that settles.
-use Rattle.std.proofs.Common.{◌≡◌, ℕ, Bool, true, false, List, [], ◌∷◌, ◌++◌, Option, Some, None, sym, ap, subst, map}
-use Rattle.std.proofs.Common.{take, append_assoc}
+use Rattle.std.proofs.Common.{◌≡◌, ℕ, Bool, true, false, List, [], ◌∷◌, ◌++◌, Option, Some, None, sym, ap, subst}
+use Rattle.std.proofs.Common.{take}
 use Rattle.std.proofs.Common.{◌∙◌, ◌+◌, ◌-◌, ◌*◌, ◌<◌, ◌≤◌, length, inl, inr, arith}
 use Rattle.std.specs.List.{AllByRecursion}
 use Rattle.std.proofs.lemmas.Bool.{and_parts, eqb-true, false≢true, lt-ltb}
@@ -8,7 +8,7 @@ use Rattle.std.specs.Prelude.{Result, Ok, Err, OnOk, IfErr, ◌==◌}
 use Rattle.std.specs.Global.{Vec}
 use Rattle.std.specs.Io.KnownBytes.{append_known}
 use Rattle.std.proofs.Math.Seq.{take-nil}
-use Rattle.std.proofs.lemmas.List.{append-nil, take_at}
+use Rattle.std.proofs.lemmas.List.{append-nil, take-take, take_at}
 use Rattle.rq_model.specs.Records.{Record, Begin, Commit, Abort, Version}
 use Rattle.rq_model.specs.Spelling.{body_of}
 use Rattle.rq_model.specs.Frames.{log_limit, log_of, header}
@@ -25,16 +25,16 @@ use Rattle.rq_model.specs.Appending.{AppendedIsFront, CheckpointIsTrue}
 use Rattle.rq_record.specs.declared.record.ElemId.{ElemId}
 use Rattle.rq_queue.specs.Firsts.{AreFirst}
 use Rattle.rq_live.proofs.PartListings.{lists_all}
-use Rattle.rq_device.specs.Devices.{AreStored, IsAllSynced, cut_known}
+use Rattle.rq_device.specs.Devices.{AreStored, CrashLeaves, IsAllSynced, cut_known}
 use Rattle.rq_live.specs.declared.kernel.Kernel.{Kernel}
 use Rattle.rq_live.specs.declared.kernel.NotDone.{NotDone}
 use Rattle.rq_live.specs.declared.kernel.NotDone.TheVariants.{Unlawful, Full, Large, Ended, Spent}
 use Rattle.rq_live.specs.Kernels.{KernelTakes, KernelStays, KernelRefuses, KernelMarks, IsWhyNotTaken, HasRoomForEnds}
-use Rattle.rq_live.specs.Kernels.{HasNoRoom}
+use Rattle.rq_live.specs.Kernels.{HasNoRoom, KernelAborts}
 use Rattle.rq_live.specs.Kernels.{IsKernelBehind, checkpoint_in, length_with_ends}
 use Rattle.rq_live.specs.Managers.{Stand, IsManaged, Does, DoesTaking, ManagerStops, StopsEnd, StopsBegin}
-use Rattle.rq_live.specs.Managers.{Settles}
-use Rattle.rq_live.specs.Managers.{AreFirstFree, DoesEach, AbortsAll, Secures, Resumes, StopsResume, Commits}
+use Rattle.rq_live.specs.Managers.{Serves, Settles}
+use Rattle.rq_live.specs.Managers.{AreFirstFree, AbortsAll, Secures, Resumes, StopsResume, Commits}
 use Rattle.rq_live.specs.Managers.{MarksState}
 use Rattle.rq_live.specs.Managers.{MarksSafely}
 use Rattle.rq_live.proofs.Taking.{log_long, long_with_ends, some_open, commit_long, abort_long}
@@ -203,17 +203,6 @@ marks_so stops appended true_there a m b offset marks s version rs h =
           (true_there (log_of version rs) version rs [] (front_there stops appended version rs a h) x.1 x.0.at.short),
     )
 
--- no record is done
-pub does_none : (a : Stand) → DoesEach a a []
-does_none a version rs m = subst (λ (xs : List Record). IsManaged version xs a) (sym (append-nil rs)) m
-
--- one record more is done
-pub does_one_more : (a m b : Stand) (xs : List Record) (r : Record) (id : Option ElemId) → DoesEach a m xs
-    → DoesTaking m b r id → DoesEach a b (xs ++ r ∷ [])
-does_one_more a m b xs r id each one version rs h =
-    subst (λ (ys : List Record). IsManaged version ys b)
-    (append_assoc rs xs (r ∷ [])) (one version (rs ++ xs) (each version rs h)).0
-
 -- the first bytes of those that are stored
 front_stored : (known : Option (List ℕ)) (log rest : List ℕ) (len : ℕ) → len ≡ length log
     → AreStored known (log ++ rest)
@@ -221,61 +210,80 @@ front_stored : (known : Option (List ℕ)) (log rest : List ℕ) (len : ℕ) →
 front_stored None log rest len long stored = tt
 front_stored (Some w) log rest len long stored = ap (take len) stored ∙ take_at log rest len (sym long)
 
+-- a kernel that stands behind these records over a device that keeps the front before them
+front_managed : (m : Stand) (known : Option (List ℕ)) (used : ℕ) (version : Version) (rs xs : List Record) (rest : List ℕ)
+    → m.spent ≡ false → Serves m → m.written ≡ cut_known used known → used ≡ length (log_of version rs)
+    → AreStored known (log_of version rs ++ rest) → IsKernelBehind version xs (log_of version rs) m.kernel
+    → HasRoomForEnds version xs → IsManaged version xs m
+front_managed m known used version rs xs rest unspent serves cut long stored at room = record {
+  unspent = unspent;
+  serves = serves;
+  bytes = log_of version rs;
+  known = subst (λ (k : Option (List ℕ)). AreStored k (log_of version rs)) (sym cut)
+      (front_stored known (log_of version rs) rest used long stored);
+  at = at;
+  room = room;
+}
+
+-- there is room for the ends of all units
+room_for_ends : (k : Kernel) → k.framer.len + 45 * length k.machine.units ≤ log_limit → (version : Version)
+    (rs : List Record) (w : List ℕ) → IsKernelBehind version rs w k → HasRoomForEnds version rs
+room_for_ends k room version rs w h = omega (
+  arith,
+  room,
+  h.framer.len,
+  log_long version rs,
+  ap (λ (s : State). length s.units) h.state,
+)
+
 -- a front that was made sure
-pub secures_so : (a : Stand) (written : Option (List ℕ)) (synced : ℕ) (doubted failed : Bool)
-    → a.spent ≡ false → failed ≡ false → doubted ≡ false → IsAllSynced written synced
-    → written ≡ cut_known a.kernel.framer.len a.written
-    → a.kernel.framer.len + 45 * length a.kernel.machine.units ≤ log_limit → Secures a (record {
-      written = written;
-      synced = synced;
-      doubted = doubted;
-      failed = failed;
-      spent = a.spent;
-      kernel = a.kernel;
-    })
-secures_so a written synced doubted failed unspent works sure all cut room version rs rest h stored =
-    let log = log_of version rs in
-    let long = h.framer.len ∙ sym (log_long version rs) in
-    record {
-      unspent = unspent;
-      serves = (works, sure, all);
-      bytes = log;
-      known = subst (λ (k : Option (List ℕ)). AreStored k log) (sym cut)
-          (front_stored a.written log rest a.kernel.framer.len long stored);
-      at = record {
-        rules = h.rules;
-        may = h.may;
-        short = h.short;
-        state = h.state;
-        framer = h.framer;
-        bytes = h.bytes;
-      };
-      room = has_ends version rs a.kernel.framer.len (length a.kernel.machine.units) long
-          (ap (λ (s : State). length s.units) h.state) room;
-    }
-  where
-    has_ends : (version : Version) (rs : List Record) (len count : ℕ) → len ≡ length (log_of version rs)
-        → count ≡ length (run empty rs).units → len + 45 * count ≤ log_limit → HasRoomForEnds version rs
-    has_ends version rs len count long is room = omega (arith, long, is, room)
+pub secures_so : (a b : Stand) (result : Result (Unit {0}) NotDone) (used : ℕ) → used ≡ a.kernel.framer.len
+    → a.kernel.framer.len + 45 * length a.kernel.machine.units ≤ log_limit → b.kernel ≡ a.kernel
+    → OnOk result (b.spent ≡ false) → OnOk result (Serves b) → OnOk result (b.written ≡ cut_known used a.written)
+    → OnOk result (Secures a b)
+secures_so a b (Ok x) used is room same unspent serves cut = λ version rs rest h stored.
+    front_managed b a.written used version rs rs rest unspent serves cut
+    (is ∙ h.framer.len ∙ sym (log_long version rs)) stored
+    (subst (IsKernelBehind version rs (log_of version rs)) (sym same) h)
+    (room_for_ends a.kernel room version rs (log_of version rs) h)
+secures_so a b (Err why) used is room same unspent serves cut = tt
 
 -- all units that were open were aborted
-pub aborts_so : (a b : Stand) (units : List ℕ) → units ≡ a.kernel.machine.units → DoesEach a b (map Abort units)
-    → AbortsAll a b
-aborts_so a b units are each version rs m =
-    subst (λ (us : List ℕ). IsManaged version (rs ++ map Abort us) b) (are ∙ ap (λ (s : State). s.units) m.at.state)
-    (each version rs m)
+pub aborts_so : (a : Stand) (k : Kernel) → KernelAborts a.kernel k → AbortsAll a (record a { kernel = k })
+aborts_so a k ended version rs m =
+    let x = ended version rs m.bytes m.at m.room in
+    over_kernel a k version rs (rs ++ aborts (run empty rs)) m x.0 x.1
 
--- a front that was made sure, behind which all open units were aborted, and which was settled
-pub resumes_so : (a m n b : Stand) (result : Result (Unit {0}) NotDone) → Secures a m → AbortsAll m n
-    → OnOk result (Settles n b) → OnOk result (Resumes a b)
-resumes_so a m n b (Ok x) secures ended settled = λ version rs rest h stored.
-    settled version (rs ++ aborts (run empty rs)) (ended version rs (secures version rs rest h stored))
-resumes_so a m n b (Err why) secures ended settled = tt
+-- and then all was settled
+pub aborts_settled : (a m b : Stand) (result : Result (Unit {0}) NotDone) → AbortsAll a m
+    → OnOk result (Settles m b) → OnOk result (AbortsAll a b)
+aborts_settled a m b (Ok x) ended settled = λ version rs h.
+    (settled version (rs ++ aborts (run empty rs)) (ended version rs h)).0
+aborts_settled a m b (Err why) ended settled = tt
+
+-- a front that was made sure under a kernel that had aborted all open units, which was settled
+pub resumes_so : (a m b : Stand) (k : Kernel) (result : Result (Unit {0}) NotDone) (used : ℕ)
+    → used ≡ a.kernel.framer.len → a.kernel.framer.len + 45 * length a.kernel.machine.units ≤ log_limit
+    → KernelAborts a.kernel k → m.kernel ≡ k → m.spent ≡ false → Serves m → m.written ≡ cut_known used a.written
+    → OnOk result (Settles m b) → OnOk result (Resumes a b)
+resumes_so a m b k (Ok x) used is room ended same unspent serves cut settled = λ version rs rest h stored.
+    let all = rs ++ aborts (run empty rs) in
+    let there = ended version rs (log_of version rs) h (room_for_ends a.kernel room version rs (log_of version rs) h) in
+    settled version all (front_managed m a.written used version rs all rest unspent serves cut
+    (is ∙ h.framer.len ∙ sym (log_long version rs)) stored
+    (subst (IsKernelBehind version all (log_of version rs)) (sym same) there.0) there.1)
+resumes_so a m b k (Err why) used is room ended same unspent serves cut settled = tt
 
 pub spent_resume : (a b : Stand) (result : Result (Unit {0}) NotDone)
     → IfErr result (λ (why : NotDone). (why ≡ Spent) × (b.spent ≡ true)) → IfErr result (StopsResume a b)
 spent_resume a b (Ok x) h = tt
 spent_resume a b (Err why) h = subst (StopsResume a b) (sym h.0) h.1
+
+-- what begins with so many of the bytes begins with fewer
+pub leaves_fewer : (known : Option (List ℕ)) (n m : ℕ) → n ≤ m → (c : List ℕ) → CrashLeaves known m c
+    → CrashLeaves known n c
+leaves_fewer None n m few c left = tt
+leaves_fewer (Some w) n m few c left = sym (take-take n m c few) ∙ ap (take n) left ∙ take-take n m w few
 
 -- there is no room for the ends of all units
 pub no_room_for_ends : (k : Kernel) → log_limit < k.framer.len + 45 * length k.machine.units → (version : Version)

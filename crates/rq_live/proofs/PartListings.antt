@@ -1,5 +1,5 @@
 -- What the part of a queue lists is what the state lists.
-use Rattle.std.proofs.Common.{◌≡◌, ℕ, Bool, true, false, ◌==◌, List, [], ◌∷◌, sym, ap, refl, ◌∙◌, cond, inl, inr}
+use Rattle.std.proofs.Common.{◌≡◌, ℕ, true, ◌==◌, List, [], ◌∷◌, sym, ap, refl, ◌∙◌, cond, inl, inr}
 use Rattle.std.proofs.Common.{⊎_elim}
 use Rattle.std.proofs.lemmas.Bool.{and_parts, false≢true}
 use Rattle.rq_model.specs.Queues.{elements_at}

@@ -1,6 +1,6 @@
 -- A record that is taken, and one that is not.
 use Rattle.std.proofs.Common.{◌≡◌, ℕ, ◌+◌, ◌-◌, ◌*◌, ◌<◌, ◌≤◌, ◌==◌, Bool, true, false, not, cond, List, [], ◌∷◌, ◌++◌}
-use Rattle.std.proofs.Common.{length}
+use Rattle.std.proofs.Common.{length, map}
 use Rattle.std.proofs.Common.{◌∙◌, ◌||◌, refl, sym, ap, subst, append_assoc, arith}
 use Rattle.std.specs.List.{list_any}
 use Rattle.std.proofs.lemmas.Bool.{and_from, false≢true}
@@ -28,13 +28,13 @@ use Rattle.rq_front.specs.Framers.{Frames, Place, behind_header, length_with}
 use Rattle.rq_live.specs.declared.kernel.Kernel.{Kernel}
 use Rattle.rq_live.specs.declared.kernel.NotDone.{NotDone}
 use Rattle.rq_live.specs.declared.kernel.NotDone.TheVariants.{Unlawful, Full, Large, Ended, Spent}
-use Rattle.std.specs.Prelude.{Option}
+use Rattle.std.specs.Prelude.{Option, Result, Ok, Err, OnOk}
 use Rattle.rq_record.specs.Views.{version_of}
 use Rattle.rq_record.specs.declared.record.ElemId.{ElemId}
 use Rattle.rq_live.specs.Kernels.{BreaksThere, IsKernelBehind, IsTaken, HasRoomForEnds, HasNoRoom, open_behind}
 use Rattle.rq_live.specs.Kernels.{length_with_ends}
 use Rattle.rq_live.specs.Kernels.{KernelTakes, KernelStays, KernelStops, KernelRefuses, KernelMarks, KernelStopsMark}
-use Rattle.rq_live.specs.Kernels.{checkpoint_in}
+use Rattle.rq_live.specs.Kernels.{KernelAborts, KernelTakesEach, checkpoint_in}
 
 -- a body fits into a frame
 pub body_fits : (r : Record) → RecordHasOneBody
@@ -238,6 +238,33 @@ no_room version rs w r a body h is lawful long =
         long_with_ends version rs r (open_behind (length (run empty rs).units) r),
       );
     }
+
+-- no record is taken
+pub takes_none : (a : Kernel) → KernelTakesEach a a []
+takes_none a version rs w at room = (
+  subst (λ (xs : List Record). IsKernelBehind version xs w a) (sym (append-nil rs)) at,
+  subst (HasRoomForEnds version) (sym (append-nil rs)) room,
+)
+
+-- one record more is taken
+pub takes_one_more : (a m b : Kernel) (xs : List Record) (r : Record) (id : Option ElemId) → KernelTakesEach a m xs
+    → KernelTakes m b r id → KernelTakesEach a b (xs ++ r ∷ [])
+takes_one_more a m b xs r id each one version rs w at room =
+    let there = each version rs w at room in
+    let next = one version (rs ++ xs) w there.0 in
+    let joined = append_assoc rs xs (r ∷ []) in (
+      subst (λ (ys : List Record). IsKernelBehind version ys w b) joined next.0,
+      subst (HasRoomForEnds version) joined next.1.room,
+    )
+
+-- the ABORTs of all open units are taken
+pub takes_ends : (a b : Kernel) (units : List ℕ) (result : Result (Unit {0}) NotDone) → units ≡ a.machine.units
+    → OnOk result (KernelTakesEach a b (map Abort units)) → OnOk result (KernelAborts a b)
+takes_ends a b units (Ok x) are each = λ version rs w at room.
+    subst (λ (us : List ℕ). IsKernelBehind version (rs ++ map Abort us) w b
+    × HasRoomForEnds version (rs ++ map Abort us))
+    (are ∙ ap (λ (s : State). s.units) at.state) (each version rs w at room)
+takes_ends a b units (Err why) are each = tt
 
 -- a checkpoint that was taken is one of the state there
 pub marks_on : (a b : Kernel) (r : Record) (id : Option ElemId) → KernelTakes a b r id → r ≡ checkpoint_in a.machine

@@ -5,7 +5,7 @@ use Rattle.rq_model.specs.Spelling.{body_of, Spells}
 use Rattle.rq_model.specs.Frames.{IsBodyLength, log_limit, log_of}
 use Rattle.rq_model.specs.States.{State, empty}
 use Rattle.rq_model.specs.StateSpelling.{state_bytes}
-use Rattle.rq_model.specs.Machine.{is_lawful, run}
+use Rattle.rq_model.specs.Machine.{is_lawful, aborts, run}
 use Rattle.rq_model.specs.Appending.{MayFollow, FitsCheckpoint}
 use Rattle.rq_record.specs.Views.{version_of}
 use Rattle.rq_record.specs.Writing.{HasKind}
@@ -83,6 +83,18 @@ pub record IsTaken (version : Version) (rs : List Record) (r : Record) (id : Opt
 abbrev pub KernelTakes : Kernel → Kernel → Record → Option ElemId → Type 0
 KernelTakes a b r id = (version : Version) (rs : List Record) (w : List ℕ) → IsKernelBehind version rs w a
     → IsKernelBehind version (rs ++ r ∷ []) w b × IsTaken version rs r id
+
+-- wherever a stood with room for the end of each open unit, b stands behind all of these records too,
+-- and has that room
+abbrev pub KernelTakesEach : Kernel → Kernel → List Record → Type 0
+KernelTakesEach a b xs = (version : Version) (rs : List Record) (w : List ℕ) → IsKernelBehind version rs w a
+    → HasRoomForEnds version rs → IsKernelBehind version (rs ++ xs) w b × HasRoomForEnds version (rs ++ xs)
+
+-- and these are the ABORTs of the units that were open there
+abbrev pub KernelAborts : Kernel → Kernel → Type 0
+KernelAborts a b = (version : Version) (rs : List Record) (w : List ℕ) → IsKernelBehind version rs w a
+    → HasRoomForEnds version rs → IsKernelBehind version (rs ++ aborts (run empty rs)) w b
+    × HasRoomForEnds version (rs ++ aborts (run empty rs))
 
 -- wherever a stood, b stands
 abbrev pub KernelStays : Kernel → Kernel → Type 0

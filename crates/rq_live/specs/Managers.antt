@@ -1,10 +1,13 @@
 -- How a manager stands over its device, and what a call does.
-use Rattle.std.specs.Prelude.{◌≡◌, ◌≤◌, ◌+◌, length, ℕ, Bool, true, false, List, [], ◌∷◌, ◌++◌, Option, option_map}
-use Rattle.std.specs.List.{find}
-use Rattle.rq_model.specs.Records.{By, Record, Begin, Dequeue, Commit, Version}
+use Rattle.std.specs.Prelude.{◌≡◌, ◌≤◌, ◌+◌, length, ℕ, Bool, true, false, List, [], ◌∷◌, ◌++◌, Option, Some, None, option_map}
+use Rattle.std.specs.Prelude.{◌==◌, ◌&&◌, filter}
+use Rattle.std.specs.List.{find, list_any}
+use Rattle.std.specs.List.Sorted.{IsPermutation}
+use Rattle.rq_model.specs.Records.{By, Record, Begin, Dequeue, Commit, Kill, Version}
 use Rattle.rq_model.specs.Frames.{log_of}
-use Rattle.rq_model.specs.States.{Element, Last, Definition, empty, is_registrant}
-use Rattle.rq_model.specs.Machine.{is_lawful, aborts, best, run}
+use Rattle.rq_model.specs.States.{State, Element, Last, Definition, Registrant, empty, is_registrant}
+use Rattle.rq_model.specs.Machine.{is_lawful, is_open, is_free_at, aborts, best, run}
+use Rattle.rq_model.specs.Queues.{registrants_at}
 use Rattle.rq_model.specs.Appending.{FitsCheckpoint, with_checkpoint}
 use Rattle.rq_model.specs.Checkpoints.{TrueAt}
 use Rattle.rq_record.specs.declared.record.ElemId.{ElemId}
@@ -85,6 +88,32 @@ Dequeues a b unit queue by e = (version : Version) (rs : List Record) → IsMana
     × (is_lawful version (run empty rs) (Dequeue unit queue by) ≡ true)
     × (e ≡ best queue (run empty rs).elements)
 
+-- wherever a stood, b stands
+abbrev pub StandsStill : Stand → Stand → Type 0
+StandsStill a b = (version : Version) (rs : List Record) → IsManaged version rs a → IsManaged version rs b
+
+-- wherever a stood, the record is lawful, and b stands there
+abbrev pub StandsLawful : Stand → Stand → Record → Type 0
+StandsLawful a b r = (version : Version) (rs : List Record) → IsManaged version rs a
+    → IsManaged version rs b × (is_lawful version (run empty rs) r ≡ true)
+
+-- the best free element is taken; or the DEQUEUE is lawful, no element is free, and nothing is done
+abbrev pub DequeuesIfFree : Stand → Stand → ℕ → ℕ → Option By → Option Element → Type 0
+DequeuesIfFree a b unit queue by (Some e) = Dequeues a b unit queue by (Some e)
+DequeuesIfFree a b unit queue by None = StandsLawful a b (Dequeue unit queue by)
+    × ((version : Version) (rs : List Record) → IsManaged version rs a → best queue (run empty rs).elements ≡ None)
+
+-- the queue has this element there, and it is free
+abbrev pub is_free_in : State → ℕ → ℕ → Bool
+is_free_in s queue element = list_any (λ e. is_free_at queue e && (e.id == element)) s.elements
+
+-- the element is free there, and is killed; or the KILL is lawful, it is not free, and nothing is done
+abbrev pub KillsIfFree : Stand → Stand → ℕ → ℕ → Bool → Type 0
+KillsIfFree a b queue element true = Does a b (Kill queue element)
+    × ((version : Version) (rs : List Record) → IsManaged version rs a → is_free_in (run empty rs) queue element ≡ true)
+KillsIfFree a b queue element false = StandsLawful a b (Kill queue element)
+    × ((version : Version) (rs : List Record) → IsManaged version rs a → is_free_in (run empty rs) queue element ≡ false)
+
 -- why the record is not taken: b is spent, or it stands where a stood
 abbrev pub ManagerStops : Stand → Stand → Record → NotDone → Type 0
 ManagerStops a b r Spent = b.spent ≡ true
@@ -153,10 +182,6 @@ StopsMark a b (Unlawful rule) = (version : Version) (rs : List Record) → IsMan
 StopsMark a b why = (version : Version) (rs : List Record) → IsManaged version rs a
     → IsManaged version rs b × IsWhyNotTaken version rs (checkpoint_in (run empty rs)) why
 
--- wherever a stood, b stands behind all of these records
-abbrev pub DoesEach : Stand → Stand → List Record → Type 0
-DoesEach a b xs = (version : Version) (rs : List Record) → IsManaged version rs a → IsManaged version (rs ++ xs) b
-
 -- wherever a stood, b stands behind the ABORTs of the units that were open there
 abbrev pub AbortsAll : Stand → Stand → Type 0
 AbortsAll a b = (version : Version) (rs : List Record) → IsManaged version rs a
@@ -208,3 +233,25 @@ AreDefined m definitions = (version : Version) (rs : List Record) → IsManaged 
 abbrev pub AreFirstFree : Stand → ℕ → ℕ → List Element → Type 0
 AreFirstFree m queue most es = (version : Version) (rs : List Record) → IsManaged version rs m
     → AreFirst most queue (run empty rs).elements es
+
+-- wherever it stands, this is the greatest unit that ever began
+abbrev pub IsGreatest : Stand → ℕ → Type 0
+IsGreatest m unit = (version : Version) (rs : List Record) → IsManaged version rs m → unit ≡ (run empty rs).greatest
+
+-- wherever it stands, so many records are done
+abbrev pub IsCount : Stand → ℕ → Type 0
+IsCount m count = (version : Version) (rs : List Record) → IsManaged version rs m → count ≡ (run empty rs).next
+
+-- wherever it stands, this tells whether the unit is open
+abbrev pub IsOpenThere : Stand → ℕ → Bool → Type 0
+IsOpenThere m unit b = (version : Version) (rs : List Record) → IsManaged version rs m → b ≡ is_open (run empty rs) unit
+
+-- wherever it stands, so many elements of the queue are free
+abbrev pub IsDepth : Stand → ℕ → ℕ → Type 0
+IsDepth m queue count = (version : Version) (rs : List Record) → IsManaged version rs m
+    → count ≡ length (filter (is_free_at queue) (run empty rs).elements)
+
+-- wherever it stands, these are registered with the queue, in some order
+abbrev pub AreRegistered : Stand → ℕ → List Registrant → Type 0
+AreRegistered m queue rs = (version : Version) (done : List Record) → IsManaged version done m
+    → IsPermutation (registrants_at queue (run empty done).registrants) rs

@@ -1,7 +1,7 @@
 //! The queues as they stand, and the frames of what was done to them.
 
 ghost use Rattle.std.specs.Prelude.{◌≡◌, ◌≢◌, ◌<◌, ◌≤◌, ◌+◌, ◌*◌, List, [], length, nat_le};
-ghost use Rattle.std.specs.Prelude.{IfOk, IfErr, OnOk};
+ghost use Rattle.std.specs.Prelude.{map, IfOk, IfErr, OnOk};
 ghost use Rattle.rq_model.specs.Records as model;
 ghost use Rattle.rq_model.specs.Appending.{MayFollow, FitsCheckpoint};
 ghost use Rattle.rq_model.specs.Frames.{IsBodyLength, log_limit, log_of};
@@ -10,13 +10,15 @@ ghost use Rattle.rq_model.specs.StateSpelling.{state_bytes};
 ghost use Rattle.rq_model.specs.Machine.{best, run};
 ghost use Rattle.rq_record.specs.Views.{record_of, version_of};
 ghost use Rattle.rq_record.specs.declared.fault.Fault.TheVariants.{Resources};
+ghost use Rattle.rq_state.specs.Views.{unit_of};
 ghost use Rattle.rq_front.specs.Framers.{IsFramerAt, behind_header};
 ghost use Rattle.rq_live.specs.Kernels.{IsKernelBehind, IsBodyOf, KernelTakes, KernelStops};
-ghost use Rattle.rq_live.specs.Kernels.{KernelMarks, KernelStopsMark, open_behind};
+ghost use Rattle.rq_live.specs.Kernels.{KernelAborts, KernelMarks, KernelStopsMark, KernelTakesEach};
+ghost use Rattle.rq_live.specs.Kernels.{open_behind};
 
 use rq_front::{FRAME_LEN, Framer, LOG_LIMIT, header_of};
 use rq_lawful::Rule;
-use rq_record::{CheckBytes, ElemId, Fault, KeptRecord, QueueNo, Record, Version, encode};
+use rq_record::{CheckBytes, ElemId, Fault, KeptRecord, QueueNo, Record, UnitNo, Version, encode};
 use rq_standing::{Machine, Taken};
 use rq_state::{KeptElement, State};
 use std::alloc::Global;
@@ -101,6 +103,13 @@ impl Kernel {
         }
     }
 
+    /// How many units are open.
+    pub fn open_count(&self) -> usize
+        ensures { result ≡ length self.now.machine.units }
+    {
+        self.machine.open_count()
+    }
+
     /// The element that the next DEQUEUE takes from a queue, if one is free; a copy.
     pub(crate) fn first(&self, queue: QueueNo) -> Result<Option<KeptElement>, NotDone>
         ensures { IfOk result (λ e. e ≡ best queue.0 self.now.machine.elements) }
@@ -115,7 +124,7 @@ impl Kernel {
     }
 
     /// Whether the log has room for the end of each unit that is open.
-    pub(crate) fn has_room_for_ends(&self) -> bool
+    pub fn has_room_for_ends(&self) -> bool
         ensures { result
             ≡ nat_le (self.now.framer.len + 45 * length self.now.machine.units) log_limit }
     {
@@ -227,6 +236,28 @@ impl Kernel {
         match self.take(alloc, &Record::Checkpoint { bytes }) {
             Ok(_) => Ok(()),
             Err(why) => Err(why),
+        }
+    }
+    // Aborts these units, in turn.
+    fn abort_each(&mut self, alloc: Global, units: &[UnitNo]) -> Result<(), NotDone>
+        ensures { OnOk result (KernelTakesEach self.old self.new
+            (map model.Abort (map unit_of units.now))) }
+    {
+        for unit in units {
+            let Ok(_) = self.take(alloc, &Record::Abort { unit: *unit }) else {
+                return Err(NotDone::Spent);
+            };
+        }
+        Ok(())
+    }
+
+    /// Aborts all units that are open, rising. If it is refused, nothing is known of it from then on.
+    pub(crate) fn abort_open(&mut self, alloc: Global) -> Result<(), NotDone>
+        ensures { OnOk result (KernelAborts self.old self.new) }
+    {
+        match self.machine.open_units(alloc) {
+            Ok(units) => self.abort_each(alloc, &units),
+            Err(_) => Err(NotDone::Spent),
         }
     }
 }

@@ -3,10 +3,13 @@
 #![tactic(auto)]
 
 mod checkpoints;
+mod free_elements;
 mod kernel;
+mod looks;
 mod manager;
 mod operations;
 mod resumption;
 
 pub use kernel::{Kernel, NotDone};
+pub use looks::Depths;
 pub use manager::Manager;

@@ -7,7 +7,7 @@ ghost use Rattle.rq_record.specs.declared.fault.Fault.TheVariants.{Resources};
 ghost use Rattle.rq_state.specs.Views.{unit_of};
 ghost use Rattle.rq_device.specs.Devices.{AreStored, IsAllSynced};
 ghost use Rattle.rq_live.specs.Managers.{IsManaged, IsInOrder, KeepsWindow, stand_of, DoesTaking};
-ghost use Rattle.rq_live.specs.Managers.{ManagerStops};
+ghost use Rattle.rq_live.specs.Managers.{ManagerStops, StandsStill};
 ghost use Rattle.rq_live.specs.Managers.{Settles, KeepsSafe, IsLength, IsLastOf, AreOpen};
 ghost use Rattle.rq_live.specs.Managers.{AreDefined, AreFirstFree};
 
@@ -192,6 +192,31 @@ impl<D: Device + Drop> Manager<D> {
             (λ why. (self.old.spent ≡ true) ⊎ (D.failed self.new.device ≡ true)) }
     {
         self.settle_pending()
+    }
+
+    /// Shows what is pending to who reads the log meanwhile. A crash of the host may take it.
+    pub fn preview(&mut self) -> Result<(), NotDone>
+        requires { IsInOrder (stand_of D.written D.synced D.doubted D.failed self.old) }
+        ensures order { IsInOrder (stand_of D.written D.synced D.doubted D.failed self.new) }
+        ensures spent { self.old.spent ≡ true
+            → (self.new ≡ self.old) × (result ≡ Err NotDone.Spent) }
+        ensures stays { OnOk result (StandsStill
+            (stand_of D.written D.synced D.doubted D.failed self.old)
+            (stand_of D.written D.synced D.doubted D.failed self.new)) }
+        ensures keeps { KeepsSafe (stand_of D.written D.synced D.doubted D.failed self.old)
+            (stand_of D.written D.synced D.doubted D.failed self.new) }
+        ensures refused { IfErr result (λ why. (why ≡ NotDone.Spent) × (self.new.spent ≡ true)) }
+    {
+        if self.spent {
+            return Err(NotDone::Spent);
+        }
+        match self.device.preview(&self.kernel.pending) {
+            Ok(()) => Ok(()),
+            Err(_) => {
+                self.spent = true;
+                Err(NotDone::Spent)
+            }
+        }
     }
 
     // Does a record, pending.

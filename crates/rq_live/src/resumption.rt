@@ -1,20 +1,47 @@
 //! A manager that goes on from what a crash left.
 
-ghost use Rattle.std.specs.Prelude.{◌≡◌, ◌≤◌, ℕ, true, false, map, OnOk, IfErr};
-ghost use Rattle.rq_model.specs.Records as model;
-ghost use Rattle.rq_state.specs.Views.{unit_of};
-ghost use Rattle.rq_device.specs.Devices.{AreUnsynced, HasLength, KeepsSynced};
+ghost use Rattle.std.specs.Prelude.{◌≡◌, ◌≤◌, ◌⊎◌, ℕ, true, false, OnOk, IfErr};
+ghost use Rattle.rq_device.specs.Devices.{AreUnsynced, HasLength, KeepsSynced, cut_known};
 ghost use Rattle.rq_live.specs.Kernels.{StandsWithin};
-ghost use Rattle.rq_live.specs.Managers.{IsInOrder, stand_of, DoesEach, AbortsAll, KeepsSafe};
-ghost use Rattle.rq_live.specs.Managers.{Resumes, Secures, StopsResume};
+ghost use Rattle.rq_live.specs.Managers.{IsInOrder, KeepsWindow, Serves, stand_of, AbortsAll};
+ghost use Rattle.rq_live.specs.Managers.{KeepsSafe, Resumes, Secures, StopsResume};
 
 use crate::kernel::NotDone;
 use crate::manager::Manager;
-use rq_device::{Device, keep_front};
-use rq_record::{Record, UnitNo};
+use rq_device::{Device, WINDOW, keep_front};
 use std::alloc::Global;
 
 impl<D: Device + Drop> Manager<D> {
+    // Cuts off what stands on the device behind so many bytes, and makes these survive a crash.
+    fn keep_first(&mut self, used: usize, stands: usize) -> Result<(), NotDone>
+        requires unspent { self.old.spent ≡ false }
+        requires works { D.failed self.old.device ≡ false }
+        requires within { used ≤ stands }
+        requires stands { HasLength stands (D.written self.old.device) }
+        requires window { AreUnsynced 1048576 (D.written self.old.device)
+            (D.synced self.old.device) }
+        ensures window { KeepsWindow (stand_of D.written D.synced D.doubted D.failed self.new) }
+        ensures kernel { self.new.kernel ≡ self.old.kernel }
+        ensures unspent { OnOk result (self.new.spent ≡ false) }
+        ensures serves { OnOk result (Serves
+            (stand_of D.written D.synced D.doubted D.failed self.new)) }
+        ensures bytes { OnOk result (D.written self.new.device
+            ≡ cut_known used (D.written self.old.device)) }
+        ensures refused { IfErr result (λ why. (why ≡ NotDone.Spent) × (self.new.spent ≡ true)) }
+        ensures fault { IfErr result (λ why. D.failed self.new.device ≡ true) }
+        ensures keeps { (n : ℕ) → n ≤ used → n ≤ D.synced self.old.device
+            → KeepsSynced (D.written self.old.device) n (D.written self.new.device)
+            (D.synced self.new.device) }
+    {
+        match keep_front(&mut self.device, used, stands) {
+            Ok(()) => Ok(()),
+            Err(_) => {
+                self.spent = true;
+                Err(NotDone::Spent)
+            }
+        }
+    }
+
     /// Goes on from what a crash left, of which so many bytes stand there, and behind the front of
     /// which its kernel stands: cuts off what stands behind that, and makes the front survive a
     /// crash. Units that are open there stay open. What was synced of the front stays meanwhile,
@@ -40,34 +67,12 @@ impl<D: Device + Drop> Manager<D> {
             → KeepsSynced (D.written self.old.device) n (D.written self.new.device)
             (D.synced self.new.device) }
     {
+        let used = self.kernel.framer.len();
         if !self.kernel.has_room_for_ends() {
             self.spent = true;
             return Err(NotDone::Full);
         }
-        match keep_front(&mut self.device, self.kernel.framer.len(), stands) {
-            Ok(()) => Ok(()),
-            Err(_) => {
-                self.spent = true;
-                Err(NotDone::Spent)
-            }
-        }
-    }
-
-    // Aborts these units, in turn.
-    fn abort_each(&mut self, alloc: Global, units: &[UnitNo]) -> Result<(), NotDone>
-        requires { IsInOrder (stand_of D.written D.synced D.doubted D.failed self.old) }
-        ensures order { IsInOrder (stand_of D.written D.synced D.doubted D.failed self.new) }
-        ensures done { OnOk result (DoesEach
-            (stand_of D.written D.synced D.doubted D.failed self.old)
-            (stand_of D.written D.synced D.doubted D.failed self.new)
-            (map model.Abort (map unit_of units.now))) }
-        ensures keeps { KeepsSafe (stand_of D.written D.synced D.doubted D.failed self.old)
-            (stand_of D.written D.synced D.doubted D.failed self.new) }
-    {
-        for unit in units {
-            self.take(alloc, &Record::Abort { unit: *unit })?;
-        }
-        Ok(())
+        self.keep_first(used, stands)
     }
 
     /// Aborts all units that are open, rising. It is spent if it is refused.
@@ -81,23 +86,21 @@ impl<D: Device + Drop> Manager<D> {
         ensures keeps { KeepsSafe (stand_of D.written D.synced D.doubted D.failed self.old)
             (stand_of D.written D.synced D.doubted D.failed self.new) }
     {
-        let units = match self.kernel.machine.open_units(alloc) {
-            Ok(units) => units,
-            Err(_) => {
-                self.spent = true;
-                return Err(NotDone::Spent);
-            }
-        };
-        match self.abort_each(alloc, &units) {
-            Ok(()) => Ok(()),
-            Err(_) => {
-                self.spent = true;
-                Err(NotDone::Spent)
-            }
+        if self.spent {
+            return Err(NotDone::Spent);
         }
+        let Ok(()) = self.kernel.abort_open(alloc) else {
+            self.spent = true;
+            return Err(NotDone::Spent);
+        };
+        if self.kernel.pending.len() <= WINDOW {
+            return Ok(());
+        }
+        self.settle_pending()
     }
 
-    /// The same; and aborts the units that are open there, and settles: so a server begins.
+    /// Goes on as `secure` does, aborts the units that are open there, and settles: so a server
+    /// begins. If memory is refused, the device was not called.
     pub fn resume(&mut self, alloc: Global, stands: usize) -> Result<(), NotDone>
         requires unspent { self.old.spent ≡ false }
         requires works { D.failed self.old.device ≡ false }
@@ -112,12 +115,24 @@ impl<D: Device + Drop> Manager<D> {
         ensures refused { IfErr result (StopsResume
             (stand_of D.written D.synced D.doubted D.failed self.old)
             (stand_of D.written D.synced D.doubted D.failed self.new)) }
+        ensures fault { IfErr result (λ why. (self.new.device ≡ self.old.device)
+            ⊎ (D.failed self.new.device ≡ true)) }
         ensures keeps { (n : ℕ) → n ≤ self.old.kernel.framer.len → n ≤ D.synced self.old.device
             → KeepsSynced (D.written self.old.device) n (D.written self.new.device)
             (D.synced self.new.device) }
     {
-        self.secure(stands)?;
-        self.abort_open(alloc)?;
-        self.settle_pending()
+        let used = self.kernel.framer.len();
+        if !self.kernel.has_room_for_ends() {
+            self.spent = true;
+            return Err(NotDone::Full);
+        }
+        let Ok(()) = self.kernel.abort_open(alloc) else {
+            self.spent = true;
+            return Err(NotDone::Spent);
+        };
+        match self.keep_first(used, stands) {
+            Ok(()) => self.settle_pending(),
+            Err(why) => Err(why),
+        }
     }
 }

@@ -6,32 +6,52 @@ ghost use Rattle.rq_record.specs.declared.fault.Fault.TheVariants.{WriteFailed};
 use rq_device::Device;
 use rq_record::Fault;
 use std::fs::OpenFile;
-use std::io::{self, ErrorKind, Read, Seek, SeekFrom, Write};
+use std::io::{self, ErrorKind, Seek, SeekFrom, Write};
+use std::sync::ArcSlice;
 
-// As many bytes are written again at once.
-const PIECE: u64 = 65_536;
-
-/// The file of a log, which was opened to be read and written, and not to append. What a file holds
-/// is known to no contract: that a disk does what a `Device` says is taken for granted.
+/// The file of a log, which was opened to be written, and not to append. What a file holds is known
+/// to no contract: that a disk does what a `Device` says is taken for granted.
 #[derive(Drop)]
 pub struct LogFile<F> {
     file: F,
+    // What was read of it when it was opened.
+    read: Option<ArcSlice<u8>>,
+    // So many of these bytes still stand there.
+    kept: u64,
     len: u64,
     synced: u64,
+    // So many bytes behind these are shown already, which are to be written next.
+    shown: u64,
     error: Option<io::Error>,
     is_cut_back: bool,
 }
 
+// The bytes from one offset up to another; none if they are not there.
+fn bytes_within(read: &Option<ArcSlice<u8>>, from: u64, to: u64) -> &[u8] {
+    match read {
+        Some(bytes) => bytes
+            .as_slice()
+            .get(from as usize..to as usize)
+            .unwrap_or(&[]),
+        None => &[],
+    }
+}
+
 impl<F> LogFile<F> {
-    /// Over a file that has so many bytes. Its place is found by the first `rewrite`, or is where
-    /// the file begins if it has none.
-    pub fn new(file: F, len: usize) -> LogFile<F>
+    /// Over a file of which these bytes were read, all that it has; or over an empty one. A
+    /// `rewrite` writes them again as they were read: what the system would now read may be older,
+    /// if a sync failed before.
+    pub fn new(file: F, read: Option<ArcSlice<u8>>) -> LogFile<F>
         ensures { result.error ≡ None }
     {
+        let len = read.as_ref().map_or(0, |bytes| bytes.len()) as u64;
         LogFile {
             file,
-            len: len as u64,
-            synced: len as u64,
+            read,
+            kept: len,
+            len,
+            synced: len,
+            shown: 0,
             error: None,
             is_cut_back: false,
         }
@@ -59,7 +79,7 @@ impl<F> LogFile<F> {
     }
 }
 
-impl<F: Read + Write + Seek + OpenFile> LogFile<F> {
+impl<F: Write + Seek + OpenFile> LogFile<F> {
     // Says that a call failed. What no sync reached is cut off, as far as the system lets us: a
     // program that opens the file then finds what was answered.
     fn fail(&mut self, error: io::Error) -> Fault
@@ -72,32 +92,41 @@ impl<F: Read + Write + Seek + OpenFile> LogFile<F> {
         Fault::WriteFailed
     }
 
-    // Writes so many bytes from an offset on once more, in their place.
-    fn write_piece_again(&mut self, at: u64, count: usize) -> io::Result<()>
-        requires { count ≤ 65536 }
-        ensures { self.new.error ≡ self.old.error }
-    {
-        let mut piece = [0u8; PIECE as usize];
-        let bytes = &mut piece[..count];
-        self.file.seek(SeekFrom::Start(at))?;
-        self.file.read_exact(bytes)?;
-        self.file.seek(SeekFrom::Start(at))?;
-        self.file.write_all(bytes)
-    }
-
-    // Writes all bytes from an offset on once more, in their place, and tells the disk. The file
-    // stands at its end then.
+    // Writes what was read from an offset on once more, as far as it still stands there, in its
+    // place, and tells the disk: what was written since, a sync reaches. The file stands at its end
+    // then.
     fn write_again(&mut self, from: u64) -> io::Result<()>
         ensures { self.new.error ≡ self.old.error }
     {
-        let left = self.len.saturating_sub(from);
-        for piece in 0..left.div_ceil(PIECE) {
-            let before = piece.saturating_mul(PIECE);
-            let count = PIECE.min(left.saturating_sub(before));
-            self.write_piece_again(from.saturating_add(before), count as usize)?;
-        }
+        self.file.seek(SeekFrom::Start(from))?;
+        self.file
+            .write_all(bytes_within(&self.read, from, self.kept))?;
         self.file.seek(SeekFrom::Start(self.len))?;
         OpenFile::sync_data(&self.file)
+    }
+
+    // Writes what of the bytes is not shown yet behind what is.
+    fn show(&mut self, next: &[u8]) -> io::Result<()>
+        ensures { self.new.error ≡ self.old.error }
+    {
+        let Some(more) = next.get(self.shown as usize..) else {
+            return Ok(());
+        };
+        self.file.write_all(more)?;
+        self.shown = next.len() as u64;
+        Ok(())
+    }
+
+    // Goes back to where the bytes end that were written: those that were shown are written now.
+    fn stand_behind_written(&mut self) -> io::Result<()>
+        ensures { self.new.error ≡ self.old.error }
+    {
+        if self.shown == 0 {
+            return Ok(());
+        }
+        self.file.seek(SeekFrom::Start(self.len))?;
+        self.shown = 0;
+        Ok(())
     }
 
     // Cuts the file. It stands at its end then.
@@ -107,16 +136,20 @@ impl<F: Read + Write + Seek + OpenFile> LogFile<F> {
         OpenFile::set_len(&self.file, len)?;
         self.file.seek(SeekFrom::Start(len))?;
         self.len = len;
+        self.kept = self.kept.min(len);
         self.synced = self.synced.min(len);
         Ok(())
     }
 }
 
-impl<F: Read + Write + Seek + OpenFile> Device for LogFile<F> {
+impl<F: Write + Seek + OpenFile> Device for LogFile<F> {
     ghost failed = { λ it. is_some it.error };
 
     // An interrupted write is tried again.
     fn write(&mut self, piece: &[u8]) -> Result<usize, Fault> {
+        if let Err(error) = self.stand_behind_written() {
+            return Err(self.fail(error));
+        }
         for _ in 0..u64::MAX {
             match self.file.write(piece) {
                 Ok(count) if count > 0 || piece.is_empty() => {
@@ -129,6 +162,13 @@ impl<F: Read + Write + Seek + OpenFile> Device for LogFile<F> {
             }
         }
         Err(self.fail(io::Error::from(ErrorKind::WriteZero)))
+    }
+
+    fn preview(&mut self, next: &[u8]) -> Result<(), Fault> {
+        match self.show(next) {
+            Ok(()) => Ok(()),
+            Err(error) => Err(self.fail(error)),
+        }
     }
 
     // A sync that failed is never tried again: what the disk then holds is unknown.
@@ -146,6 +186,8 @@ impl<F: Read + Write + Seek + OpenFile> Device for LogFile<F> {
         match self.write_again(from as u64) {
             Ok(()) => {
                 self.synced = self.len;
+                // From now on a sync reaches all. A manager that goes on for long has no use for it.
+                self.read = None;
                 Ok(())
             }
             Err(error) => Err(self.fail(error)),

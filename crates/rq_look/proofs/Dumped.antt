@@ -49,7 +49,7 @@ pub record IsUnderWay (at : Option ℕ) (b : List ℕ) (w : Wanted) (most : ℕ)
   pub done : List ℕ
   pub gathers : Gathers done begun old text now
   pub told : (more : List ℕ) → AreLines w.json w.full (first_wanted w most (entries offset state todo)) more
-      → AreFrontLines at b w (done ++ more)
+      → AreFrontLines at b w (done ++ more) (most - length (first_wanted w most (entries offset state todo)))
 
 -- no line is put yet
 pub first_ahead : (at : Option ℕ) (b rest : List ℕ) (w : Wanted) (offset number queues : ℕ) (text : List ℕ)
@@ -90,6 +90,7 @@ first_ahead None b rest w offset number queues text old r s h first left stands 
         h.rest,
         (h.front, refl),
         subst (λ (n : ℕ). AreLines w.json w.full (first_wanted w w.limit (entries n empty h.records)) more) stands lines,
+        ap (λ (n : ℕ). w.limit - length (first_wanted w w.limit (entries n empty h.records))) stands,
       );
     }
 first_ahead (Some at) b rest w offset number queues text old r s h first left stands counted defined =
@@ -133,6 +134,7 @@ first_ahead (Some at) b rest w offset number queues text old r s h first left st
           front = h.front;
         },
         subst (λ (n : ℕ). AreLines w.json w.full (first_wanted w w.limit (entries n h.state h.records)) more) stands lines,
+        ap (λ (n : ℕ). w.limit - length (first_wanted w w.limit (entries n h.state h.records))) stands,
       );
     }
 
@@ -191,22 +193,33 @@ same_frame w v u offset o place p body c wanted line is_u is_o is_p is_c h =
     (subst (λ (x : Option (ℕ × ℕ)). IsFrameLine w v offset x c wanted line) is_p
     (subst (λ (x : List ℕ). IsFrameLine w v offset place x wanted line) is_c h)))
 
+-- of the next record and the others, those that are shown
+shown_of : (w : Wanted) (most left : ℕ) (e : LogEntry) (es : List LogEntry) (wanted : Bool) → is_wanted w e ≡ wanted
+    → most ≡ suc left → first_wanted w most (e ∷ es)
+    ≡ (if wanted then e ∷ first_wanted w left es else first_wanted w most es)
+shown_of w most left e es true is some =
+    let others : List LogEntry = filter (is_wanted w) es in λ i. take (some i) (if is i then e ∷ others else others)
+shown_of w most left e es false is some =
+    let others : List LogEntry = filter (is_wanted w) es in λ i. take most (if is i then e ∷ others else others)
+
 -- the line of the next record before those of the others
 more_shown_by : (w : Wanted) (most left : ℕ) (e : LogEntry) (es : List LogEntry) (wanted : Bool) (line more : List ℕ)
     → is_wanted w e ≡ wanted → IsLineIf wanted w e line → most ≡ suc left
     → AreLines w.json w.full (first_wanted w (if wanted then left else most) es) more
     → AreLines w.json w.full (first_wanted w most (e ∷ es)) (line ++ more)
 more_shown_by w most left e es true line more is told some lines =
-    let others : List LogEntry = filter (is_wanted w) es in
-    let next : first_wanted w most (e ∷ es) ≡ e ∷ first_wanted w left es =
-    λ i. take (some i) (if is i then e ∷ others else others) in
-    subst (λ (xs : List LogEntry). AreLines w.json w.full xs (line ++ more)) (sym next) (line, more, told, lines, refl)
+    subst (λ (xs : List LogEntry). AreLines w.json w.full xs (line ++ more)) (sym (shown_of w most left e es true is some))
+    (line, more, told, lines, refl)
 more_shown_by w most left e es false line more is told some lines =
-    let others : List LogEntry = filter (is_wanted w) es in
-    let same : first_wanted w most (e ∷ es) ≡ first_wanted w most es =
-    λ i. take most (if is i then e ∷ others else others) in
-    subst (λ (xs : List LogEntry). AreLines w.json w.full xs (line ++ more)) (sym same)
+    subst (λ (xs : List LogEntry). AreLines w.json w.full xs (line ++ more)) (sym (shown_of w most left e es false is some))
     (subst (λ (text : List ℕ). AreLines w.json w.full (first_wanted w most es) (text ++ more)) (sym told) lines)
+
+-- as many may be shown behind them all as behind the others
+as_many_left : (w : Wanted) (most left : ℕ) (e : LogEntry) (es : List LogEntry) (wanted : Bool) → is_wanted w e ≡ wanted
+    → most ≡ suc left → most - length (first_wanted w most (e ∷ es))
+    ≡ (if wanted then left else most) - length (first_wanted w (if wanted then left else most) es)
+as_many_left w most left e es true is some = omega (arith, some, ap length (shown_of w most left e es true is some))
+as_many_left w most left e es false is some = ap (λ (xs : List LogEntry). most - length xs) (shown_of w most left e es false is some)
 
 -- nothing is taken of nothing
 take_none : (n : ℕ) → take {A = LogEntry} n [] ≡ []
@@ -278,6 +291,14 @@ goes_on at b w most rest offset number queues begun text old now after place cou
     let at_place : entry_at offset (Some (number, queues)) next.r ≡ e =
     λ i. entry_at offset (Some (u.ahead.counted i, u.ahead.defined i)) next.r in
     let told = line_of w offset (number, queues) body wanted line next.r (next.spelled.0, body_is ∙ next.spelled.1) frame in
+    let asked : is_wanted w e ≡ wanted = ap (is_wanted w) (sym at_place) ∙ sym told.0 in
+    let after_it : List LogEntry = entries (offset + (36 + length (body_of next.r))) (step u.state next.r) next.others in
+    let left_same : most - length (first_wanted w most (entries offset u.state u.todo))
+    ≡ others - length (first_wanted w others (entries place (step u.state next.r) next.others)) =
+    ap (λ (rs : List Record). most - length (first_wanted w most (entries offset u.state rs))) next.is
+    ∙ as_many_left w most left e after_it wanted asked some
+    ∙ sym (ap (λ (n : ℕ). n - length (first_wanted w n after_it)) others_is)
+    ∙ sym (ap (λ (n : ℕ). others - length (first_wanted w others (entries n (step u.state next.r) next.others))) next.stands) in
     record {
       state = step u.state next.r;
       todo = next.others;
@@ -285,36 +306,40 @@ goes_on at b w most rest offset number queues begun text old now after place cou
       done = u.done ++ line;
       gathers = both_gathered u.done line begun text new old now last u.gathers put;
       told = λ more lines.
-          subst (AreFrontLines at b w) (sym (append_assoc u.done line more)) (u.told (line ++ more)
+          subst (λ (n : ℕ). AreFrontLines at b w ((u.done ++ line) ++ more) n) left_same
+          (subst (λ (text : List ℕ). AreFrontLines at b w text (most - length (first_wanted w most (entries offset u.state u.todo))))
+          (sym (append_assoc u.done line more)) (u.told (line ++ more)
           (subst (λ (rs : List Record). AreLines w.json w.full (first_wanted w most (entries offset u.state rs)) (line ++ more))
           (sym next.is)
-          (more_shown_by w most left e (entries (offset + (36 + length (body_of next.r))) (step u.state next.r) next.others)
-          wanted line more (ap (is_wanted w) (sym at_place) ∙ sym told.0)
+          (more_shown_by w most left e after_it wanted line more asked
           (subst (λ (x : LogEntry). IsLineIf wanted w x line) at_place told.1) some
-          (subst (λ (n : ℕ). AreLines w.json w.full (first_wanted w n (entries (offset + (36 + length (body_of next.r)))
-          (step u.state next.r) next.others)) more) others_is
+          (subst (λ (n : ℕ). AreLines w.json w.full (first_wanted w n after_it) more) others_is
           (subst (λ (n : ℕ). AreLines w.json w.full (first_wanted w others (entries n (step u.state next.r) next.others)) more)
-          next.stands lines)))));
+          next.stands lines))))));
     }
 
--- what is put once no more lines are shown
-abbrev pub AreAllPut : Option ℕ → List ℕ → Wanted → List ℕ → Option (List ℕ) → List ℕ → Option (List ℕ) → Type 0
-AreAllPut at b w begun old text now = (lines : List ℕ) × AreFrontLines at b w lines × Gathers lines begun old text now
+-- what is put once no more lines are shown, and how many more may be
+abbrev pub AreAllPut : Option ℕ → List ℕ → Wanted → ℕ → List ℕ → Option (List ℕ) → List ℕ → Option (List ℕ) → Type 0
+AreAllPut at b w left begun old text now =
+    (lines : List ℕ) × AreFrontLines at b w lines left × Gathers lines begun old text now
 
 none_more : (at : Option ℕ) (b : List ℕ) (w : Wanted) (most : ℕ) (rest : List ℕ) (offset number queues : ℕ)
     (begun text : List ℕ) (old now : Option (List ℕ)) (u : IsUnderWay at b w most rest offset number queues begun text old now)
-    → first_wanted w most (entries offset u.state u.todo) ≡ [] → AreAllPut at b w begun old text now
-none_more at b w most rest offset number queues begun text old now u none = (
-  u.done,
-  subst (AreFrontLines at b w) (append-nil u.done)
-      (u.told [] (subst (λ (es : List LogEntry). AreLines w.json w.full es []) (sym none) refl)),
-  u.gathers,
-)
+    → first_wanted w most (entries offset u.state u.todo) ≡ [] → AreAllPut at b w most begun old text now
+none_more at b w most rest offset number queues begun text old now u none =
+    let same : most - length (first_wanted w most (entries offset u.state u.todo)) ≡ most = omega (arith, ap length none) in (
+      u.done,
+      subst (AreFrontLines at b w u.done) same
+          (subst (λ (lines : List ℕ). AreFrontLines at b w lines (most - length (first_wanted w most (entries offset u.state u.todo))))
+          (append-nil u.done)
+          (u.told [] (subst (λ (es : List LogEntry). AreLines w.json w.full es []) (sym none) refl))),
+      u.gathers,
+    )
 
 -- as many lines are put as are wanted
 pub enough : (at : Option ℕ) (b : List ℕ) (w : Wanted) (most : ℕ) (rest : List ℕ) (offset number queues : ℕ)
     (begun text : List ℕ) (old now : Option (List ℕ)) → IsUnderWay at b w most rest offset number queues begun text old now
-    → most ≡ 0 → AreAllPut at b w begun old text now
+    → most ≡ 0 → AreAllPut at b w most begun old text now
 enough at b w most rest offset number queues begun text old now u zero_left =
     none_more at b w most rest offset number queues begun text old now u
     (ap (λ (n : ℕ). first_wanted w n (entries offset u.state u.todo)) zero_left)
@@ -331,7 +356,7 @@ none_ahead rest offset number queues s (r ∷ others) h short =
 -- the lines of all records are put
 pub ended : (at : Option ℕ) (b : List ℕ) (w : Wanted) (most : ℕ) (rest : List ℕ) (offset number queues : ℕ)
     (begun text : List ℕ) (old now : Option (List ℕ)) → IsUnderWay at b w most rest offset number queues begun text old now
-    → length rest < 36 + stated rest → AreAllPut at b w begun old text now
+    → length rest < 36 + stated rest → AreAllPut at b w most begun old text now
 ended at b w most rest offset number queues begun text old now u short =
     none_more at b w most rest offset number queues begun text old now u
     (ap (λ (rs : List Record). first_wanted w most (entries offset u.state rs))

@@ -1,3 +1,4 @@
+pub mod Behind
 pub mod Dumped
 pub mod FrontEnds
 pub mod Gathered

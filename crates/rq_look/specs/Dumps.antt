@@ -1,16 +1,21 @@
 -- What a dump writes.
 use Rattle.std.specs.Prelude.{◌≡◌, ℕ, Bool, true, false, if◌then◌else◌, List, [], ◌∷◌, ◌++◌, filter, take, codes}
-use Rattle.std.specs.Prelude.{◌⊎◌, ◌<◌, ◌≤◌, Option}
+use Rattle.std.specs.Prelude.{◌⊎◌, ◌<◌, ◌≤◌, ◌-◌, length, drop, zero, suc, Option, None}
 use Rattle.std.specs.Fmt.{decimal}
 use Rattle.std.specs.Io.KnownBytes.{Appends}
 use Rattle.rq_model.specs.Records.{Record, Version}
 use Rattle.rq_model.specs.Spelling.{Spells}
+use Rattle.rq_model.specs.Frames.{HasHeader}
+use Rattle.rq_model.specs.Fronts.{Restarted}
 use Rattle.rq_model.specs.States.{State}
-use Rattle.rq_found.specs.Ends.{beginning_text}
+use Rattle.rq_front.specs.declared.spans.Span.{Span}
+use Rattle.rq_behind.specs.declared.search.Found.{Found}
+use Rattle.rq_found.specs.Ends.{IsRestartFrom, beginning_text}
 use Rattle.rq_found.specs.Records.{front_at}
 use Rattle.rq_look.specs.declared.wanted.Wanted.{Wanted}
 use Rattle.rq_look.specs.Entries.{LogEntry, entries, entry_at, fits, fits_none, is_wanted}
 use Rattle.rq_look.specs.Lines.{record_line}
+use Rattle.rq_look.specs.Findings.{IsBehind, behind_text}
 use Rattle.rq_look.specs.Looks.{IsClosing}
 use Rattle.rq_look.specs.Scripts.{IsShownFront}
 
@@ -64,11 +69,43 @@ IsFrameLine w version offset place body wanted line =
 abbrev pub first_wanted : Wanted → ℕ → List LogEntry → List LogEntry
 first_wanted w most es = take most (filter (is_wanted w) es)
 
--- the lines of the records of the front of b that are shown
-abbrev pub AreFrontLines : Option ℕ → List ℕ → Wanted → List ℕ → Type 0
-AreFrontLines at b w lines = (version : Version) × (base : State) × (records : List Record)
+-- the lines of the records of the front of b that are shown, and how many more may be
+abbrev pub AreFrontLines : Option ℕ → List ℕ → Wanted → List ℕ → ℕ → Type 0
+AreFrontLines at b w lines left = (version : Version) × (base : State) × (records : List Record)
     × (rest : List ℕ) × IsShownFront at b version base records rest
     × AreLines w.json w.full (first_wanted w w.limit (entries (front_at at) base records)) lines
+    × (left ≡ w.limit - length (first_wanted w w.limit (entries (front_at at) base records)))
+
+-- whether a frame that stands behind the front is wanted, and its line; its number is not known
+abbrev pub IsLineBehind : Wanted → Version → List ℕ → Span → Bool → List ℕ → Type 0
+IsLineBehind w version b s wanted line =
+    IsFrameLine w version (s.start - 4) None (take s.len (drop s.start b)) wanted line
+
+-- the lines of the first of these frames that are wanted, so many at most
+abbrev pub AreLinesBehind : Wanted → Version → List ℕ → ℕ → List Span → List ℕ → Type 0
+AreLinesBehind w version b most [] text = text ≡ []
+AreLinesBehind w version b zero (s ∷ ss) text = text ≡ []
+AreLinesBehind w version b (suc n) (s ∷ ss) text = (wanted : Bool) × (line more : List ℕ)
+    × IsLineBehind w version b s wanted line
+    × AreLinesBehind w version b (if wanted then n else suc n) ss more × (text ≡ line ++ more)
+
+-- how many they are: some object of JSON, or the lines that say so
+abbrev pub IsCountLine : Bool → Found → ℕ → List ℕ → Type 0
+IsCountLine true found total line = (object : List ℕ) × (line ≡ object ++ codes "\n")
+IsCountLine false found total line = line ≡ behind_text found total
+
+-- what stands behind the front of b: the lines of its right frames, so many at most, and how many they
+-- are
+abbrev pub IsBehindFront : Option ℕ → List ℕ → Wanted → ℕ → List ℕ → Type 0
+IsBehindFront at b w most text = (r : Restarted) × (found : Found) × (version : Version)
+    × (lines count : List ℕ) × IsRestartFrom at b r × IsBehind b r.used found × HasHeader version b
+    × AreLinesBehind w version b most found.spans.items lines × IsCountLine w.json found r.total count
+    × (text ≡ lines ++ count)
+
+-- it, if it is wanted
+abbrev pub IsShownBehind : Bool → Option ℕ → List ℕ → Wanted → ℕ → List ℕ → Type 0
+IsShownBehind true at b w most text = IsBehindFront at b w most text
+IsShownBehind false at b w most text = text ≡ []
 
 -- where b begins, if it was carried on; in JSON the last line says so
 abbrev pub origin : Bool → Option ℕ → List ℕ
@@ -77,8 +114,8 @@ origin json at = if json then [] else beginning_text at
 -- a dump of b: the lines of its front, then, if it is wanted, what stands behind that; and the last
 -- lines
 abbrev pub IsDump : Option ℕ → List ℕ → Wanted → List ℕ → Type 0
-IsDump at b w text = (lines behind closing : List ℕ) × AreFrontLines at b w lines
-    × (w.behind ≡ false → behind ≡ []) × IsClosing at b w.json closing
+IsDump at b w text = (lines behind closing : List ℕ) × (left : ℕ) × AreFrontLines at b w lines left
+    × IsShownBehind w.behind at b w left behind × IsClosing at b w.json closing
     × (text ≡ lines ++ (behind ++ (origin w.json at ++ closing)))
 
 -- it is appended

@@ -24,10 +24,6 @@ abbrev pub Gathers : List ℕ → List ℕ → Option (List ℕ) → List ℕ �
 Gathers put text old left new = (written : List ℕ) × Appends old new written
     × (text ++ put ≡ written ++ left)
 
--- some text is put so
-abbrev pub GathersSome : List ℕ → Option (List ℕ) → List ℕ → Option (List ℕ) → Type 0
-GathersSome text old left new = (put : List ℕ) × Gathers put text old left new
-
 -- a text is appended that ends with the end of a line
 abbrev pub AppendsLine : Option (List ℕ) → Option (List ℕ) → Type 0
 AppendsLine old new = (text : List ℕ) × Appends old new (text ++ codes "\n")

@@ -1,7 +1,8 @@
 //! What stands behind the front of a log.
 
-ghost use Rattle.std.specs.Prelude.{◌≡◌, ◌++◌, IfOk, IfErr, OnOk, string_bytes};
+ghost use Rattle.std.specs.Prelude.{◌≡◌, ◌++◌, length, IfOk, IfErr, OnOk, string_bytes};
 ghost use Rattle.rq_record.specs.declared.fault.Fault.TheVariants.{Resources};
+ghost use Rattle.rq_behind.specs.Behind.{StandApart};
 ghost use Rattle.rq_judged.specs.Views.{why_of};
 ghost use Rattle.rq_look.specs.Findings.{EndsWithin, IsBehind, behind_finding, behind_text};
 ghost use Rattle.rq_look.specs.Findings as spec;
@@ -18,6 +19,8 @@ use std::fmt::Write;
 pub fn standing_behind(alloc: Global, bytes: &[u8], end: &End) -> Result<Found, Fault>
     requires { EndsWithin bytes.now end.now }
     ensures found { IfOk result (IsBehind bytes.now end.now.front.used) }
+    ensures apart { IfOk result
+        (λ f. StandApart end.now.front.used (length bytes.now) f.spans.items) }
     ensures refused { IfErr result (λ e. e ≡ Resources) }
 {
     // A log has a header, so memory alone is refused.

@@ -1,7 +1,10 @@
 //! A line for each record of a log, and for each right frame behind its front.
 
-ghost use Rattle.std.specs.Prelude.{◌≡◌, ◌<◌, ◌++◌, ℕ, List, [], Option, Some, None, false};
-ghost use Rattle.std.specs.Prelude.{IfErr, OnOk, string_bytes};
+ghost use Rattle.std.specs.Prelude.{◌≡◌, ◌<◌, ◌++◌, ℕ, List, [], Option, Some, None};
+ghost use Rattle.std.specs.Prelude.{length, IfErr, IfOk, OnOk, string_bytes};
+ghost use Rattle.rq_model.specs.Frames.{HasHeader};
+ghost use Rattle.rq_model.specs.Records.{Version};
+ghost use Rattle.rq_behind.specs.Behind.{StandApart};
 ghost use Rattle.rq_model.specs.Checkpoints.{IsCheckpointAt};
 ghost use Rattle.rq_model.specs.Fronts.{Restarted};
 ghost use Rattle.rq_model.specs.States.{empty};
@@ -10,9 +13,10 @@ ghost use Rattle.rq_front.specs.Chains.{IsLog};
 ghost use Rattle.rq_found.specs.Ends.{IsRestartFrom};
 ghost use Rattle.rq_found.specs.Records.{SpelledIn, front_at};
 ghost use Rattle.rq_found.specs.Refusals.{CountsFaults, IsBroken, StaysUnshown};
-ghost use Rattle.rq_look.specs.Dumps.{AreFrontLines, PutsDump, origin};
+ghost use Rattle.rq_look.specs.Dumps.{AreFrontLines, AreLinesBehind, IsCountLine, IsShownBehind};
+ghost use Rattle.rq_look.specs.Dumps.{PutsDump, origin};
 ghost use Rattle.rq_look.specs.Findings.{EndsWithin};
-ghost use Rattle.rq_look.specs.Looks.{Gathers, GathersSome, IsClosing};
+ghost use Rattle.rq_look.specs.Looks.{Gathers, IsClosing};
 
 use crate::behind_fronts::{put_behind, standing_behind};
 use crate::frame_lines::put_entry;
@@ -67,8 +71,8 @@ fn put_records<W: Output>(
     requires there { (offset : ℕ) (kept : List ℕ) → log.now.at ≡ Some offset
         → IsCheckpointAt log.now.bytes.now offset kept → SpelledIn log.now.bytes.now kept first.now }
     requires faults { W.faults output.old < 18446744073709551615 }
-    ensures lines { OnOk result ((lines : List ℕ)
-        × AreFrontLines log.now.at log.now.bytes.now wanted.now lines
+    ensures lines { IfOk result (λ left. (lines : List ℕ)
+        × AreFrontLines log.now.at log.now.bytes.now wanted.now lines left
         × Gathers lines (string_bytes text.old) (W.contents output.old)
         (string_bytes text.new) (W.contents output.new)) }
     ensures refused { IfErr result IsBroken }
@@ -80,7 +84,7 @@ fn put_records<W: Output>(
     let mut left = wanted.limit;
     for placed in PlacedFrames::front_frames(log.bytes, first, log.at, used) {
         if left == 0 {
-            return Ok(0);
+            return Ok(left);
         }
         let frame = ShownFrame::of(placed, offset, queues);
         let is_wanted = put_entry(alloc, wanted, &frame, text, output)?;
@@ -103,8 +107,11 @@ pub(crate) fn put_frames<W: Output>(
     text: &mut String,
     output: &mut W,
 ) -> Result<(), Trouble>
+    requires apart { (from : ℕ) × StandApart from (length bytes.now) spans.now }
     requires faults { W.faults output.old < 18446744073709551615 }
-    ensures only { OnOk result (GathersSome (string_bytes text.old) (W.contents output.old)
+    ensures lines { OnOk result ((lines : List ℕ) × ((version : Version) → HasHeader version bytes.now
+        → AreLinesBehind wanted.now version bytes.now most spans.now lines)
+        × Gathers lines (string_bytes text.old) (W.contents output.old)
         (string_bytes text.new) (W.contents output.new)) }
     ensures refused { IfErr result IsBroken }
     ensures faults { CountsFaults (W.faults output.old) (W.faults output.new) result }
@@ -114,7 +121,8 @@ pub(crate) fn put_frames<W: Output>(
             return Ok(());
         }
         let frame = ShownFrame::behind(bytes, *span);
-        if put_entry(alloc, wanted, &frame, text, output)? {
+        let is_wanted = put_entry(alloc, wanted, &frame, text, output)?;
+        if is_wanted {
             most -= 1;
         }
     }
@@ -129,7 +137,7 @@ pub(crate) fn put_counted(
     total: u64,
     wanted: &Wanted<'_>,
 ) -> Put
-    ensures { OnOk result ((line : List ℕ)
+    ensures { OnOk result ((line : List ℕ) × IsCountLine wanted.now.json found.now total line
         × (string_bytes text.new ≡ string_bytes text.old ++ line)) }
 {
     if wanted.json {
@@ -151,8 +159,10 @@ fn put_wanted_behind<W: Output>(
 ) -> Result<(), Trouble>
     requires within { EndsWithin bytes.now end.now }
     requires faults { W.faults output.old < 18446744073709551615 }
-    ensures only { OnOk result ((lines : List ℕ) × (wanted.now.behind ≡ false → lines ≡ [])
-        × Gathers lines (string_bytes text.old) (W.contents output.old)
+    ensures shown { OnOk result ((shown : List ℕ) × ((at : Option ℕ) (r : Restarted)
+        → IsRestartFrom at bytes.now r → IsEndOf r end.now.front
+        → IsShownBehind wanted.now.behind at bytes.now wanted.now most shown)
+        × Gathers shown (string_bytes text.old) (W.contents output.old)
         (string_bytes text.new) (W.contents output.new)) }
     ensures refused { IfErr result IsBroken }
     ensures faults { CountsFaults (W.faults output.old) (W.faults output.new) result }

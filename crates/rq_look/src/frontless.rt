@@ -5,6 +5,7 @@ ghost use Rattle.std.specs.Prelude.{◌≡◌, ◌<◌, ◌++◌, ◌⊎◌, IfE
 ghost use Rattle.rq_record.specs.declared.fault.Fault.TheVariants.{NotALog, Resources};
 ghost use Rattle.rq_judged.specs.Views.{why_of};
 ghost use Rattle.rq_model.specs.Carrying.{carried_at};
+ghost use Rattle.rq_behind.specs.Behind.{StandApart};
 ghost use Rattle.rq_found.specs.Ends.{beginning_text, end_text};
 ghost use Rattle.rq_found.specs.Refusals.{CountsFaults};
 ghost use Rattle.rq_look.specs.Findings.{IsBehind, IsFrontless, behind_finding};
@@ -28,6 +29,8 @@ fn standing(alloc: Global, log: &ShownLog<'_>) -> Result<(End, Found), Fault>
         × (x.0.front.total ≡ length log.now.bytes.now)) }
     ensures behind { IfOk result (λ x.
         IsBehind log.now.bytes.now (min carried_at (length log.now.bytes.now)) x.1) }
+    ensures apart { IfOk result (λ x. StandApart (min carried_at (length log.now.bytes.now))
+        (length log.now.bytes.now) x.1.spans.items) }
     ensures refused { IfErr result (λ e. (e ≡ NotALog) ⊎ (e ≡ Resources)) }
 {
     if log.bytes.len() < HEADER_LEN {

@@ -1,6 +1,8 @@
 //! A record that is shown, of the front of a log or behind it, and its frame.
 
-ghost use Rattle.std.specs.Prelude.{◌≡◌, ◌+◌, IfErr, IfOk, Some, None, length, min, option_map};
+ghost use Rattle.std.specs.Prelude.{◌≡◌, ◌≤◌, ◌+◌, ◌-◌, IfErr, IfOk, Some, None, length, min, option_map, take, drop};
+ghost use Rattle.rq_model.specs.Frames.{HasHeader};
+ghost use Rattle.rq_model.specs.Records as model;
 ghost use Rattle.rq_record.specs.Views.{record_of, version_of};
 ghost use Rattle.rq_record.specs.declared.fault.Fault.TheVariants.{Resources};
 ghost use Rattle.rq_record.specs.declared.version.Version.TheVariants.{Two};
@@ -117,6 +119,10 @@ impl<'a> ShownFrame<'a> {
 
     /// The one at a span behind the front.
     pub(crate) fn behind(bytes: &'a [u8], span: Span) -> ShownFrame<'a>
+        ensures version { (v : model.Version) → HasHeader v bytes.now → version_of result.version ≡ v }
+        ensures offset { result.offset ≡ span.start - 4 }
+        ensures body { span.start + span.len ≤ length bytes.now
+            → result.body.now ≡ take span.len (drop span.start bytes.now) }
         ensures place { result.place ≡ None }
     {
         let body = match bytes.get(span.start..span.start.saturating_add(span.len)) {

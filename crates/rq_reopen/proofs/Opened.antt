@@ -1,11 +1,12 @@
 -- A log that is opened behind its front.
-use Rattle.std.proofs.Common.{◌≤◌, ℕ, Bool, List, Option, length, drop, ap, sym, subst, ◌∙◌, arith}
-use Rattle.std.specs.Prelude.{Result, Ok, Err, IfOk}
+use Rattle.std.proofs.Common.{◌≡◌, ◌≤◌, ℕ, Bool, List, Option, length, drop, ap, sym, subst, ◌∙◌, arith}
+use Rattle.std.specs.Prelude.{Result, Ok, Err, IfOk, IfErr}
 use Rattle.std.proofs.lemmas.List.{length-append}
 use Rattle.rq_model.specs.Frames.{header, frames_of, log_of, start}
 use Rattle.rq_model.proofs.Longest.{front_whole}
 use Rattle.rq_model.proofs.Restarts.{header_long}
 use Rattle.rq_record.specs.Views.{version_of}
+use Rattle.rq_record.specs.declared.fault.Fault.TheVariants.{NotALog, Resources}
 use Rattle.rq_judged.specs.Views.{why_of}
 use Rattle.rq_front.specs.Chains.{Refused}
 use Rattle.rq_journal.specs.LeftBehind.{IsDamage}
@@ -14,7 +15,7 @@ use Rattle.rq_reopen.specs.declared.found_log.FoundLog.{FoundLog}
 use Rattle.rq_reopen.specs.declared.openings.Opening.{Opening}
 use Rattle.rq_reopen.specs.declared.openings.NotOpened.{NotOpened}
 use Rattle.rq_reopen.specs.declared.openings.NotOpened.TheVariants.{Log, Damaged}
-use Rattle.rq_reopen.specs.Openings.{CutsBehind, IsFound, MayBeCut, OpensLog, OpensBehind}
+use Rattle.rq_reopen.specs.Openings.{CutsBehind, IsFound, IsNotShut, MayBeCut, OpensLog, OpensBehind}
 
 -- what is handed back may go
 pub opens_behind : (c : List ℕ) (l : FoundLog) (drops : Bool) (damage : Option Damage)
@@ -44,6 +45,16 @@ pub opened_so : (P : FoundLog → Type 0) (c : List ℕ) (l : FoundLog) (drops :
     → OpensBehind c l drops result → P l → IfOk result (λ (o : Opening). P o.found)
 opened_so P c l drops (Ok o) is h = subst P (sym is.0) h
 opened_so P c l drops (Err e) is h = tt
+
+-- memory was refused, if anything
+pub opened_headed : (c : List ℕ) (l : FoundLog) (drops : Bool) (result : Result Opening NotOpened)
+    → OpensBehind c l drops result → IfErr result (IsNotShut c)
+opened_headed c l drops (Ok o) is = tt
+opened_headed c l drops (Err (Log fault)) is = λ version rs m w managed safe stored left none. apart (sym is ∙ none)
+  where
+    apart : Resources ≡ NotALog → ⊥
+    apart e = absurd cc
+opened_headed c l drops (Err (Damaged found damage)) is = tt
 
 -- a front is longer than a link, and stands within the bytes
 pub found_within : (c : List ℕ) (l : FoundLog) → IsFound c l → (32 ≤ l.end.used) × (l.end.used ≤ length c)

@@ -1,5 +1,5 @@
 -- What is found of a manager's log after a crash, to go on from.
-use Rattle.std.specs.Prelude.{◌≡◌, ℕ, Bool, true, false, List, ◌∷◌, ◌++◌, length, take, drop, Some, None, Option, Result, Ok, Err}
+use Rattle.std.specs.Prelude.{◌≡◌, ⊤, ℕ, Bool, true, false, List, ◌∷◌, ◌++◌, length, take, drop, Some, None, Option, Result, Ok, Err}
 use Rattle.rq_model.specs.Records.{Record, Commit, Version}
 use Rattle.rq_model.specs.Frames.{log_of, start, last_of}
 use Rattle.rq_model.specs.States.{empty}
@@ -16,6 +16,7 @@ use Rattle.rq_record.specs.declared.fault.Fault.TheVariants.{Resources}
 use Rattle.rq_device.specs.Devices.{CrashLeaves}
 use Rattle.rq_live.specs.Kernels.{IsKernelBehind}
 use Rattle.rq_live.specs.Managers.{Stand, IsManaged, IsSafe}
+use Rattle.rq_reopen.specs.Reopenings.{IsNoMishap}
 use Rattle.rq_reopen.specs.declared.found_log.FoundLog.{FoundLog}
 use Rattle.rq_reopen.specs.declared.openings.Opening.{Opening}
 use Rattle.rq_reopen.specs.declared.openings.NotOpened.{NotOpened}
@@ -91,3 +92,8 @@ OpensLog c drops (Ok o) = IsFound c o.found × (o.cut.items ≡ drop o.found.end
 OpensLog c drops (Err (Log fault)) = Refused c fault
 OpensLog c drops (Err (Damaged found damage)) = IsFound c found × (drops ≡ false)
     × IsDamage c found.end.used (why_of found.end.why) damage
+
+-- whatever c is refused for, a log that was safe is never refused as none
+abbrev pub IsNotShut : List ℕ → NotOpened → Type 0
+IsNotShut c (Log fault) = IsNoMishap c fault
+IsNotShut c (Damaged found damage) = ⊤

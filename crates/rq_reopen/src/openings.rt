@@ -3,7 +3,8 @@
 ghost use Rattle.std.specs.Prelude.{◌≡◌, ◌≤◌, length, drop, IfOk, IfErr};
 ghost use Rattle.rq_record.specs.declared.fault.Fault.TheVariants.{Resources};
 ghost use Rattle.rq_live.specs.Kernels.{StandsWithin};
-ghost use Rattle.rq_reopen.specs.Openings.{CutsBehind, GoesOnAt, OpensLog, OpensBehind};
+ghost use Rattle.rq_reopen.specs.Openings.{CutsBehind, GoesOnAt, IsExactlyFound, IsNotShut};
+ghost use Rattle.rq_reopen.specs.Openings.{OpensLog, OpensBehind};
 
 use crate::found_log::FoundLog;
 use rq_journal::Damage;
@@ -88,7 +89,8 @@ fn opened_behind(
 impl Opening {
     /// How a manager goes on behind what a crash left of a log. What stands behind the front is
     /// handed back: nothing, the beginning of a frame, or at most 1,048,576 bytes among which no
-    /// frame is right. If it is something else, it is cut only if it is to be dropped.
+    /// frame is right. If it is something else, it is cut only if it is to be dropped. What is found
+    /// goes on from all that was safe, as `FoundLog::of` says.
     /// `Manager::over` the device of these bytes and the kernel, and its `resume`, do the rest.
     ///
     /// Refuses damage that is not to be dropped with `Damaged`, and with `Log` what `FoundLog::of`
@@ -103,6 +105,8 @@ impl Opening {
         ensures opens { OpensLog left.now drops result }
         ensures within { IfOk result (λ o. StandsWithin o.found.kernel (length left.now)) }
         ensures survives { IfOk result (λ o. GoesOnAt left.now o.found) }
+        ensures headed { IfErr result (IsNotShut left.now) }
+        ensures exact { IfOk result (λ o. IsExactlyFound left.now o.found) }
     {
         match FoundLog::of(rt, alloc, left, plan) {
             Ok(found) => opened_behind(alloc, left.as_slice(), found, drops),

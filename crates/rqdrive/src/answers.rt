@@ -30,14 +30,19 @@ pub(crate) fn element_text(alloc: Global, e: &KeptElement) -> Result<String, All
     )
 }
 
-fn refusal(why: NotDone) -> &'static str {
-    match why {
-        NotDone::Unlawful(_) => "unlawful",
+// Why it is not done; if it is not lawful, with the rule that it breaks.
+fn refusal(alloc: Global, why: NotDone) -> Result<String, Unanswered> {
+    let text = match why {
+        NotDone::Unlawful(rule) => {
+            let rule = rule.to_string(alloc)?;
+            return Ok(format!(in alloc; "unlawful: {rule}")?);
+        }
         NotDone::Full => "full",
         NotDone::Large => "large",
         NotDone::Ended => "ended",
         NotDone::Spent => "spent",
-    }
+    };
+    Ok(String::from_str(alloc, text)?)
 }
 
 /// The line that answers.
@@ -49,7 +54,7 @@ pub(crate) fn told(alloc: Global, done: Result<Answer, NotDone>) -> Result<Strin
         Ok(Answer::Taken(None)) => String::from_str(alloc, "none")?,
         Ok(Answer::Taken(Some(e))) => element_text(alloc, &e)?,
         Ok(Answer::Marked(offset)) => format!(in alloc; "checkpoint {offset}")?,
-        Err(why) => String::from_str(alloc, refusal(why))?,
+        Err(why) => refusal(alloc, why)?,
     };
     Ok(text)
 }

@@ -1,5 +1,6 @@
 //! The program `rqdrive`, for tests: drives a queue manager over memory by the lines of its standard
-//! input, and answers each with a line. `tests/others/driven.py` tells the lines.
+//! input, and answers each with a line. `tests/live/driven.py` tells the lines. It ends with 2 before a
+//! line that is none, with 3 if standard input or output fails, and with 4 if memory is refused.
 #![tactic(auto)]
 
 mod answers;
@@ -19,7 +20,9 @@ use std::thread::Threads;
 fn main(rt: HostRuntime) -> ExitCode {
     match start(&rt) {
         Ok(()) => ExitCode::SUCCESS,
-        Err(_) => ExitCode::FAILURE,
+        Err(Unanswered::Line) => ExitCode::from(2),
+        Err(Unanswered::Host(_)) => ExitCode::from(3),
+        Err(Unanswered::Memory) => ExitCode::from(4),
     }
 }
 

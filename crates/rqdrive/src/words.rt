@@ -7,21 +7,26 @@ use std::{io, str};
 /// Why no more lines are answered.
 #[derive(Drop)]
 pub(crate) enum Unanswered {
-    /// The host refuses memory, or a line is none of these.
+    /// A line is none of these.
     Line,
+    /// The host refuses memory.
+    Memory,
     /// Standard input or output failed.
     Host(io::Error),
 }
 
 impl From<Fault> for Unanswered {
-    fn from(_fault: Fault) -> Unanswered {
-        Unanswered::Line
+    fn from(fault: Fault) -> Unanswered {
+        match fault {
+            Fault::Resources => Unanswered::Memory,
+            _ => Unanswered::Line,
+        }
     }
 }
 
 impl From<AllocError> for Unanswered {
     fn from(_error: AllocError) -> Unanswered {
-        Unanswered::Line
+        Unanswered::Memory
     }
 }
 

@@ -1,86 +1,44 @@
-//! The checkpoint of a state, behind a front or in a carried file, and the ABORTs of open units.
+//! The checkpoint of a state, behind a front or in a carried file, and the end of a carried file.
 
 use crate::damage::LeftOut;
-use crate::fronts::{OpenLog, redone_log};
+use crate::fronts::redone_log;
 use crate::inputs::{LentLog, ReadLog};
 use crate::refusal::Refusal;
-use rq_journal::{NotTaken, Plan, carried, checkpoint_of, write_as_carried};
-use rq_record::{Fault, LogBytes, Record, kept_records};
-use rq_restart::{RedoneFront, go_on};
-use rq_standing::Machine;
+use rq_journal::{Growth, Plan, carried, write_as_carried};
+use rq_record::LogBytes;
+use rq_restart::RedoneFront;
 use rq_state::State;
 use std::alloc::Global;
 use std::thread::Threads;
 
-// The ABORT of each open unit of a state, rising.
-fn aborts_of(alloc: Global, state: &State) -> Result<Vec<Record>, Fault> {
-    let mut aborts = Vec::with_capacity(alloc, state.units().len())?;
-    for unit in state.units() {
-        aborts.push(Record::Abort { unit: *unit })?;
-    }
-    Ok(aborts)
+/// A checkpoint that is to be written behind the front of a log.
+#[derive(Drop)]
+pub(crate) struct Marked {
+    /// Holds its frame, behind ABORTs of the open units if these are to end.
+    pub(crate) growth: Growth,
+    /// Where it begins.
+    pub(crate) offset: usize,
+    /// What stands behind the front and is left out, if that is to be told.
+    pub(crate) left_out: Option<LeftOut>,
 }
 
-// Appends these records, all of which are lawful there.
-fn append_all(alloc: Global, log: &mut OpenLog, records: &[Record]) -> Result<(), Refusal> {
-    log.expect_numbers(records.len())?;
-    match log
-        .opened
-        .appender
-        .append_each(alloc, records, &mut log.frames)
-    {
-        (_, None) => {
-            log.next = log.next.saturating_add(records.len() as u64);
-            Ok(())
-        }
-        (_, Some(NotTaken::Resources)) => Err(Refusal::Memory),
-        (_, Some(_)) => Err(Refusal::Full),
-    }
-}
-
-// Appends an ABORT for each unit that is open in the state. The state behind them.
-fn end_units<R: Threads + Sync>(
-    rt: &R,
+// Gathers a checkpoint of the state behind a front, behind ABORTs of the open units if these are to
+// end. Its offset.
+fn mark_behind(
     alloc: Global,
-    log: &mut OpenLog,
-    front: &RedoneFront,
-    plan: &Plan,
-) -> Result<State, Refusal> {
-    let aborts = aborts_of(alloc, &front.state)?;
-    append_all(alloc, log, &aborts)?;
-    let aborts = kept_records(alloc, &aborts)?;
-    let mut machine = Machine::of(alloc, &front.state)?;
-    go_on(rt, alloc, front.version, &mut machine, &aborts, plan)?;
-    Ok(machine.state(alloc)?)
-}
-
-// Appends a checkpoint of the state, behind which the log stands.
-fn append_checkpoint(alloc: Global, log: &mut OpenLog, state: &State) -> Result<(), Refusal> {
-    log.expect_numbers(1)?;
-    let checkpoint = checkpoint_of(alloc, state)?;
-    append_all(alloc, log, &[checkpoint])
-}
-
-// Appends a checkpoint of the state where the log stands, behind ABORTs of the open units if these
-// are to end. Answers its offset.
-fn mark_behind<R: Threads + Sync>(
-    rt: &R,
-    alloc: Global,
-    log: &mut OpenLog,
-    mut front: RedoneFront,
-    plan: &Plan,
+    growth: &mut Growth,
+    state: &State,
     ends_units: bool,
 ) -> Result<usize, Refusal> {
-    if ends_units {
-        front.state = end_units(rt, alloc, log, &front, plan)?;
+    if !ends_units {
+        return Ok(growth.append_checkpoint(alloc, state)?);
     }
-    let offset = log.len();
-    append_checkpoint(alloc, log, &front.state)?;
-    Ok(offset)
+    let ended = growth.end_units(alloc, state)?;
+    Ok(growth.append_checkpoint(alloc, &ended)?)
 }
 
-/// A log with a checkpoint of the state behind its front, behind ABORTs of the open units if these
-/// are to end; and the checkpoint's offset.
+/// A checkpoint of the state behind the front of a log, behind ABORTs of the open units if these are
+/// to end.
 pub(crate) fn mark<R: Threads + Sync>(
     rt: &R,
     alloc: Global,
@@ -88,24 +46,32 @@ pub(crate) fn mark<R: Threads + Sync>(
     plan: &Plan,
     ends_units: bool,
     drops: bool,
-) -> Result<(OpenLog, usize), Refusal> {
-    let (mut log, front) = redone_log(rt, alloc, log, plan, drops)?;
-    let offset = mark_behind(rt, alloc, &mut log, front, plan, ends_units)?;
-    Ok((log, offset))
+) -> Result<Marked, Refusal> {
+    let (front, left_out) = redone_log(rt, alloc, log, plan, drops)?;
+    let mut growth = Growth::behind_redone(alloc, &front)?;
+    let offset = mark_behind(alloc, &mut growth, &front.state, ends_units)?;
+    Ok(Marked {
+        growth,
+        offset,
+        left_out,
+    })
 }
 
-/// The carried file that goes on from the end of a log's front, and where that is.
+/// The carried file that goes on from the end of a log's front, with the front, and what is left out
+/// behind it, if that is to be told.
 pub(crate) fn carried_on<R: Threads + Sync>(
     rt: &R,
     alloc: Global,
     log: &LentLog<'_>,
     plan: &Plan,
     drops: bool,
-) -> Result<(OpenLog, Vec<u8>), Refusal> {
-    let (log, front) = redone_log(rt, alloc, log, plan, drops)?;
-    log.expect_numbers(1)?;
+) -> Result<(RedoneFront, Option<LeftOut>, Vec<u8>), Refusal> {
+    let (front, left_out) = redone_log(rt, alloc, log, plan, drops)?;
+    if front.state.next() >= State::RECORDS {
+        return Err(Refusal::Ended);
+    }
     let made = carried(alloc, &front)?;
-    Ok((log, made))
+    Ok((front, left_out, made))
 }
 
 /// The closed file of a carried one that was read, and what is left out of it behind its front, if that
@@ -121,11 +87,12 @@ pub(crate) fn closed_carried<R: Threads + Sync>(
         bytes: LogBytes::borrowed(&read.bytes),
         is_carried: true,
     };
-    let (mut log, front) = redone_log(rt, alloc, &lent, plan, drops)?;
-    append_all(alloc, &mut log, &aborts_of(alloc, &front.state)?)?;
+    let (front, left_out) = redone_log(rt, alloc, &lent, plan, drops)?;
+    let mut growth = Growth::behind_redone(alloc, &front)?;
+    growth.end_units(alloc, &front.state)?;
     let mut made = read.bytes;
-    made.truncate(log.opened.end.used);
-    made.append(&mut log.frames)?;
+    made.truncate(front.end.used);
+    made.extend_from_slice(growth.frames())?;
     write_as_carried(&mut made);
-    Ok((made, log.left_out))
+    Ok((made, left_out))
 }

@@ -1,8 +1,8 @@
 //! What the program does for its commands but `append` and `recover`.
 
 use crate::checkpoints::{carried_on, closed_carried, mark};
-use crate::damage::{LastBytes, LeftOut, expect_end};
-use crate::files::{HeldLog, Hold, put_whole};
+use crate::damage::{LastBytes, LeftOut, expect_end, tell_left_out};
+use crate::files::{put_whole, write_frames};
 use crate::inputs::{LentLog, ReadLog, begun_log, log_from, opened, rest_of_log};
 use crate::new_log::{expect_free, put_new};
 use crate::refusal::{Refusal, Stream, failed, untold};
@@ -10,6 +10,7 @@ use clap::ArgMatches;
 use rq_file::{Names, Patient, Replaces};
 use rq_front::header_of;
 use rq_journal::{CARRIED_AT, Fault, Plan, Truth, audit_carried};
+use rq_log_file::{HeldLog, Hold};
 use rq_record::{LogBytes, Version};
 use rq_restart::Ending;
 use rq_state::State;
@@ -64,11 +65,11 @@ where
         is_carried: read.is_carried,
     };
     let (closes, drops) = (words.get_flag("close"), words.get_flag("drop"));
-    let (log, offset) = mark(rt, rt.alloc(), &lent, plan, closes, drops)?;
-    held.append(rt, &log)?;
-    log.tell_left_out(rt);
-    let json = words.get_flag("json");
-    tell_marked(rt, json, offset as u64, log.len() as u64).map_err(|error| untold(error))
+    let marked = mark(rt, rt.alloc(), &lent, plan, closes, drops)?;
+    write_frames(rt, &mut held, whole.len(), &marked.growth)?;
+    tell_left_out(rt, marked.left_out);
+    let (json, bytes) = (words.get_flag("json"), marked.growth.len());
+    tell_marked(rt, json, marked.offset as u64, bytes as u64).map_err(|error| untold(error))
 }
 
 // Says how many records stand before the new log, and how long that is.
@@ -103,12 +104,12 @@ fn carry_log<R>(
 where
     R: Files<File = File> + Print + Eprint + AllocGlobal + Threads + Sync,
 {
-    let (log, made) = carried_on(rt, rt.alloc(), lent, plan, words.get_flag("drop"))?;
+    let (front, left, made) = carried_on(rt, rt.alloc(), lent, plan, words.get_flag("drop"))?;
     put_new(rt, new, &made)?;
-    log.tell_left_out(rt);
-    warn_of_end(rt, log.next);
-    let json = words.get_flag("json");
-    tell_carried(rt, json, log.next, made.len() as u64).map_err(|error| untold(error))
+    tell_left_out(rt, left);
+    let (json, next) = (words.get_flag("json"), front.state.next());
+    warn_of_end(rt, next);
+    tell_carried(rt, json, next, made.len() as u64).map_err(|error| untold(error))
 }
 
 /// Makes the carried file that goes on from a log, and tells so.
@@ -199,9 +200,7 @@ where
     let (made, left) = closed_of(rt, log, plan, drops)?;
     held.expect_as_read(rt, read)?;
     put_whole(rt, path, Stream::Out, &made)?;
-    if let Some(left) = left {
-        left.tell(rt);
-    }
+    tell_left_out(rt, left);
     Ok(())
 }
 
@@ -235,9 +234,7 @@ where
     let (made, left) = closed_of(rt, log, plan, true)?;
     rule.put_over(rt, out, &[&made])
         .map_err(|error| failed(Stream::Out, error))?;
-    if let Some(left) = left {
-        left.tell(rt);
-    }
+    tell_left_out(rt, left);
     Ok(())
 }
 

@@ -106,14 +106,14 @@ pub(crate) struct LeftOut {
     frames: usize,
 }
 
-impl LeftOut {
-    /// Says so.
-    pub(crate) fn tell<R: Eprint>(&self, rt: &R) {
-        let (bytes, frames) = (self.bytes, self.frames);
-        let _ = eprintln!(rt;
-            "rqlog: left out {bytes} bytes behind the front, with {frames} right frames"
-        );
-    }
+/// Says what of a log was left out behind its front, if that is to be told.
+pub(crate) fn tell_left_out<R: Eprint>(rt: &R, left: Option<LeftOut>) {
+    let Some(LeftOut { bytes, frames }) = left else {
+        return;
+    };
+    let _ = eprintln!(rt;
+        "rqlog: left out {bytes} bytes behind the front, with {frames} right frames"
+    );
 }
 
 // The same damage of a log, before whose last bytes stand so many.

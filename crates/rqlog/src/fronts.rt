@@ -8,10 +8,12 @@ use crate::inputs::{LentLog, bytes_from};
 use crate::refusal::{Refusal, Stream, failed};
 use byteorder::{BigEndian, ByteOrder};
 use rq_front::HEADER_LEN;
-use rq_journal::{CARRIED_AT, Fault, Opened, Plan, Why, is_carried, open_carried, read_as_log};
+use rq_journal::{
+    CARRIED_AT, Fault, Growth, Opened, Plan, Why, is_carried, open_carried, read_as_log,
+};
 use rq_judged::GrowingFront;
-use rq_record::Version;
 use rq_restart::RedoneFront;
+use rq_state::State;
 use std::alloc::{AllocError, Global};
 use std::fs::File;
 use std::io::{ErrorKind, Read, Seek, SeekFrom};
@@ -24,24 +26,17 @@ const PIECE: usize = 1_048_576;
 /// Stands where the front of a log ends, and gathers what is to be written there.
 #[derive(Drop)]
 pub(crate) struct OpenLog {
-    /// Its file, opened.
-    pub(crate) opened: Opened,
+    /// Takes records there.
+    pub(crate) growth: Growth,
     /// So many bytes of the log were read: all that it had.
     pub(crate) read: usize,
     /// The number of the next record, over all files of the log.
     pub(crate) next: u64,
-    /// The frames that are to be written behind the front.
-    pub(crate) frames: Vec<u8>,
     /// What stands behind the front and is left out, if that is to be told.
     pub(crate) left_out: Option<LeftOut>,
 }
 
 impl OpenLog {
-    /// The version by whose rules records follow.
-    pub(crate) fn version(&self) -> Version {
-        self.opened.appender.version()
-    }
-
     // Refuses the end of the front, by the last bytes of the log, if nothing is written behind it,
     // unless what stands there is to be dropped.
     fn expect_end(
@@ -50,35 +45,14 @@ impl OpenLog {
         last: LastBytes<'_>,
         drops: bool,
     ) -> Result<(), Refusal> {
-        let (version, end) = (self.version(), self.opened.end);
+        let (version, end) = (self.growth.version(), self.growth.end());
         self.left_out = expect_end(alloc, last, version, end, drops)?;
         Ok(())
     }
 
-    /// Says what of the log was left out behind its front, if that is to be told.
-    pub(crate) fn tell_left_out<R: Eprint>(&self, rt: &R) {
-        if let Some(left) = self.left_out {
-            left.tell(rt);
-        }
-    }
-
-    /// How many bytes the log has with the frames.
-    pub(crate) fn len(&self) -> usize {
-        self.opened.end.used.saturating_add(self.frames.len())
-    }
-
-    /// Whether a state behind so many records more can be spelled: it numbers 4,294,967,295 at most.
-    pub(crate) fn has_numbers(&self, count: usize) -> bool {
-        count as u64 <= u64::from(u32::MAX).saturating_sub(self.next)
-    }
-
-    /// Refuses so many records more if no state behind them can be spelled.
-    pub(crate) fn expect_numbers(&self, count: usize) -> Result<(), Refusal> {
-        if self.has_numbers(count) {
-            Ok(())
-        } else {
-            Err(Refusal::Ended)
-        }
+    /// Whether a state behind one record more can be spelled: it numbers 4,294,967,295 at most.
+    pub(crate) fn has_number(&self) -> bool {
+        self.next < State::RECORDS
     }
 }
 
@@ -96,10 +70,9 @@ fn numbered_before(bytes: &[u8], is_carried: bool) -> u64 {
 fn open_at(alloc: Global, opened: Opened, read: usize, before: u64) -> OpenLog {
     let next = before.saturating_add(opened.end.records as u64);
     OpenLog {
-        opened,
+        growth: Growth::of(alloc, opened),
         read,
         next,
-        frames: Vec::new(alloc),
         left_out: None,
     }
 }
@@ -216,8 +189,8 @@ fn expect_plain_end<A: AllocGlobal>(
     log: &mut OpenLog,
     drops: bool,
 ) -> Result<(), Refusal> {
-    let before = log.opened.end.used.saturating_sub(LINK_LEN);
-    let most = telling(log.opened.end.why, drops).saturating_add(LINK_LEN);
+    let before = log.growth.end().used.saturating_sub(LINK_LEN);
+    let most = telling(log.growth.end().why, drops).saturating_add(LINK_LEN);
     let bytes = last_of_log(rt, file, before, most)?;
     let last = LastBytes {
         bytes: &bytes,
@@ -241,7 +214,7 @@ where
 {
     match plain_front(rt, file, plan) {
         Ok(mut log) => {
-            if !matches!(log.opened.end.why, Why::Whole) {
+            if !matches!(log.growth.end().why, Why::Whole) {
                 expect_plain_end(rt, file, &mut log, drops)?;
             }
             Ok(log)
@@ -267,19 +240,17 @@ fn redone_in<R: Threads + Sync>(
     }
 }
 
-/// Where the front of a log ends, as `front_in` has it, and the state there. Open units stay open.
+/// The front of a log behind which something is written, and the state there; and what is left out
+/// behind it, if that is to be told. Open units stay open.
 pub(crate) fn redone_log<R: Threads + Sync>(
     rt: &R,
     alloc: Global,
     log: &LentLog<'_>,
     plan: &Plan,
     drops: bool,
-) -> Result<(OpenLog, RedoneFront), Refusal> {
+) -> Result<(RedoneFront, Option<LeftOut>), Refusal> {
     let front = redone_in(rt, alloc, log, plan)?;
-    let bytes = log.bytes.as_slice();
-    let opened = Opened::of_redone(alloc, &front)?;
-    let before = numbered_before(bytes, log.is_carried);
-    let mut open = open_at(alloc, opened, bytes.len(), before);
-    open.expect_end(alloc, LastBytes::all(bytes), drops)?;
-    Ok((open, front))
+    let last = LastBytes::all(log.bytes.as_slice());
+    let left = expect_end(alloc, last, front.version, front.end, drops)?;
+    Ok((front, left))
 }

@@ -1,12 +1,14 @@
 //! A script is appended to a log: from its lines to the frames of their records.
 
-use crate::files::{HeldLog, Hold};
+use crate::damage::tell_left_out;
+use crate::files::write_frames;
 use crate::fronts::{OpenLog, front_in};
 use crate::refusal::{Refusal, Stream, failed, untold};
 use crate::refused_lines::{LineRefused, Reason};
 use clap::ArgMatches;
 use rq_file::{LIMIT, read_limited};
 use rq_journal::Plan;
+use rq_log_file::{HeldLog, Hold};
 use rq_record::{Fault, Record};
 use rq_writer::{ScriptLine, line_at};
 use std::alloc::Global;
@@ -41,10 +43,10 @@ where
 
 // Appends the frame of a record.
 fn append_record(alloc: Global, log: &mut OpenLog, record: &Record) -> Result<(), Reason> {
-    if !log.has_numbers(1) {
+    if !log.has_number() {
         return Err(Reason::Ended);
     }
-    match log.opened.appender.append(alloc, record, &mut log.frames) {
+    match log.growth.append(alloc, record) {
         Ok(()) => {
             log.next = log.next.saturating_add(1);
             Ok(())
@@ -55,7 +57,7 @@ fn append_record(alloc: Global, log: &mut OpenLog, record: &Record) -> Result<()
 
 // Appends the frame of a line's record.
 fn append_line(alloc: Global, log: &mut OpenLog, text: &[u8]) -> Result<(), Reason> {
-    match ScriptLine::of(alloc, log.version(), text) {
+    match ScriptLine::of(alloc, log.growth.version(), text) {
         Ok(ScriptLine::Told(record)) => append_record(alloc, log, &record),
         Ok(ScriptLine::Spelled) => Err(Reason::Checkpoint),
         Err(Fault::Resources) => Err(Reason::Memory),
@@ -100,7 +102,7 @@ fn append_lines<'a>(
 
 // Says how many records were appended, from which offset on, and how long the log is then.
 fn tell_appended<R: Print>(rt: &R, json: bool, count: u64, log: &OpenLog) -> io::Result<()> {
-    let (offset, bytes) = (log.opened.end.used, log.len());
+    let (offset, bytes) = (log.growth.end().used, log.growth.len());
     if json {
         println!(rt; "{{\"appended\":{count},\"offset\":{offset},\"bytes\":{bytes}}}")
     } else {
@@ -130,8 +132,8 @@ where
         }
     };
     if keeps || refused.is_none() {
-        held.append(rt, log)?;
-        log.tell_left_out(rt);
+        write_frames(rt, held, log.read, &log.growth)?;
+        tell_left_out(rt, log.left_out);
         let json = words.get_flag("json");
         tell_appended(rt, json, count, log).map_err(|error| untold(error))?;
     }

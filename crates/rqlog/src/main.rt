@@ -1,5 +1,5 @@
-//! The program `rqlog`: begins logs, appends to them, makes them whole after a crash, marks them with
-//! checkpoints, and carries them on into new files.
+//! The program `rqlog`: begins logs, appends to them, serves them, makes them whole after a crash, marks
+//! them with checkpoints, and carries them on into new files.
 #![tactic(auto)]
 
 mod checkpoints;
@@ -14,12 +14,14 @@ mod new_log;
 mod recovery;
 mod refusal;
 mod refused_lines;
+mod serve;
 mod words;
 
 use crate::commands::{carry, checkpoint, close, new_log, print_audit, print_report};
 use crate::lines::append;
 use crate::recovery::recover;
 use crate::refusal::Refusal;
+use crate::serve::serve_log;
 use crate::words::program;
 use clap::ArgMatches;
 use rq_file::hold_standard;
@@ -92,6 +94,7 @@ where
         "append" => append(rt, path, &plan, words),
         "checkpoint" => checkpoint(rt, path, &plan, words),
         "carry" => carry(rt, path, &plan, words),
+        "serve" => serve_log(rt, path, &plan, words.get_flag("create")),
         "restart" => print_report(rt, path, &plan),
         "close" => close(rt, path, &plan, words),
         "recover" => {

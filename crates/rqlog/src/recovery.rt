@@ -1,33 +1,82 @@
 //! A log that a crash left is made whole where it stands.
 
-use crate::damage::{BadEnd, LastBytes, left_out};
-use crate::files::{HeldLog, Hold};
-use crate::inputs::{ReadLog, bytes_from, rest_of_log};
+ghost use Rattle.std.specs.Arc.{arc_slice_items};
+ghost use Rattle.std.specs.Prelude.{IfOk, length};
+ghost use Rattle.rq_live.specs.Kernels.{StandsWithin};
+
+use crate::damage::{BadEnd, LastBytes, LeftOut, left_out, tell_left_out};
+use crate::files::write_ending;
+use crate::inputs::{bytes_from, rest_of_log};
 use crate::new_log::put_new;
 use crate::refusal::{Refusal, Stream, failed, untold};
 use rq_file::{NamedFile, folder_within};
-use rq_journal::{CARRIED_AT, MadeWhole, NotRecovered, Plan};
+use rq_journal::{CARRIED_AT, Damage, Fault, MadeWhole, NotRecovered, Plan};
+use rq_judged::Edge;
+use rq_live::{Kernel, Manager};
+use rq_log_file::{HeldLog, Hold, LogFile};
+use rq_record::{LogBytes, Version};
+use rq_reopen::{FoundLog, NotOpened, Opening};
 use std::alloc::{AllocError, Global};
 use std::fs::{File, Files, OpenFile, OpenOptions};
 use std::io;
+use std::sync::ArcSlice;
 use std::thread::Threads;
 
-// How a log goes on, plain or carried on; damage stays, unless it is to be dropped.
-fn recovered_log<R>(rt: &R, log: &ReadLog, plan: &Plan, drops: bool) -> Result<MadeWhole, Refusal>
+// What was done to make a log whole.
+#[derive(Drop)]
+struct Recovered {
+    // What was dropped, if that was damage.
+    left: Option<LeftOut>,
+    // The file that keeps what was cut off, if something was.
+    kept: Option<String>,
+    // Where the front ends.
+    offset: usize,
+    // How many bytes were cut off there.
+    cut: usize,
+    // How many units were aborted.
+    units: usize,
+    // How many bytes the log has then.
+    bytes: usize,
+}
+
+// How a carried file goes on; damage stays, unless it is to be dropped.
+fn made_whole<R>(rt: &R, bytes: &[u8], plan: &Plan, drops: bool) -> Result<MadeWhole, Refusal>
 where
     R: AllocGlobal + Threads + Sync,
 {
-    let (alloc, bytes) = (rt.alloc(), &log.bytes);
-    let made = if log.is_carried {
-        MadeWhole::made_at(rt, alloc, bytes, CARRIED_AT as u64, plan, drops)
-    } else {
-        MadeWhole::of(rt, alloc, bytes, plan, drops)
-    };
-    match made {
+    match MadeWhole::made_at(rt, rt.alloc(), bytes, CARRIED_AT as u64, plan, drops) {
         Ok(made) => Ok(made),
         Err(NotRecovered::Log(fault)) => Err(Refusal::from(fault)),
         Err(NotRecovered::Damaged(ending, damage)) => {
             Err(Refusal::Damaged(BadEnd::damaged(ending.end, bytes.len(), damage)))
+        }
+    }
+}
+
+// Refuses a log that would be too long with the ABORTs of the units that are open behind its front.
+fn expect_room(found: &FoundLog) -> Result<(), Refusal> {
+    if found.kernel.has_room_for_ends() {
+        Ok(())
+    } else {
+        Err(Refusal::from(Fault::TooLarge))
+    }
+}
+
+// How a manager goes on behind a plain log; damage stays, unless it is to be dropped.
+fn opened_log<R>(rt: &R, whole: &ArcSlice<u8>, plan: &Plan, drops: bool) -> Result<Opening, Refusal>
+where
+    R: AllocGlobal + Threads + Sync,
+    ensures { IfOk result (λ o. StandsWithin o.found.kernel (length (arc_slice_items whole.now))) }
+{
+    match Opening::of(rt, rt.alloc(), &LogBytes::shared(whole), plan, drops) {
+        Ok(opened) => {
+            expect_room(&opened.found)?;
+            Ok(opened)
+        }
+        Err(NotOpened::Log(fault)) => Err(Refusal::from(fault)),
+        Err(NotOpened::Damaged(found, damage)) => {
+            expect_room(&found)?;
+            Err(Refusal::Damaged(BadEnd::damaged(found.end, whole.len(), damage)))
         }
     }
 }
@@ -79,42 +128,136 @@ where
     }
 }
 
-// Keeps what is cut off, if something is, and answers where.
-fn kept_cut<R>(rt: &R, path: &str, made: &MadeWhole) -> Result<Option<String>, Refusal>
+/// Keeps what is cut off at an offset, if something is, and answers where.
+pub(crate) fn kept_cut<R>(
+    rt: &R,
+    path: &str,
+    offset: usize,
+    cut: &[u8],
+) -> Result<Option<String>, Refusal>
 where
     R: Files<File = File> + AllocGlobal,
 {
-    if made.cut.is_empty() {
+    if cut.is_empty() {
         return Ok(None);
     }
-    let name = kept_name(rt.alloc(), path, made.ending.end.used)?;
-    keep_cut(rt, &name, made.ending.end.used, &made.cut)?;
+    let name = kept_name(rt.alloc(), path, offset)?;
+    keep_cut(rt, &name, offset, cut)?;
     Ok(Some(name))
 }
 
-// Whether the log is another once it is recovered.
-fn changes(made: &MadeWhole) -> bool {
-    !made.cut.is_empty() || !made.ending.tail.is_empty()
+// What of a log is left out behind a front that ends here, if damage is dropped.
+fn dropped(
+    alloc: Global,
+    bytes: &[u8],
+    version: Version,
+    end: Edge,
+    damage: Option<Damage>,
+) -> Result<Option<LeftOut>, Refusal> {
+    match damage {
+        Some(_) => Ok(Some(left_out(alloc, LastBytes::all(bytes), version, end)?)),
+        None => Ok(None),
+    }
+}
+
+/// Why a manager over the file of a log is spent: a call of the file failed, or memory was refused.
+pub(crate) fn why_spent(file: &LogFile<HeldLog>, stream: Stream) -> Refusal {
+    let Some(error) = file.error() else {
+        return Refusal::Memory;
+    };
+    let error = match error.raw_os_error() {
+        Some(code) => io::Error::from_raw_os_error(code),
+        None => io::Error::from(error.kind()),
+    };
+    Refusal::Failed(stream, error)
+}
+
+// Goes on from a plain log that was read, which has room for the ABORTs of the units that are open
+// behind its front: cuts off what stands there, and writes them. How many bytes it has then.
+fn go_on<R>(rt: &R, held: HeldLog, whole: ArcSlice<u8>, kernel: Kernel) -> Result<usize, Refusal>
+where
+    R: Files<File = File> + AllocGlobal,
+    requires { StandsWithin kernel (length (arc_slice_items whole)) }
+{
+    let read = whole.len();
+    held.expect_as_read(rt, read)?;
+    let mut manager = Manager::over(LogFile::new(held, Some(whole)), kernel);
+    match manager.resume(rt.alloc(), read) {
+        Ok(()) => Ok(manager.len()),
+        Err(_) => Err(why_spent(manager.device(), Stream::LogToRecover)),
+    }
+}
+
+// Makes a plain log whole where it stands. One that is whole, with no open unit, is not written.
+fn recover_plain<R>(
+    rt: &R,
+    path: &str,
+    held: HeldLog,
+    whole: ArcSlice<u8>,
+    plan: &Plan,
+    drops: bool,
+) -> Result<Recovered, Refusal>
+where
+    R: Files<File = File> + AllocGlobal + Threads + Sync,
+{
+    let opened = opened_log(rt, &whole, plan, drops)?;
+    let (version, end, cut) = (opened.found.version, opened.found.end, opened.cut.len());
+    let left = dropped(rt.alloc(), &whole, version, end, opened.damage)?;
+    let kept = kept_cut(rt, path, end.used, &opened.cut)?;
+    let units = opened.found.kernel.open_count();
+    let bytes = if cut == 0 && units == 0 {
+        whole.len()
+    } else {
+        go_on(rt, held, whole, opened.found.kernel)?
+    };
+    Ok(Recovered {
+        left,
+        kept,
+        offset: end.used,
+        cut,
+        units,
+        bytes,
+    })
+}
+
+// Makes a carried file whole where it stands.
+fn recover_carried<R>(
+    rt: &R,
+    path: &str,
+    mut held: HeldLog,
+    bytes: &[u8],
+    plan: &Plan,
+    drops: bool,
+) -> Result<Recovered, Refusal>
+where
+    R: Files<File = File> + AllocGlobal + Threads + Sync,
+{
+    let made = made_whole(rt, bytes, plan, drops)?;
+    let ending = &made.ending;
+    let left = dropped(rt.alloc(), bytes, ending.version, ending.end, made.damage)?;
+    let kept = kept_cut(rt, path, ending.end.used, &made.cut)?;
+    if !made.cut.is_empty() || !ending.tail.is_empty() {
+        write_ending(rt, &mut held, bytes.len(), ending)?;
+    }
+    Ok(Recovered {
+        left,
+        kept,
+        offset: ending.end.used,
+        cut: made.cut.len(),
+        units: ending.units,
+        bytes: ending.end.used.saturating_add(ending.tail.len()),
+    })
 }
 
 // Says what was cut off where, how many units were aborted, and how long the log is then.
-fn tell_recovered<R: Print>(
-    rt: &R,
-    json: bool,
-    kept: &Option<String>,
-    made: &MadeWhole,
-) -> io::Result<()> {
-    let (offset, cut) = (made.ending.end.used, made.cut.len());
-    let (units, bytes) = (
-        made.ending.units,
-        offset.saturating_add(made.ending.tail.len()),
-    );
+fn tell_recovered<R: Print>(rt: &R, json: bool, done: &Recovered) -> io::Result<()> {
+    let (offset, cut, units, bytes) = (done.offset, done.cut, done.units, done.bytes);
     if json {
         return println!(rt;
             "{{\"offset\":{offset},\"cut\":{cut},\"aborted\":{units},\"bytes\":{bytes}}}"
         );
     }
-    if let Some(name) = kept {
+    if let Some(name) = &done.kept {
         println!(rt; "cut {cut} bytes at {offset}, kept in {name}")?;
     }
     if units > 0 {
@@ -137,22 +280,11 @@ where
 {
     let mut held = HeldLog::open(rt, path, Hold::ToWrite)?;
     let read = rest_of_log(rt, held.file())?;
-    let made = recovered_log(rt, &read, plan, drops)?;
-    let left = match made.damage {
-        Some(_) => Some(left_out(
-            rt.alloc(),
-            LastBytes::all(&read.bytes),
-            made.ending.version,
-            made.ending.end,
-        )?),
-        None => None,
+    let done = if read.is_carried {
+        recover_carried(rt, path, held, &read.bytes, plan, drops)?
+    } else {
+        recover_plain(rt, path, held, ArcSlice::from_vec(read.bytes)?, plan, drops)?
     };
-    let kept = kept_cut(rt, path, &made)?;
-    if changes(&made) {
-        held.recover(rt, read.bytes.len(), &made.ending)?;
-    }
-    if let Some(left) = left {
-        left.tell(rt);
-    }
-    tell_recovered(rt, json, &kept, &made).map_err(|error| untold(error))
+    tell_left_out(rt, done.left);
+    tell_recovered(rt, json, &done).map_err(|error| untold(error))
 }

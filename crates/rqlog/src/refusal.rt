@@ -5,7 +5,8 @@ use crate::refused_lines::{LineRefused, Reason};
 use clap::ArgMatches;
 use clap::error::ErrorKind;
 use rq_found::Seen;
-use rq_journal::Fault;
+use rq_journal::{Fault, NotMarked};
+use rq_log_file::NotHeld;
 use std::alloc::AllocError;
 use std::io;
 
@@ -36,6 +37,7 @@ pub(crate) enum Stream {
     LogToRecover,
     /// The file that keeps what is cut off at an offset.
     Kept(usize),
+    Input,
     Output,
     /// The output that was to tell what is done all the same.
     Telling,
@@ -89,6 +91,27 @@ impl From<clap::Error> for Refusal {
     }
 }
 
+impl From<NotHeld> for Refusal {
+    fn from(not: NotHeld) -> Refusal {
+        match not {
+            NotHeld::Locked => Refusal::Held,
+            NotHeld::Changed => Refusal::Changed,
+            NotHeld::Failed(error) => failed(Stream::Log, error),
+        }
+    }
+}
+
+impl From<NotMarked> for Refusal {
+    fn from(not: NotMarked) -> Refusal {
+        match not {
+            NotMarked::Ended => Refusal::Ended,
+            NotMarked::Full => Refusal::Full,
+            NotMarked::Large => Refusal::from(Fault::TooLarge),
+            NotMarked::Resources => Refusal::Memory,
+        }
+    }
+}
+
 impl From<io::Error> for Refusal {
     fn from(error: io::Error) -> Refusal {
         Refusal::Failed(Stream::Output, error)
@@ -130,12 +153,15 @@ impl Stream {
             Stream::Script => Some("SCRIPT"),
             Stream::New => Some("NEW"),
             Stream::Out => Some("OUT"),
-            Stream::Output | Stream::Telling => None,
+            Stream::Input | Stream::Output | Stream::Telling => None,
         }
     }
 
     // What it is called by these words.
     fn name<'a>(self, words: Option<&'a ArgMatches<'_>>) -> Seen<'a> {
+        if matches!(self, Stream::Input) {
+            return Seen("standard input");
+        }
         let Some(word) = self.word() else {
             return Seen("standard output");
         };

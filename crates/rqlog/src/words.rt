@@ -12,6 +12,12 @@ const LOG: Word = Word(
     "The file of the log, plain or carried on",
 );
 
+const PLAIN: Word = Word(
+    "LOG",
+    Value(Word::TEXT),
+    "The file of the log, which was not carried on",
+);
+
 const NEW: Word = Word(
     "NEW",
     Value(Word::TEXT),
@@ -32,7 +38,7 @@ const COUNT: Word = Word(
     "How many threads work, 1 to 64",
 );
 
-static COMMANDS: [Subcommand; 8] = [
+static COMMANDS: [Subcommand; 9] = [
     Subcommand {
         name: "new",
         about: "Makes a log that has no record yet, in version 2",
@@ -78,6 +84,19 @@ static COMMANDS: [Subcommand; 8] = [
         name: "carry",
         about: "Makes a new log that goes on where a log ends, with its state alone",
         words: &[LOG, NEW, DROP, JSON, Word::WORKERS],
+    },
+    Subcommand {
+        name: "serve",
+        about: "Serves the queues of a log to the program at standard input and output",
+        words: &[
+            PLAIN,
+            Word(
+                "create",
+                Flag,
+                "Makes the log if it is not there, in version 2",
+            ),
+            Word::WORKERS,
+        ],
     },
     Subcommand {
         name: "restart",

@@ -1,10 +1,19 @@
-use Rattle.std.proofs.Common.{◌++◌, codes}
+use Rattle.std.proofs.Common.{◌++◌, Bool, List, ℕ, codes, refl, sym, subst}
+use Rattle.rq_look.specs.Dumps.{IsCountLine}
+use Rattle.rq_look.specs.Findings.{behind_text}
 use Rattle.rq_look.proofs.Puts.{then_ok}
 use Rattle.rq_look.proofs.dumps.put_counted.Goals as goal
 
 pub returns-then-wanted : goal.returns-then-wanted
 returns-then-wanted c =
-    then_ok _ _ (λ put. (put.0 ++ codes "\n", put.1)) c.put_behind_object.result c.put_behind_object.ensures
+    then_ok _ _ (λ put.
+    let line : List ℕ = put.0 ++ codes "\n" in
+    (line, subst (λ (j : Bool). IsCountLine j c.args.found.now c.args.total line) (sym c.if-wanted.true) (put.0, refl), put.1))
+    c.put_behind_object.result c.put_behind_object.ensures
 
 pub returns : goal.returns
-returns c = then_ok _ _ (λ put. (_, put)) c.put_behind.result c.put_behind.ensures
+returns c =
+    let line : List ℕ = behind_text c.args.found.now c.args.total in
+    then_ok _ _ (λ put.
+    (line, subst (λ (j : Bool). IsCountLine j c.args.found.now c.args.total line) (sym c.if-wanted.false) refl, put))
+    c.put_behind.result c.put_behind.ensures

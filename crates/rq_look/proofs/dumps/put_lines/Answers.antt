@@ -13,7 +13,7 @@ returns-clause-told g c =
     let end = c.requires.end in
     let old = held c.args.output.now in
     let front = c.in_ok-left.ensures.lines in
-    let behind = c.in_ok-put_wanted_behind.ensures.only in
+    let behind = c.in_ok-put_wanted_behind.ensures.shown in
     let closing = c.in_ok-put_closing.ensures log.at log.bytes.now end.0 end.1 end.2 in
     let began : List ℕ = origin w.json log.at in
     let first = held c.put_records.new.output in
@@ -32,7 +32,16 @@ returns-clause-told g c =
     old first last front.2 rest in
     let text : List ℕ = front.0 ++ (behind.0 ++ (began ++ closing.0)) in (
       text,
-      (front.0, behind.0, closing.0, front.1, behind.1, closing.1, refl),
+      (
+        front.0,
+        behind.0,
+        closing.0,
+        c.in_ok-left.left,
+        front.1,
+        behind.1 log.at end.0 end.1 end.2,
+        closing.1,
+        refl,
+      ),
       all_written text text_last old last (held c.write_out.new.output)
           (subst (λ (x : List ℕ). Gathers text x old text_last last) c.requires.nothing whole)
           c.in_ok-write_out.ensures.written.0,

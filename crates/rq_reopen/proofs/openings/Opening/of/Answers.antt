@@ -1,8 +1,8 @@
 use Rattle.std.proofs.Common.{ℕ, ◌≤◌, List, length, sym, subst}
 use Rattle.rq_live.specs.Kernels.{StandsWithin}
 use Rattle.rq_reopen.specs.declared.found_log.FoundLog.{FoundLog}
-use Rattle.rq_reopen.specs.Openings.{GoesOnAt, OpensBehind}
-use Rattle.rq_reopen.proofs.Opened.{found_within, opened_so, opens_there}
+use Rattle.rq_reopen.specs.Openings.{GoesOnAt, IsExactlyFound, OpensBehind}
+use Rattle.rq_reopen.proofs.Opened.{found_within, opened_headed, opened_so, opens_there}
 use Rattle.rq_reopen.proofs.openings.Opening.of.Goals as goal
 
 pub opened_behind-requires-clause-after : goal.opened_behind-requires-clause-after
@@ -34,3 +34,16 @@ returns-in-Ok-clause-survives g c =
     (subst (λ (b : List ℕ). OpensBehind b c.in-Ok.found c.args.drops c.opened_behind.result) c.as_slice.ensures
     c.opened_behind.ensures)
     c.in-Ok.ensures.survives
+
+pub returns-in-Ok-clause-headed : goal.returns-in-Ok-clause-headed
+returns-in-Ok-clause-headed g c =
+    opened_headed c.args.left.now c.in-Ok.found c.args.drops c.opened_behind.result
+    (subst (λ (b : List ℕ). OpensBehind b c.in-Ok.found c.args.drops c.opened_behind.result) c.as_slice.ensures
+    c.opened_behind.ensures)
+
+pub returns-in-Ok-clause-exact : goal.returns-in-Ok-clause-exact
+returns-in-Ok-clause-exact g c =
+    opened_so (IsExactlyFound c.args.left.now) c.args.left.now c.in-Ok.found c.args.drops c.opened_behind.result
+    (subst (λ (b : List ℕ). OpensBehind b c.in-Ok.found c.args.drops c.opened_behind.result) c.as_slice.ensures
+    c.opened_behind.ensures)
+    c.in-Ok.ensures.exact

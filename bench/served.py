@@ -1,0 +1,62 @@
+"""By hand. Times a served log beside a table of SQLite, and beside the bytes alone."""
+from __future__ import annotations
+import os, shutil, statistics, subprocess, sys
+
+from restarts import parsed, parser
+from trying import TOP
+
+# Each way, and what it is.
+WAYS = {"raw": "append and fdatasync of the same bytes, a unit each", "sqlite-full": "SQLite, WAL, FULL: a commit each",
+        "serve-1": "serve, one client", "loop-8": "serve, eight clients in a closed loop", "serve-100": "serve, 100 units in a write",
+        "sqlite-off": "SQLite, WAL, OFF: a commit each", "sqlite-off-8": "SQLite, WAL, OFF: eight elements through in a transaction",
+        "later-1": "serve without sync, one client", "later-8": "serve without sync, eight units in a write"}
+# These need so many times as many units for one figure.
+QUICK = ("sqlite-off", "sqlite-off-8", "later-1", "later-8", "serve-100")
+
+
+def built(folder: str) -> str:
+    """The program that does the units, in C: what it costs itself should not count."""
+    made, source = os.path.join(folder, "serving"), os.path.join(TOP, "bench", "serving.c")
+    done = subprocess.run(["cc", "-O2", source, "-lsqlite3", "-o", made], capture_output=True, text=True)
+    if done.returncode:
+        sys.exit(f"needs a C compiler, and SQLite's library with its header: {done.stderr}")
+    return made
+
+
+def timed(made: str, way: str, count: int, folder: str, program: str) -> tuple[float, float]:
+    """Seconds of a unit, and its bytes."""
+    room = os.path.join(folder, "served")
+    shutil.rmtree(room, ignore_errors=True)
+    os.makedirs(room)
+    path = os.path.join(room, "log")
+    words = [made, way, str(count), path, program, "serve", "--create", path]
+    took, size = subprocess.run(words, check=True, capture_output=True, text=True).stdout.split()
+    return float(took) / (2 * count), int(size) / (2 * count)
+
+
+def bytes_of(way: str, its: list[tuple[float, float]]) -> str:
+    """How many bytes of the log a unit has; what SQLite writes goes through another file."""
+    return "" if way.startswith("sqlite") else f"{its[0][1]:.0f}"
+
+
+def serve() -> None:
+    """Times a served log beside a table of SQLite, and beside the bytes alone.
+
+    usage: python3 bench serve RQLOG [--units N] [--runs N] [--folder FOLDER]
+    An element of 100 bytes is put in by one unit and taken out by another. The ways take turns; each figure is the median of the runs. FOLDER
+    is to be on the disk that is asked.
+    """
+    words = parser()
+    words.add_argument("--units", type=int, default=4_000)
+    words.add_argument("--runs", type=int, default=5)
+    options = parsed(words)
+    made, program = built(options.folder), os.path.abspath(options.program)
+    found: dict[str, list[tuple[float, float]]] = {it: [] for it in WAYS}
+    for _ in range(options.runs):
+        for way in WAYS:
+            found[way].append(timed(made, way, options.units // 2 * (10 if way in QUICK else 1), options.folder, program))
+    medians = {way: statistics.median(took for took, _ in its) for way, its in found.items()}
+    print("| | microseconds a unit | units a second | beside raw | beside SQLite FULL | bytes a unit |\n|---|---|---|---|---|---|")
+    for way, what in WAYS.items():
+        took = medians[way]
+        print(f"| {what} | {took * 1e6:.1f} | {1 / took:.0f} | {took / medians['raw']:.2f} | {took / medians['sqlite-full']:.2f} | {bytes_of(way, found[way])} |")

@@ -1,0 +1,5 @@
+pub mod Requests
+pub mod Refusals
+pub mod Answers
+pub mod Units
+pub mod Serving

@@ -1,0 +1,18 @@
+//! A queue manager serves a program line by line: what a line asks for, what is done, and what is
+//! answered.
+#![tactic(auto)]
+
+mod answers;
+mod deeds;
+mod doomed;
+mod listings;
+mod refusals;
+mod requests;
+mod service;
+mod session;
+mod words;
+
+pub use answers::Answer;
+pub use refusals::Refused;
+pub use requests::{LONGEST, Request};
+pub use service::{Unserved, serve};

@@ -1,0 +1,112 @@
+//! The lines of a client, and their answers.
+
+ghost use Rattle.std.specs.Prelude.{◌≡◌, ◌++◌, ◌||◌, OnOk, Some, None, string_bytes};
+ghost use Rattle.rq_live.specs.Managers.{IsInOrder, stand_of};
+ghost use Rattle.rq_serve.specs.Answers.{answer_lines};
+ghost use Rattle.rq_serve.specs.Requests.{request_of};
+ghost use Rattle.rq_serve.specs.Serving.{AddsAnswer};
+
+use crate::answers::Answer;
+use crate::deeds::done;
+use crate::doomed::Doomed;
+use crate::refusals::Undone;
+use crate::requests::Request;
+use rq_device::Device;
+use rq_live::Manager;
+use rq_record::Fault;
+use std::alloc::Global;
+
+/// What was answered and is not yet told, and which units are doomed.
+#[derive(Drop)]
+pub(crate) struct Session {
+    doomed: Doomed,
+    /// The lines of the answers.
+    pub(crate) answers: String,
+    /// One of them says that it is safe.
+    pub(crate) asks_sync: bool,
+    /// The service was closed.
+    pub(crate) is_closed: bool,
+}
+
+/// The service cannot go on: memory was refused, or the log failed.
+#[derive(Clone, Copy)]
+pub(crate) struct Spent;
+
+impl Session {
+    /// Nothing was asked yet.
+    pub(crate) fn new(alloc: Global) -> Session {
+        Session {
+            doomed: Doomed::none(alloc),
+            answers: String::new(alloc),
+            asks_sync: false,
+            is_closed: false,
+        }
+    }
+
+    // Adds an answer, which says that all before it is safe, or does not.
+    fn add(&mut self, answer: &Answer, is_safe: bool) -> Result<(), Spent>
+        ensures lines { OnOk result (string_bytes self.new.answers
+            ≡ string_bytes self.old.answers ++ answer_lines answer.now) }
+        ensures safe { OnOk result (self.new.asks_sync ≡ (self.old.asks_sync || is_safe)) }
+    {
+        match answer.put(&mut self.answers) {
+            Ok(()) => {
+                self.asks_sync = self.asks_sync || is_safe;
+                Ok(())
+            }
+            Err(_) => Err(Spent),
+        }
+    }
+
+    // A line that is no request dooms all units that are open.
+    fn doom_all<D: Device + Drop>(&mut self, m: &Manager<D>) -> Result<(), Spent>
+        ensures { OnOk result (AddsAnswer None self.old self.new) }
+    {
+        match m.greatest() {
+            Ok(greatest) => {
+                self.doomed.add_all(greatest);
+                self.add(&Answer::NoRequest, false)
+            }
+            Err(_) => Err(Spent),
+        }
+    }
+
+    // Does a request, and adds its answer.
+    fn answer<D: Device + Drop>(
+        &mut self,
+        alloc: Global,
+        m: &mut Manager<D>,
+        request: Request,
+    ) -> Result<(), Spent>
+        requires { IsInOrder (stand_of D.written D.synced D.doubted D.failed m.old) }
+        ensures order { IsInOrder (stand_of D.written D.synced D.doubted D.failed m.new) }
+        ensures adds { OnOk result (AddsAnswer (Some request) self.old self.new) }
+    {
+        let asks = request.asks_safety();
+        self.is_closed = matches!(request, Request::Close);
+        let answer = match done(alloc, m, &mut self.doomed, request) {
+            Ok(answer) => answer,
+            Err(Undone::Refused(refused)) => Answer::Refused(refused),
+            Err(Undone::Spent) => return Err(Spent),
+        };
+        self.add(&answer, asks && !answer.is_refused())
+    }
+
+    /// Does what a line asks for, and adds its answer.
+    pub(crate) fn take<D: Device + Drop>(
+        &mut self,
+        alloc: Global,
+        m: &mut Manager<D>,
+        line: &[u8],
+    ) -> Result<(), Spent>
+        requires { IsInOrder (stand_of D.written D.synced D.doubted D.failed m.old) }
+        ensures order { IsInOrder (stand_of D.written D.synced D.doubted D.failed m.new) }
+        ensures adds { OnOk result (AddsAnswer (request_of line.now) self.old self.new) }
+    {
+        match Request::of(alloc, line) {
+            Ok(request) => self.answer(alloc, m, request),
+            Err(Fault::Form) => self.doom_all(m),
+            Err(_) => Err(Spent),
+        }
+    }
+}

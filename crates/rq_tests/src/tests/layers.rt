@@ -1,0 +1,13 @@
+//! Each layer on its own, by known values.
+
+mod analysis;
+mod by_hand;
+mod bytes;
+mod chains;
+mod countdowns;
+mod courses;
+mod ends;
+mod framers;
+mod machine;
+mod plain;
+mod rooms;

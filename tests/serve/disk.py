@@ -1,0 +1,89 @@
+"""Shared. The disk below the torture test: what disk.c says is on it, and what a power cut leaves."""
+from __future__ import annotations
+import os, random, shutil
+
+from trying import content, put
+
+PAGE = 4096
+
+
+def common(one: bytes, other: bytes) -> int:
+    """How many bytes two files begin with alike."""
+    least, most = 0, min(len(one), len(other))
+    while least < most:
+        half = (least + most + 1) // 2
+        least, most = (half, most) if one[:half] == other[:half] else (least, half - 1)
+    return least
+
+
+def some_pages(image: bytes, file: bytes, draw: random.Random) -> bytes:
+    """Some of the pages that were written since, and not synced."""
+    length = draw.choice([len(image), len(file), draw.randrange(min(len(image), len(file)), max(len(image), len(file)) + 1)])
+    whole = bytearray(image[:length].ljust(length, b"\0"))
+    for at in range(common(image, file) // PAGE * PAGE, length, PAGE):
+        if draw.random() < 0.5 and at < len(file):
+            end = min(at + PAGE, len(file), length)
+            whole[at:end] = file[at:end]
+    return bytes(whole)
+
+
+def garbage(image: bytes, file: bytes, draw: random.Random) -> bytes:
+    """The same, and bytes of others in a piece of what was not synced."""
+    left, at = bytearray(some_pages(image, file, draw)), common(image, file)
+    if len(left) > at or draw.random() < 0.5:
+        begin = draw.randrange(at, len(left) + 1)
+        left[begin:begin + draw.randrange(600)] = draw.randbytes(draw.randrange(1, 600))
+    return bytes(left)
+
+
+class Disk:
+    """A folder, and the images of its files."""
+
+    def __init__(self, folder: str, images: str, library: str) -> None:
+        self.folder, self.images, self.library = folder, images, library
+        os.makedirs(folder)
+        os.makedirs(images)
+
+    def variables(self, fault: str = "", at: int = 0) -> dict[str, str]:
+        """What a process is given that is to work on this disk."""
+        return {**os.environ, "LD_PRELOAD": self.library, "DISK_FOLDER": os.path.realpath(self.folder), "DISK_IMAGES": self.images,
+                "DISK_FAULT": fault, "DISK_AT": str(at)}
+
+    def image(self, number: int) -> bytes:
+        return content(os.path.join(self.images, str(number))) or b""
+
+    def image_of(self, name: str) -> bytes:
+        """What of a file is on the disk for sure."""
+        return self.image(os.stat(os.path.join(self.folder, name)).st_ino)
+
+    def numbers(self) -> dict[str, int]:
+        return {it: os.stat(os.path.join(self.folder, it)).st_ino for it in os.listdir(self.folder)}
+
+    def synced_names(self) -> dict[str, int]:
+        lines = (content(os.path.join(self.images, "names")) or b"").decode().splitlines()
+        return {name: int(number) for number, name in (it.split(" ", 1) for it in lines)}
+
+    def cut_power(self, draw: random.Random) -> str:
+        """Leaves what is on the disk, and some of what was on its way there: what kind of rest that was."""
+        now = self.numbers()
+        files = {number: content(os.path.join(self.folder, name)) for name, number in now.items()}
+        names = draw.choice([now, self.synced_names() or now])
+        how = draw.choice([None, some_pages, garbage])
+        left = {}
+        for name, number in names.items():
+            image = self.image(number)
+            left[name] = how(image, files.get(number, image), draw) if how else image
+        self.begin_with(left)
+        return how.__name__ if how else "what was synced"
+
+    def begin_with(self, files: dict[str, bytes]) -> None:
+        """The folder has these files, all of them on the disk."""
+        for folder in (self.folder, self.images):
+            shutil.rmtree(folder)
+            os.makedirs(folder)
+        for name, it in files.items():
+            put(os.path.join(self.folder, name), it)
+        for number, it in ((number, files[name]) for name, number in self.numbers().items()):
+            put(os.path.join(self.images, str(number)), it)
+        lines = "".join(f"{number} {name}\n" for name, number in self.numbers().items())
+        put(os.path.join(self.images, "names"), lines.encode())
