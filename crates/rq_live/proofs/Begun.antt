@@ -1,21 +1,21 @@
 -- Files of records, by where these begin.
-use Rattle.std.proofs.Common.{◌≡◌, ℕ, ◌+◌, ◌*◌, ◌≤◌, List, [], ◌∷◌, ◌++◌, length, refl, sym, ap, subst, ◌∙◌}
+use Rattle.std.proofs.Common.{◌≡◌, ℕ, ◌+◌, ◌≤◌, List, [], ◌∷◌, ◌++◌, length, sym, ap, ◌∙◌}
 use Rattle.std.proofs.Common.{append_assoc, arith}
 use Rattle.std.proofs.lemmas.List.{length-append}
 use Rattle.rq_model.specs.Records.{Record, Version, One, Two}
 use Rattle.rq_model.specs.Spelling.{body_of}
-use Rattle.rq_model.specs.Frames.{frame, frames_of, header, start, magic}
-use Rattle.rq_model.specs.States.{State, empty}
-use Rattle.rq_model.specs.Machine.{run, all_lawful}
+use Rattle.rq_model.specs.Frames.{frame, frames_of, start}
+use Rattle.rq_model.specs.States.{empty}
+use Rattle.rq_model.specs.Machine.{run}
 use Rattle.rq_model.specs.WellFormed.{IsWellFormed}
 use Rattle.rq_model.specs.StateSpelling.{Fits, IsDeepFor, SpellsState, state_bytes}
 use Rattle.rq_model.specs.Laws.{EmptyIsWellFormed, RunsAreWellFormed}
 use Rattle.rq_model.specs.Appending.{MayFollow}
-use Rattle.rq_model.proofs.Runs.{frame_long, length-sha256}
+use Rattle.rq_model.proofs.Runs.{frame_long}
 use Rattle.rq_model.proofs.Longest.{frames_of_join}
-use Rattle.rq_model.proofs.Restarts.{run_join, header_long, spelt_after}
+use Rattle.rq_model.proofs.Restarts.{run_join, spelt_after}
 use Rattle.rq_live.specs.Starts.{Start, Plain, Carried, rules_of, base_of, link_of, head_of, file_of, state_behind}
-use Rattle.rq_live.specs.Starts.{last_behind, checkpoint_in, AreBegun}
+use Rattle.rq_live.specs.Starts.{last_behind, AreBegun}
 
 -- a file with more records
 pub file_joins : (from : Start) (rs xs : List Record)

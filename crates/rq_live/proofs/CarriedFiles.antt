@@ -1,24 +1,23 @@
 -- Carried files, as they are read.
 use Rattle.std.proofs.Common.{◌≡◌, ℕ, ◌+◌, ◌≤◌, List, [], ◌∷◌, ◌++◌, length, take, drop, refl, sym, ap, subst, ◌∙◌}
 use Rattle.std.proofs.Common.{append_assoc, arith}
-use Rattle.std.proofs.lemmas.List.{length-append, append-nil, drop_at, take_at, take-append-le}
-use Rattle.rq_model.specs.Records.{Record, Checkpoint, Version, One, Two}
-use Rattle.rq_model.specs.Spelling.{body_of, IsRecord}
-use Rattle.rq_model.specs.Frames.{log_limit, frame, frames, frames_of, digest, bodies_of, header, before, last_of, Whole}
+use Rattle.std.proofs.lemmas.List.{length-append, append-nil, drop_at, take_at}
+use Rattle.rq_model.specs.Records.{Record, Version, One, Two}
+use Rattle.rq_model.specs.Spelling.{body_of}
+use Rattle.rq_model.specs.Frames.{log_limit, frame, frames_of, digest, header, before, Whole}
 use Rattle.rq_model.specs.Frames.{HasHeader, HasRightFrame, body_in}
 use Rattle.rq_model.specs.States.{State}
 use Rattle.rq_model.specs.Machine.{run}
 use Rattle.rq_model.specs.StateSpelling.{state_bytes, SpellsState}
 use Rattle.rq_model.specs.LogLaws.{FrontStops, FrameIsRight}
-use Rattle.rq_model.specs.Laws.{EmptyIsWellFormed}
 use Rattle.rq_model.specs.Fronts.{IsLongest, Ends, Restarted}
 use Rattle.rq_model.specs.Checkpoints.{IsRestartAt}
 use Rattle.rq_model.specs.Appending.{MayFollow}
 use Rattle.rq_model.specs.Carrying.{IsFrontAt, LaterSaysTheSame, as_log, carried_at, carried_header, carried_magic}
-use Rattle.rq_model.proofs.Runs.{length-sha256, frames_assoc}
+use Rattle.rq_model.proofs.Runs.{length-sha256}
 use Rattle.rq_model.proofs.RecordReaders.{body_fits}
-use Rattle.rq_model.proofs.Restarts.{header_long, both_follow}
-use Rattle.rq_live.specs.Starts.{Start, Carried, file_of, checkpoint_in, state_behind, AreBegun}
+use Rattle.rq_model.proofs.Restarts.{header_long}
+use Rattle.rq_live.specs.Starts.{Carried, file_of, checkpoint_in, AreBegun}
 
 pub carried_header_long : (version : Version) → length (carried_header version) ≡ 40
 carried_header_long One = omega (arith, length-sha256 (carried_magic One))

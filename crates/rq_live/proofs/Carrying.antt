@@ -1,13 +1,13 @@
 -- A manager that goes on in another file.
-use Rattle.std.proofs.Common.{◌≡◌, ℕ, ◌+◌, ◌*◌, ◌≤◌, Bool, true, false, List, [], ◌∷◌, ◌++◌, length, refl, sym, ap, subst}
-use Rattle.std.proofs.Common.{◌∙◌, append_assoc, arith, Option}
+use Rattle.std.proofs.Common.{◌≡◌, ℕ, ◌+◌, ◌*◌, ◌≤◌, List, [], ◌∷◌, ◌++◌, length, refl, sym, ap, subst}
+use Rattle.std.proofs.Common.{◌∙◌, append_assoc, arith}
 use Rattle.std.specs.Prelude.{Result, Ok, Err, IfOk, IfErr}
 use Rattle.std.specs.List.{flat_map}
 use Rattle.std.specs.Int.{w32, w64, to_be_bytes}
 use Rattle.std.proofs.lemmas.List.{append-nil, length-append}
-use Rattle.rq_model.specs.Records.{Record, Checkpoint, Version}
+use Rattle.rq_model.specs.Records.{Record, Version}
 use Rattle.rq_model.specs.Spelling.{body_of}
-use Rattle.rq_model.specs.Frames.{log_limit, digest, frame, last_of, magic}
+use Rattle.rq_model.specs.Frames.{digest, frame, last_of, magic}
 use Rattle.rq_model.specs.States.{State}
 use Rattle.rq_model.specs.Machine.{step}
 use Rattle.rq_model.specs.Laws.{EmptyIsWellFormed}
@@ -18,16 +18,15 @@ use Rattle.rq_model.specs.Carrying.{carried_file, carried_header}
 use Rattle.rq_model.proofs.Runs.{length-sha256, frame_long}
 use Rattle.rq_model.proofs.Restarts.{run_join}
 use Rattle.rq_record.specs.Views.{version_of}
-use Rattle.rq_device.specs.Devices.{AreStored, IsAllSynced}
 use Rattle.rq_live.specs.declared.kernel.Kernel.{Kernel}
 use Rattle.rq_live.specs.declared.carries.NotCarried.{NotCarried}
 use Rattle.rq_live.specs.declared.carries.NotCarried.TheVariants.{Large, Ended, Unmade, Resources, Spent}
 use Rattle.rq_live.specs.Starts.{Start, Plain, Carried, rules_of, base_of, link_of, file_of, state_behind, last_behind}
-use Rattle.rq_live.specs.Starts.{checkpoint_in, carried_behind, begun_behind, AreBegun}
-use Rattle.rq_live.specs.Kernels.{IsKernelBehind, HasRoomForEnds, KernelStays}
-use Rattle.rq_live.specs.Managers.{Stand, IsManaged, IsSafe, Serves, Settles}
-use Rattle.rq_live.specs.Carries.{BeginsBehind, KernelGoesOver, KernelIsKept, GoesOnAsOne, StandsOver, CarriesOn}
-use Rattle.rq_live.specs.Carries.{StaysThere, StopsCarry, IsWhyNotCarried}
+use Rattle.rq_live.specs.Starts.{checkpoint_in, begun_behind, AreBegun}
+use Rattle.rq_live.specs.Kernels.{IsKernelBehind, HasRoomForEnds}
+use Rattle.rq_live.specs.Managers.{Stand, Settles}
+use Rattle.rq_live.specs.Carries.{BeginsBehind, KernelGoesOver, GoesOnAsOne, StandsOver, CarriesOn}
+use Rattle.rq_live.specs.Carries.{StaysThere, StopsCarry}
 use Rattle.rq_live.proofs.Begun.{spelt_behind}
 use Rattle.rq_live.proofs.CarriedFiles.{file_long}
 
@@ -58,13 +57,19 @@ within_front n a b few = omega (arith, few, length-append a b)
 units_few : (s : State) → 8 * length s.units ≤ length (state_bytes s)
 units_few s =
     let n = 8 * length s.units in
-    within_more n (to_be_bytes w64 s.next) _
-    (within_more n (to_be_bytes w64 s.greatest) _
-    (within_more n (to_be_bytes w64 s.committed) _
-    (within_more n (to_be_bytes w64 s.aborted) _
-    (within_more n (counted definition_bytes s.definitions) _
-    (within_front n (counted (to_be_bytes w64) s.units)
-    (counted registrant_bytes s.registrants ++ (counted element_bytes s.elements ++ counted note_bytes s.notes))
+    let behind : List ℕ = counted registrant_bytes s.registrants
+    ++ (counted element_bytes s.elements ++ counted note_bytes s.notes) in
+    let units : List ℕ = counted (to_be_bytes w64) s.units ++ behind in
+    let lists : List ℕ = counted definition_bytes s.definitions ++ units in
+    let aborted : List ℕ = to_be_bytes w64 s.aborted ++ lists in
+    let committed : List ℕ = to_be_bytes w64 s.committed ++ aborted in
+    let greatest : List ℕ = to_be_bytes w64 s.greatest ++ committed in
+    within_more n (to_be_bytes w64 s.next) greatest
+    (within_more n (to_be_bytes w64 s.greatest) committed
+    (within_more n (to_be_bytes w64 s.committed) aborted
+    (within_more n (to_be_bytes w64 s.aborted) lists
+    (within_more n (counted definition_bytes s.definitions) units
+    (within_front n (counted (to_be_bytes w64) s.units) behind
     (within_more n (to_be_bytes w32 (length s.units)) (flat_map (to_be_bytes w64) s.units)
     (omega (arith, numbers_long s.units))))))))
 
@@ -131,24 +136,7 @@ goes_over start a b first end begins rules moved last len none from rs w h =
     (long, spelt_behind start from rs h.begun h.may few, [], refl) (ap version_of rules ∙ h.rules)
     (moved ∙ ap (λ (t : State). step t (checkpoint_in t)) h.state) last len none
 
--- a manager over the device on which these bytes stand
-pub stands_over : (a b : Stand) (first : List ℕ) → KernelGoesOver a.kernel b.kernel first → b.spent ≡ a.spent
-    → Serves b → AreStored b.written first → b.kernel.pending.items ≡ [] → StandsOver a b
-stands_over a b first over same serves stored none from rs m =
-    let x = over from rs m.bytes m.at in
-    let whole : file_of (carried_behind from rs) (begun_behind from rs) ≡ first =
-    x.0.bytes ∙ ap (λ (p : List ℕ). first ++ p) none ∙ append-nil first in (
-      record {
-        unspent = same ∙ m.unspent;
-        serves = serves;
-        bytes = first;
-        known = stored;
-        at = x.0;
-        room = x.1;
-      },
-      record { written = subst (AreStored b.written) (sym whole) stored; synced = serves.2 },
-    )
-
+-- what follows leads to the state to which it would have led
 goes_as_one : (from : Start) (rs : List Record) → GoesOnAsOne from rs
 goes_as_one from rs xs = sym (run_join (base_of from) rs (begun_behind from rs ++ xs))
 
@@ -156,49 +144,6 @@ pub carries_over : (a b : Stand) (count : ℕ) → StandsOver a b → count ≡ 
 carries_over a b count over is from rs m =
     let x = over from rs m in
     (x.0, x.1, goes_as_one from rs, is ∙ ap (λ (s : State). s.next) m.at.state)
-
--- a kernel that stands where it stood, with the same that is pending
-same_kernel : (a : Stand) (k : Kernel) → KernelStays a.kernel k → (from : Start) (rs : List Record) → IsManaged from rs a
-    → IsManaged from rs (record a { kernel = k })
-same_kernel a k stays from rs m = record {
-  unspent = m.unspent;
-  serves = m.serves;
-  bytes = m.bytes;
-  known = m.known;
-  at = stays from rs m.bytes m.at;
-  room = m.room;
-}
-
-pub carries_from : (a b : Stand) (k : Kernel) (result : Result ℕ NotCarried) → KernelStays a.kernel k
-    → IfOk result (CarriesOn (record a { kernel = k }) b) → IfOk result (CarriesOn a b)
-carries_from a b k (Ok count) stays carried = λ from rs m. carried from rs (same_kernel a k stays from rs m)
-carries_from a b k (Err why) stays carried = tt
-
-pub stays_from : (a b : Stand) (k : Kernel) (result : Result ℕ NotCarried) → KernelStays a.kernel k
-    → IfErr result (StaysThere (record a { kernel = k }) b) → IfErr result (StaysThere a b)
-stays_from a b k (Ok count) stays there = tt
-stays_from a b k (Err Large) stays there = λ from rs m safe. there from rs (same_kernel a k stays from rs m)
-    (record { written = safe.written; synced = safe.synced })
-stays_from a b k (Err Ended) stays there = λ from rs m safe. there from rs (same_kernel a k stays from rs m)
-    (record { written = safe.written; synced = safe.synced })
-stays_from a b k (Err Unmade) stays there = λ from rs m safe. there from rs (same_kernel a k stays from rs m)
-    (record { written = safe.written; synced = safe.synced })
-stays_from a b k (Err Resources) stays there = λ from rs m safe. there from rs (same_kernel a k stays from rs m)
-    (record { written = safe.written; synced = safe.synced })
-stays_from a b k (Err Spent) stays there = there
-
--- no other file is begun
-pub stays_kept : (a : Stand) (k : Kernel) (why : NotCarried) → KernelStays a.kernel k → KernelIsKept a.kernel why
-    → (why ≡ Spent → ⊥) → StaysThere a (record a { kernel = k }) why
-stays_kept a k Large stays kept unspent = λ from rs m safe.
-    (same_kernel a k stays from rs m, record { written = safe.written; synced = safe.synced }, kept from rs m.bytes m.at)
-stays_kept a k Ended stays kept unspent = λ from rs m safe.
-    (same_kernel a k stays from rs m, record { written = safe.written; synced = safe.synced }, kept from rs m.bytes m.at)
-stays_kept a k Unmade stays kept unspent = λ from rs m safe.
-    (same_kernel a k stays from rs m, record { written = safe.written; synced = safe.synced }, tt)
-stays_kept a k Resources stays kept unspent = λ from rs m safe.
-    (same_kernel a k stays from rs m, record { written = safe.written; synced = safe.synced }, tt)
-stays_kept a k Spent stays kept unspent = absurd (unspent refl)
 
 -- after all was settled
 pub carries_so : (a m b : Stand) (result : Result ℕ NotCarried) → Settles a m → IfOk result (CarriesOn m b)

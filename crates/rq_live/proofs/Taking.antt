@@ -1,16 +1,16 @@
 -- A record that is taken, and one that is not.
 use Rattle.std.proofs.Common.{◌≡◌, ℕ, ◌+◌, ◌-◌, ◌*◌, ◌<◌, ◌≤◌, ◌==◌, Bool, true, false, not, cond, List, [], ◌∷◌, ◌++◌}
-use Rattle.std.proofs.Common.{length, map}
+use Rattle.std.proofs.Common.{length, map, drop}
 use Rattle.std.proofs.Common.{◌∙◌, ◌||◌, refl, sym, ap, subst, append_assoc, arith}
 use Rattle.std.specs.List.{list_any}
 use Rattle.std.proofs.lemmas.Bool.{and_from, false≢true}
-use Rattle.std.proofs.lemmas.List.{append-nil, length-append}
+use Rattle.std.proofs.lemmas.List.{append-nil, length-append, drop_at}
 use Rattle.rq_model.specs.Records.{Record, Define, Register, Deregister, Begin, Enqueue, Dequeue, Commit, Abort}
 use Rattle.rq_model.specs.Records.{Checkpoint, Kill, Version, One, Two}
 use Rattle.rq_model.specs.Spelling.{body_of, IsRecord, Spells}
-use Rattle.rq_model.specs.Frames.{log_limit, IsBodyLength, digest, frame, header}
+use Rattle.rq_model.specs.Frames.{log_limit, IsBodyLength, digest, frame, header, magic, start}
 use Rattle.rq_model.specs.LogLaws.{RecordHasOneBody}
-use Rattle.rq_model.specs.States.{State}
+use Rattle.rq_model.specs.States.{State, empty}
 use Rattle.rq_model.specs.Machine.{is_lawful, step, closed_units}
 use Rattle.rq_model.specs.Appending.{FitsCheckpoint}
 use Rattle.rq_model.proofs.Lists.{each_append, by_cases}
@@ -29,7 +29,7 @@ use Rattle.rq_live.specs.declared.kernel.NotDone.TheVariants.{Unlawful, Full, La
 use Rattle.std.specs.Prelude.{Option, Result, Ok, Err, OnOk}
 use Rattle.rq_record.specs.Views.{version_of}
 use Rattle.rq_record.specs.declared.record.ElemId.{ElemId}
-use Rattle.rq_live.specs.Kernels.{BreaksThere, IsKernelBehind, IsTaken, HasRoomForEnds, HasNoRoom, open_behind}
+use Rattle.rq_live.specs.Kernels.{HasDone, BreaksThere, IsKernelBehind, IsTaken, HasRoomForEnds, HasNoRoom, open_behind}
 use Rattle.rq_live.specs.Kernels.{length_with_ends}
 use Rattle.rq_live.specs.Kernels.{KernelTakes, KernelStays, KernelStops, KernelRefuses, KernelMarks, KernelStopsMark}
 use Rattle.rq_live.specs.Kernels.{KernelAborts, KernelTakesEach, Frames}
@@ -108,6 +108,29 @@ open_many count (Kill queue element) = omega arith
 -- behind the header there is room
 pub bare_room : (version : Version) → HasRoomForEnds (Plain version) []
 bare_room version = omega (arith, length-append (header version) [], header_long version)
+
+-- the last bytes of a header
+header_ends : (version : Version) (b : List ℕ) → b ≡ header version → drop (length b - 32) b ≡ start version
+header_ends version b is =
+    ap (λ (x : List ℕ). drop (length x - 32) x) is
+    ∙ drop_at (magic version) (start version) (length (header version) - 32) (omega (arith, header_long version))
+
+-- a kernel that stands behind the header, which is pending
+pub stands_new : (version : Version) (s : State) (end b : List ℕ) → b ≡ header version → s ≡ empty
+    → end ≡ drop (length b - 32) b → HasDone (Plain version) [] [] version s end 40 b
+stands_new version s end b is none ends =
+    let whole = append-nil (header version) in
+    let size = ap length whole ∙ header_long version in
+    record {
+      rules = refl;
+      begun = tt;
+      may = record { records = tt; lawful = refl };
+      short = omega (arith, size);
+      state = none;
+      last = ends ∙ header_ends version b is;
+      len = sym size;
+      bytes = whole ∙ sym is;
+    }
 
 -- some unit is open, if one ends
 pub some_open : (unit : ℕ) (units : List ℕ) → list_any (λ v. v == unit) units ≡ true → 1 ≤ length units

@@ -1,6 +1,6 @@
 -- A unit that committed in a file is committed there, whatever follows.
 use Rattle.std.proofs.Common.{◌≡◌, ℕ, suc, ◌+◌, ◌≤◌, true, false, List, [], ◌∷◌, ◌++◌, length, refl, sym, ap, subst, ◌∙◌}
-use Rattle.std.proofs.Common.{arith, append_assoc, inl, inr, ⊎_elim}
+use Rattle.std.proofs.Common.{arith, Bool, ◌||◌}
 use Rattle.std.specs.Prelude.{if◌then◌else◌, ◌==◌}
 use Rattle.std.specs.List.{list_any, filter}
 use Rattle.std.proofs.lemmas.Bool.{and_parts, eqb-true, false≢true}
@@ -40,7 +40,7 @@ passed n u (Abort v ∷ xs) ys h = by_cases (v == u) (λ b.
     (omega arith)) h
 
 -- a number that stands among those that pass a test passes it
-passes : (test : ℕ → _) (u : ℕ) (us : List ℕ) → list_any (λ v. v == u) (filter test us) ≡ true → test u ≡ true
+passes : (test : ℕ → Bool) (u : ℕ) (us : List ℕ) → list_any (λ v. v == u) (filter test us) ≡ true → test u ≡ true
 passes test u [] h = absurd (false≢true h)
 passes test u (v ∷ us) h =
     by_cases (test v) (λ b. test v ≡ b → list_any (λ w. w == u) (if b then v ∷ filter test us else filter test us) ≡ true
@@ -52,7 +52,7 @@ passes test u (v ∷ us) h =
   where
     later : (v u : ℕ) (ws : List ℕ) → (v == u) ≡ false → list_any (λ w. w == u) (v ∷ ws) ≡ true
         → list_any (λ w. w == u) ws ≡ true
-    later v u ws no h = rw (sym no) h
+    later v u ws no h = subst (λ (b : Bool). b || list_any (λ w. w == u) ws ≡ true) no h
 
 -- the first COMMIT of the unit
 commits_first : (n u : ℕ) (xs : List Record) → outcome_from n u (Commit u ∷ xs) ≡ Committed n

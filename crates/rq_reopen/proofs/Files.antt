@@ -2,13 +2,13 @@
 use Rattle.std.proofs.Common.{◌≡◌, ℕ, ◌+◌, ◌≤◌, true, Bool, List, [], ◌∷◌, ◌++◌, length, take, drop, Some, Option, inl, inr}
 use Rattle.std.proofs.Common.{refl, sym, ap, subst, ◌∙◌, arith, append_assoc, ⊎_elim}
 use Rattle.std.specs.List.{AllByRecursion}
-use Rattle.std.specs.Prelude.{Result, Ok, Err, IfOk, IfErr}
+use Rattle.std.specs.Prelude.{Result, Ok, Err, IfOk, IfErr, IfSome, IfNone, None}
+use Rattle.rq_front.specs.Chains.{IsHeaded}
 use Rattle.std.proofs.lemmas.List.{append-nil, take-take, take-append-le, take-append-drop, take_all, length-append}
 use Rattle.std.proofs.lemmas.List.{append_cancel_left, drop_at, take_at, length-take, length-drop}
 use Rattle.rq_model.specs.Records.{Record, Checkpoint, Commit, Version}
 use Rattle.rq_model.specs.Spelling.{body_of, IsRecord}
-use Rattle.rq_model.specs.Frames.{log_limit, digest, header, before, frames_of, last_of, HasHeader}
-use Rattle.rq_model.specs.Frames.{start as start_of}
+use Rattle.rq_model.specs.Frames.{log_limit, digest, header, before, frames_of, HasHeader, start}
 use Rattle.rq_model.specs.States.{State, empty}
 use Rattle.rq_model.specs.Machine.{run, all_lawful, outcome_from, Committed}
 use Rattle.rq_model.specs.StateSpelling.{state_bytes, SpellsState}
@@ -57,7 +57,7 @@ begins_with n c front within same =
     sym (take-append-drop m c) ∙ ap (λ (x : List ℕ). x ++ drop m c) taken
 
 -- what a crash leaves of a file that is safe begins with it
-begins_with_file : (from : Start) (rs : List Record) (m : Stand) (w c : List ℕ) → IsSafe from rs m
+pub begins_with_file : (from : Start) (rs : List Record) (m : Stand) (w c : List ℕ) → IsSafe from rs m
     → m.written ≡ Some w → CrashLeaves m.written m.synced c
     → c ≡ file_of from rs ++ drop (length (file_of from rs)) c
 begins_with_file from rs m w c safe known left =
@@ -82,14 +82,14 @@ begins_longer version p x y (r ∷ rs) (f ∷ fs) are were few same =
     (more.0, λ i. sym first.0 i ∷ more.1 i)
 
 -- the first forty bytes tell which kind it is
-carried_head : (version : Version) (link bytes more : List ℕ)
+pub carried_head : (version : Version) (link bytes more : List ℕ)
     → HasCarriedHeader version (((carried_header version ++ link) ++ bytes) ++ more)
 carried_head version link bytes more =
     ap (take 40) (append_assoc (carried_header version ++ link) bytes more
     ∙ append_assoc (carried_header version) link (bytes ++ more))
     ∙ take_at (carried_header version) (link ++ (bytes ++ more)) 40 (carried_header_long version)
 
-plain_head : (version : Version) (bytes more : List ℕ) → HasHeader version ((header version ++ bytes) ++ more)
+pub plain_head : (version : Version) (bytes more : List ℕ) → HasHeader version ((header version ++ bytes) ++ more)
 plain_head version bytes more =
     ap (take 40) (append_assoc (header version) bytes more)
     ∙ take_at (header version) (bytes ++ more) 40 (header_long version)
@@ -100,11 +100,11 @@ record Same (version : Version) (link : List ℕ) (s : State) (rs : List Record)
   pub at : IsKernelBehind (Carried version link s) (rs ++ others) (file_of (Carried version link s) (rs ++ others)) l.kernel
 
 -- the log as which a carried file c is read has the link of its file, and its frames
-record Reads (version : Version) (link bytes b : List ℕ) : Type 0 where
+pub record Reads (version : Version) (link bytes b : List ℕ) : Type 0 where
   pub linked : before carried_at b ≡ link
   pub behind : drop carried_at b ≡ bytes
 
-reads : (version : Version) (link bytes : List ℕ) → length link ≡ 32
+pub reads : (version : Version) (link bytes : List ℕ) → length link ≡ 32
     → Reads version link bytes (as_log version ((carried_header version ++ link) ++ bytes))
 reads version link bytes long = record {
   linked = ap (before carried_at) (reads_as version link bytes) ∙ reads_linked version link bytes long;
@@ -145,11 +145,11 @@ same_base one version link s t x y rs fs spells spelt is were same =
     one version version t s (state_bytes s) (subst (SpellsState version t) (sym bytes) spelt) spells
 
 -- no bytes begin as a log of two versions
-one_head : (v w : Version) (b : List ℕ) → HasHeader v b → HasHeader w b → v ≡ w
+pub one_head : (v w : Version) (b : List ℕ) → HasHeader v b → HasHeader w b → v ≡ w
 one_head v w b h k =
     (one_header v w (drop 40 b) (drop 40 b) (ap (λ (x : List ℕ). x ++ drop 40 b) (sym h ∙ k))).0
 
-read_head : (version : Version) (c : List ℕ) → HasHeader version (as_log version c)
+pub read_head : (version : Version) (c : List ℕ) → HasHeader version (as_log version c)
 read_head version c = take_at (header version) (drop 40 c) 40 (header_long version)
 
 -- a carried file that was found, by its own link and frames
@@ -198,31 +198,31 @@ committed_in : EmptyIsWellFormed → NumbersAfter → (from : Start) (rs others 
     → MayFollow (rules_of from) (base_of from) (rs ++ others) → (ahead after : List Record) (unit : ℕ)
     → rs ≡ ahead ++ Commit unit ∷ after
     → outcome_from (base_of from).next unit (rs ++ others) ≡ Committed ((base_of from).next + length ahead)
-committed_in start numbers from rs others begun may ahead after unit split =
+committed_in bare numbers from rs others begun may ahead after unit split =
     let apart : rs ++ others ≡ ahead ++ Commit unit ∷ (after ++ others) =
     ap (λ (xs : List Record). xs ++ others) split ∙ append_assoc ahead (Commit unit ∷ after) others in
     ap (outcome_from (base_of from).next unit) apart
     ∙ commits_from numbers (rules_of from) (base_of from) ahead (after ++ others) unit
-    (well_based start from (rs ++ others) begun)
+    (well_based bare from (rs ++ others) begun)
     (ap (all_lawful (rules_of from) (base_of from)) (sym apart) ∙ may.lawful)
 
 -- a kernel that stands behind these records and others
 goes_on_in : EmptyIsWellFormed → NumbersAfter → (from : Start) (rs others : List Record) (l : FoundLog)
     → version_of l.version ≡ rules_of from → IsKernelBehind from (rs ++ others) (file_of from (rs ++ others)) l.kernel
     → GoesOnIn from rs l
-goes_on_in start numbers from rs others l same at = record {
+goes_on_in bare numbers from rs others l same at = record {
   others = others;
   same = same;
   at = at;
-  committed = committed_in start numbers from rs others at.begun at.may;
+  committed = committed_in bare numbers from rs others at.begun at.may;
 }
 
 pub goes_on_anywhere : SyncedStays → CommitStays → IsNoLog → ReadsAsLog → BytesSpellOneState → EmptyIsWellFormed
     → NumbersAfter → (c : List ℕ) (l : FoundLog) → IsFoundIn c l → GoesOnAnywhere c l
-goes_on_anywhere stays commits apart read one start numbers c l (inl is) (Plain version) rs m w managed safe known left =
+goes_on_anywhere stays commits apart read one bare numbers c l (inl is) (Plain version) rs m w managed safe known left =
     let x = goes_on_at stays commits c l is version rs m w managed safe known left in
-    goes_on_in start numbers (Plain version) rs x.others l x.same x.at
-goes_on_anywhere stays commits apart read one start numbers c l (inl is) (Carried version link s) rs m w managed safe
+    goes_on_in bare numbers (Plain version) rs x.others l x.same x.at
+goes_on_anywhere stays commits apart read one bare numbers c l (inl is) (Carried version link s) rs m w managed safe
     known left =
     let file = file_of (Carried version link s) rs in
     let headed = subst (HasCarriedHeader version)
@@ -231,11 +231,11 @@ goes_on_anywhere stays commits apart read one start numbers c l (inl is) (Carrie
     absurd (apart.headed version (version_of l.version) c headed
     (subst (HasHeader (version_of l.version)) (sym is.front.whole)
     (take_at (header (version_of l.version)) is.front.bytes 40 (header_long (version_of l.version)))))
-goes_on_anywhere stays commits apart read one start numbers c l (inr is) (Plain version) rs m w managed safe known left =
+goes_on_anywhere stays commits apart read one bare numbers c l (inr is) (Plain version) rs m w managed safe known left =
     let headed = subst (HasHeader version) (sym (begins_with_file (Plain version) rs m w c safe known left))
-    (plain_head version (frames_of (start_of version) rs) (drop (length (file_of (Plain version) rs)) c)) in
+    (plain_head version (frames_of (start version) rs) (drop (length (file_of (Plain version) rs)) c)) in
     absurd (apart.headed is.0 version c is.1 headed)
-goes_on_anywhere stays commits apart read one start numbers c l (inr is) (Carried version link s) rs m w managed safe
+goes_on_anywhere stays commits apart read one bare numbers c l (inr is) (Carried version link s) rs m w managed safe
     known left =
     let from = Carried version link s in
     let file = file_of from rs in
@@ -248,7 +248,7 @@ goes_on_anywhere stays commits apart read one start numbers c l (inr is) (Carrie
     let spelt = subst (λ (v : Version). SpellsState v is.2.base (state_bytes is.2.base)) found.0
     (subst (SpellsState (version_of l.version) is.2.base) is.2.front.spells.spelling is.2.front.spells) in
     let x = same_records one version link s rs more l is.2.base managed.at.begun managed.at.may spelt found.1 in
-    goes_on_in start numbers from rs x.others l found.0 x.at
+    goes_on_in bare numbers from rs x.others l found.0 x.at
 
 -- Where a crash left a beginning.
 
@@ -326,7 +326,7 @@ is_exactly_in begins fronts apart read one crash c l (inl is) (Plain version) rs
     let x = is_exactly_found begins fronts c l is version rs m w missing managed known front in
     record {
       count = x.count;
-      whole = subst (λ (n : ℕ). AreWhole (start_of version) rs (drop n c) x.count) (sym (header_long version)) x.whole;
+      whole = subst (λ (n : ℕ). AreWhole (start version) rs (drop n c) x.count) (sym (header_long version)) x.whole;
       at = x.at;
     }
 is_exactly_in begins fronts apart read one crash c l (inl is) (Carried version link s) rs m w missing managed known
@@ -345,7 +345,7 @@ is_exactly_in begins fronts apart read one crash c l (inr is) (Plain version) rs
     let all = rest_of_file (Plain version) rs m w c missing managed known front in
     let headed : HasHeader version c =
     same_front 40 (file_of (Plain version) rs) c (missing ++ m.kernel.pending.items) all (carried_long is.0 c is.1)
-    ∙ take_at (header version) (frames_of (start_of version) rs) 40 (header_long version) in
+    ∙ take_at (header version) (frames_of (start version) rs) 40 (header_long version) in
     absurd (apart.headed is.0 version c is.1 headed)
 is_exactly_in begins fronts apart read one crash c l (inr is) (Carried version link s) rs m w missing managed known
     front =
@@ -409,7 +409,7 @@ is_found_from b f machine k is same behind =
     }
   where
     link_there : (b : List ℕ) → 72 ≤ length b → length (before carried_at b) ≡ 32
-    link_there b size = length-take 32 (drop 40 b) ∙ omega (arith, size, length-drop 40 b)
+    link_there b size = omega (arith, size, length-take 32 (drop 40 b), length-drop 40 b)
 
 -- it stands within these bytes, and no frame is pending
 pub stands_within_from : (b : List ℕ) (l : FoundLog) → IsFoundFrom b l → StandsWithin l.kernel (length b)
@@ -483,8 +483,14 @@ file_so P c drops (Ok o) opens all = all o.found (found_in_file c drops o opens)
 file_so P c drops (Err e) opens all = tt
 
 -- a carried file that was read as a log has its own header again
-pub written_back : ReadsAsLog → (v w : Version) (c : List ℕ) → HasCarriedHeader v c → HasHeader w (as_log v c)
-    → carried_header w ++ drop 40 (as_log v c) ≡ c
-written_back read v w c headed there =
-    ap (λ (u : Version). carried_header u ++ drop 40 (as_log v c)) (one_head w v (as_log v c) there (read_head v c))
+pub written_back : {X : Type 0} (version : X → Version) → ReadsAsLog → (v : Version) (c x : List ℕ)
+    → HasCarriedHeader v c → (result : Option X)
+    → IfSome result (λ w. HasHeader (version w) (as_log v c)
+    × (x ≡ carried_header (version w) ++ drop 40 (as_log v c)))
+    → IfNone result ((IsHeaded (as_log v c) → ⊥) × (x ≡ as_log v c)) → x ≡ c
+written_back version read v c x headed (Some w) some none =
+    some.1
+    ∙ ap (λ (u : Version). carried_header u ++ drop 40 (as_log v c))
+    (one_head (version w) v (as_log v c) some.0 (read_head v c))
     ∙ sym (read.back v c headed)
+written_back version read v c x headed None some none = absurd (none.0 (v, read_head v c))

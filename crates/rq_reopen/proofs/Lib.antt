@@ -3,3 +3,4 @@ pub mod Behind
 pub mod Opened
 pub mod Commits
 pub mod Files
+pub mod Headed

@@ -10,7 +10,7 @@ use Rattle.rq_model.specs.Appending.{AreWhole}
 use Rattle.rq_model.specs.Carrying.{IsFrontAt, HasCarriedHeader, as_log, carried_at}
 use Rattle.rq_record.specs.Views.{version_of}
 use Rattle.rq_record.specs.declared.fault.Fault.{Fault}
-use Rattle.rq_record.specs.declared.fault.Fault.TheVariants.{Resources}
+use Rattle.rq_record.specs.declared.fault.Fault.TheVariants.{Resources, TooLong}
 use Rattle.rq_front.specs.Chains.{IsCarried}
 use Rattle.rq_judged.specs.Refusals.{RefusedAt}
 use Rattle.rq_judged.specs.Views.{why_of}
@@ -93,3 +93,17 @@ abbrev pub IsExactlyIn : List ℕ → FoundLog → Type 0
 IsExactlyIn c l =
     (from : Start) (rs : List Record) (m : Stand) (w missing : List ℕ) →
     IsManaged from rs m → m.written ≡ Some w → w ≡ c ++ missing → IsBeginningIn from rs c l
+
+-- the faults for which a file that was safe may be refused
+abbrev pub MayRefuse : Fault → Type 0
+MayRefuse TooLong = ⊤
+MayRefuse Resources = ⊤
+MayRefuse _ = ⊥
+
+-- whatever c is refused for, a file that was safe is never refused as none, nor for its first frame
+abbrev pub IsNotShutIn : List ℕ → NotOpened → Type 0
+IsNotShutIn c (Log fault) =
+    (from : Start) (rs : List Record) (m : Stand) (w : List ℕ) →
+    IsManaged from rs m → IsSafe from rs m → m.written ≡ Some w
+    → CrashLeaves m.written m.synced c → MayRefuse fault
+IsNotShutIn c (Damaged found damage) = ⊤

@@ -5,7 +5,8 @@ ghost use Rattle.rq_record.specs.declared.fault.Fault.TheVariants.{Resources};
 ghost use Rattle.rq_live.specs.Kernels.{StandsWithin};
 ghost use Rattle.rq_reopen.specs.Openings.{CutsBehind, GoesOnAt, IsExactlyFound, IsNotShut};
 ghost use Rattle.rq_reopen.specs.Openings.{OpensLog, OpensBehind};
-ghost use Rattle.rq_reopen.specs.Files.{GoesOnAnywhere, IsExactlyIn, OpensFile, OpensFrom};
+ghost use Rattle.rq_reopen.specs.Files.{GoesOnAnywhere, IsExactlyIn, IsNotShutIn, OpensFile};
+ghost use Rattle.rq_reopen.specs.Files.{OpensFrom};
 
 use crate::found_log::FoundLog;
 use rq_front::{read_as_log, write_as_carried};
@@ -151,12 +152,14 @@ impl Opening {
         ensures within { IfOk result (λ o. StandsWithin o.found.kernel (length left.old)) }
         ensures survives { IfOk result (λ o. GoesOnAnywhere left.old o.found) }
         ensures exact { IfOk result (λ o. IsExactlyIn left.old o.found) }
+        ensures headed { IfErr result (IsNotShutIn left.old) }
     {
         rq_left::crash_leaves();
         rq_model::one_front();
         rq_model::one_spelling();
         rq_model::versions();
         rq_model::carried_headers();
+        rq_model::frames_are_right();
         rq_model::appended_logs();
         rq_model::numbers_after();
         rq_model::runs_are_well_formed();

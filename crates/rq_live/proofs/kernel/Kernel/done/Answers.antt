@@ -1,7 +1,7 @@
-use Rattle.std.proofs.Common.{◌+◌, ◌*◌, ◌≤◌, ℕ, List, length, ap, subst, refl, ◌∙◌, sym, arith}
+use Rattle.std.proofs.Common.{◌+◌, ◌*◌, ◌≤◌, length, ap, subst, ◌∙◌, sym, arith}
 use Rattle.std.proofs.lemmas.Bool.Decides.{nat_tests}
 use Rattle.rq_model.specs.Spelling.{body_of}
-use Rattle.rq_model.specs.Frames.{IsBodyLength, log_limit}
+use Rattle.rq_model.specs.Frames.{log_limit}
 use Rattle.rq_model.specs.States.{State}
 use Rattle.rq_record.specs.Views.{record_of, version_of}
 use Rattle.rq_standing.specs.Machines.{IsDone, state_after}
