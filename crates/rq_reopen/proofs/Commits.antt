@@ -47,12 +47,12 @@ passes test u (v ∷ us) h =
     → test u ≡ true)
     (λ _ yes k. by_cases (v == u) (λ b. (v == u) ≡ b → test u ≡ true)
     (λ _ same. subst (λ (z : ℕ). test z ≡ true) (eqb-true v u same) yes)
-    (λ _ no. passes test u us (later v u (filter test us) no k)) refl)
-    (λ _ no k. passes test u us k) refl h
+    (λ _ other. passes test u us (later v u (filter test us) other k)) refl)
+    (λ _ other k. passes test u us k) refl h
   where
     later : (v u : ℕ) (ws : List ℕ) → (v == u) ≡ false → list_any (λ w. w == u) (v ∷ ws) ≡ true
         → list_any (λ w. w == u) ws ≡ true
-    later v u ws no h = subst (λ (b : Bool). b || list_any (λ w. w == u) ws ≡ true) no h
+    later v u ws other h = subst (λ (b : Bool). b || list_any (λ w. w == u) ws ≡ true) other h
 
 -- the first COMMIT of the unit
 commits_first : (n u : ℕ) (xs : List Record) → outcome_from n u (Commit u ∷ xs) ≡ Committed n

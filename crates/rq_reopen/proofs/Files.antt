@@ -483,14 +483,12 @@ file_so P c drops (Ok o) opens all = all o.found (found_in_file c drops o opens)
 file_so P c drops (Err e) opens all = tt
 
 -- a carried file that was read as a log has its own header again
-pub written_back : {X : Type 0} (version : X → Version) → ReadsAsLog → (v : Version) (c x : List ℕ)
-    → HasCarriedHeader v c → (result : Option X)
-    → IfSome result (λ w. HasHeader (version w) (as_log v c)
-    × (x ≡ carried_header (version w) ++ drop 40 (as_log v c)))
-    → IfNone result ((IsHeaded (as_log v c) → ⊥) × (x ≡ as_log v c)) → x ≡ c
-written_back version read v c x headed (Some w) some none =
-    some.1
-    ∙ ap (λ (u : Version). carried_header u ++ drop 40 (as_log v c))
-    (one_head (version w) v (as_log v c) some.0 (read_head v c))
-    ∙ sym (read.back v c headed)
-written_back version read v c x headed None some none = absurd (none.0 (v, read_head v c))
+pub written_back : {X : Type 0} (version : X → Version) → ReadsAsLog → (v : Version) (c b x : List ℕ)
+    → HasCarriedHeader v c → b ≡ as_log v c → (result : Option X)
+    → IfSome result (λ w. HasHeader (version w) b × (x ≡ carried_header (version w) ++ drop 40 b))
+    → IfNone result ((IsHeaded b → ⊥) × (x ≡ b)) → x ≡ c
+written_back version read v c b x headed is (Some w) some none =
+    let same = one_head (version w) v (as_log v c) (subst (HasHeader (version w)) is some.0) (read_head v c) in
+    some.1 ∙ (λ i. carried_header (same i) ++ drop 40 (is i)) ∙ sym (read.back v c headed)
+written_back version read v c b x headed is None some none =
+    absurd (none.0 (v, subst (HasHeader v) (sym is) (read_head v c)))
