@@ -1,5 +1,5 @@
 -- A unit that committed in a file is committed there, whatever follows.
-use Rattle.std.proofs.Common.{◌≡◌, ℕ, suc, ◌+◌, ◌≤◌, true, false, List, [], ◌∷◌, ◌++◌, length, refl, sym, ap, subst, ◌∙◌}
+use Rattle.std.proofs.Common.{◌≡◌, ℕ, suc, ◌+◌, true, false, List, [], ◌∷◌, ◌++◌, length, refl, ap, subst, ◌∙◌}
 use Rattle.std.proofs.Common.{arith, Bool, ◌||◌}
 use Rattle.std.specs.Prelude.{if◌then◌else◌, ◌==◌}
 use Rattle.std.specs.List.{list_any, filter}
@@ -8,7 +8,7 @@ use Rattle.rq_model.specs.Records.{Record, Define, Register, Deregister, Begin, 
 use Rattle.rq_model.specs.Records.{Checkpoint, Kill, Version}
 use Rattle.rq_model.specs.States.{State}
 use Rattle.rq_model.specs.WellFormed.{IsWellFormed}
-use Rattle.rq_model.specs.Machine.{all_lawful, run, outcome_from, Committed, Aborted}
+use Rattle.rq_model.specs.Machine.{all_lawful, outcome_from, Committed, Aborted}
 use Rattle.rq_model.specs.Laws.{NumbersAfter, is_still_open, begun}
 use Rattle.rq_model.proofs.Lists.{by_cases}
 use Rattle.rq_model.proofs.Restarts.{lawful_cut}
