@@ -32,8 +32,8 @@ pub struct HeldLog {
     place: NamedFile<File>,
 }
 
-// Takes the lock of a log's writers, or of its readers.
-fn lock(file: &File, hold: Hold) -> Result<(), NotHeld> {
+/// Takes the lock of a log's writers, or of its readers.
+pub(crate) fn lock(file: &File, hold: Hold) -> Result<(), NotHeld> {
     let locked = match hold {
         Hold::ToRead => file.try_lock_shared(),
         Hold::ToReplace | Hold::ToWrite => file.try_lock(),
@@ -63,6 +63,16 @@ impl HeldLog {
             return Err(NotHeld::Changed);
         }
         Ok(HeldLog { place })
+    }
+
+    /// The file that has the lock of a log's writers, and its name.
+    pub(crate) fn over(place: NamedFile<File>) -> HeldLog {
+        HeldLog { place }
+    }
+
+    /// Its name behind all symbolic links.
+    pub fn name(&self) -> &str {
+        self.place.name()
     }
 
     /// The file.

@@ -57,6 +57,22 @@ impl<F> LogFile<F> {
         }
     }
 
+    /// Over a file to which so many bytes were written, all that it has, and synced. It stands at its end.
+    pub fn written(file: F, len: u64) -> LogFile<F>
+        ensures { result.error ≡ None }
+    {
+        LogFile {
+            file,
+            read: None,
+            kept: 0,
+            len,
+            synced: len,
+            shown: 0,
+            error: None,
+            is_cut_back: false,
+        }
+    }
+
     /// The file.
     pub fn file(&self) -> &F
         ensures { result.now ≡ self.now.file }

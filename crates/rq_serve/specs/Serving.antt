@@ -25,6 +25,7 @@ asks_safety (requests.Commit unit is_later) = not is_later
 asks_safety requests.Settle = true
 asks_safety (requests.Kill queue element) = true
 asks_safety requests.Checkpoint = true
+asks_safety requests.Carry = true
 asks_safety requests.Close = true
 asks_safety _ = false
 

@@ -2,6 +2,7 @@
 //! them with checkpoints, and carries them on into new files.
 #![tactic(auto)]
 
+mod carrier;
 mod checkpoints;
 mod commands;
 mod damage;
@@ -31,6 +32,9 @@ use std::process::ExitCode;
 use std::rt::{Clock, Env, Files};
 use std::thread::Threads;
 use std::{env, io};
+
+// The bytes at which a log is carried on that is served, if the line names none.
+const CARRY_AT: u32 = 3_221_225_472;
 
 // The grain of a line that names none, in frames.
 const GRAIN: u32 = 1000;
@@ -94,7 +98,10 @@ where
         "append" => append(rt, path, &plan, words),
         "checkpoint" => checkpoint(rt, path, &plan, words),
         "carry" => carry(rt, path, &plan, words),
-        "serve" => serve_log(rt, path, &plan, words.get_flag("create")),
+        "serve" => {
+            let least = words.get_one::<u32>("carry-at").unwrap_or(CARRY_AT);
+            serve_log(rt, path, &plan, words.get_flag("create"), least as usize)
+        }
         "restart" => print_report(rt, path, &plan),
         "close" => close(rt, path, &plan, words),
         "recover" => {

@@ -4,20 +4,21 @@ ghost use Rattle.std.specs.Arc.{arc_slice_items};
 ghost use Rattle.std.specs.Prelude.{IfOk, length};
 ghost use Rattle.rq_live.specs.Kernels.{StandsWithin};
 
+use crate::carrier::Carrier;
 use crate::damage::BadEnd;
-use crate::inputs::rest_of_log;
+use crate::inputs::bytes_from;
 use crate::new_log::{expect_free, put_new};
 use crate::recovery::{kept_cut, why_spent};
 use crate::refusal::{Refusal, Stream, failed};
 use rq_device::WINDOW;
 use rq_file::Patient;
-use rq_front::header_of;
+use rq_front::{CARRIED_AT, FRAME_LEN, HEADER_LEN, header_of, is_carried};
 use rq_journal::{Damage, Fault, Plan, Why};
 use rq_live::{Kernel, Manager, NotDone};
 use rq_log_file::{HeldLog, Hold, LogFile};
-use rq_record::{LogBytes, Version};
+use rq_record::Version;
 use rq_reopen::{NotOpened, Opening};
-use rq_serve::{Unserved, serve};
+use rq_serve::{CarryPoint, Unserved, serve};
 use rq_tool::{OverRead, OverWrite};
 use std::fs::{File, Files};
 use std::io;
@@ -51,15 +52,6 @@ where
     }
 }
 
-// The bytes of a log, which is held, and plain.
-fn plain_log<R: AllocGlobal>(rt: &R, held: &mut HeldLog) -> Result<ArcSlice<u8>, Refusal> {
-    let read = rest_of_log(rt, held.file())?;
-    if read.is_carried {
-        return Err(Refusal::Refused(Stream::Log, Fault::NotALog));
-    }
-    Ok(ArcSlice::from_vec(read.bytes)?)
-}
-
 // Whether a crash can have left so many bytes behind a front. Frames that are right can stand behind a
 // page that was not written: a crash may leave any of the pages that were not synced. But a manager
 // leaves no more bytes than these unsynced.
@@ -73,24 +65,37 @@ fn is_left_by_crash(damage: Option<Damage>, behind: usize) -> bool {
 
 // Where a manager goes on behind what a crash left. Payloads are copied: lent, a few that stay would
 // keep all of the log in memory.
-fn opened<R>(rt: &R, bytes: &[u8], plan: &Plan) -> Result<Opening, Refusal>
+fn opened<R>(rt: &R, bytes: &mut [u8], plan: &Plan) -> Result<Opening, Refusal>
 where
     R: AllocGlobal + Threads + Sync,
-    ensures { IfOk result (λ o. StandsWithin o.found.kernel (length bytes.now)) }
+    ensures { IfOk result (λ o. StandsWithin o.found.kernel (length bytes.new)) }
 {
-    match Opening::of(rt, rt.alloc(), &LogBytes::borrowed(bytes), plan, true) {
+    let total = bytes.len();
+    match Opening::of_file(rt, rt.alloc(), bytes, plan, true) {
         Ok(opening) => match opening.damage {
             Some(damage) if !is_left_by_crash(opening.damage, opening.cut.len()) => {
                 let end = opening.found.end;
-                Err(Refusal::Damaged(BadEnd::damaged(end, bytes.len(), damage)))
+                Err(Refusal::Damaged(BadEnd::not_served(end, total, damage)))
             }
             _ => Ok(opening),
         },
         Err(NotOpened::Log(fault)) => Err(Refusal::from(fault)),
         Err(NotOpened::Damaged(found, damage)) => {
-            Err(Refusal::Damaged(BadEnd::damaged(found.end, bytes.len(), damage)))
+            Err(Refusal::Damaged(BadEnd::not_served(found.end, total, damage)))
         }
     }
+}
+
+// How many bytes a log began with: its header; or that of a carried file, its link and its first frame.
+fn begun_with(log: &[u8]) -> usize {
+    let Some(len) = log.get(CARRIED_AT..CARRIED_AT + 4) else {
+        return HEADER_LEN;
+    };
+    if !is_carried(log) {
+        return HEADER_LEN;
+    }
+    let len = u32::from_be_bytes([len[0], len[1], len[2], len[3]]);
+    CARRIED_AT + FRAME_LEN + len as usize
 }
 
 // Keeps what is cut off, if it is more than the beginning of a frame.
@@ -131,20 +136,49 @@ fn stopped(stream: Stream, error: Option<io::Error>) -> Refusal {
     }
 }
 
+// Does what lines ask for until the input ends, or one closes.
+fn serve_lines<R>(
+    rt: &R,
+    manager: &mut Manager<LogFile<HeldLog>>,
+    mut carrier: Carrier<'_, R>,
+    point: CarryPoint,
+) -> Result<(), Refusal>
+where
+    R: Files<File = File> + Input + Print + Eprint + Clock + AllocGlobal,
+{
+    let mut input = OverRead::new(rt.reader());
+    let mut output = OverWrite::new(Patient {
+        rt,
+        inner: io::writer(rt),
+    });
+    match serve(rt.alloc(), manager, &mut carrier, point, &mut input, &mut output) {
+        Ok(()) => Ok(()),
+        Err(Unserved::Spent) => match carrier.into_error() {
+            Some(error) => Err(failed(Stream::Log, error)),
+            None => Err(why_spent(manager.device(), Stream::Log)),
+        },
+        Err(Unserved::Unread) => Err(stopped(Stream::Input, input.into_error())),
+        Err(Unserved::Unheard) => Err(stopped(Stream::Output, output.into_error())),
+    }
+}
+
 // Serves a log that was read, which is held: goes on behind its front, greets, and does what lines ask
-// for until the input ends, or one closes.
+// for.
 fn serve_on<R>(
     rt: &R,
+    path: &str,
     held: HeldLog,
     whole: ArcSlice<u8>,
     kernel: Kernel,
     greeting: Greeting,
+    least: usize,
 ) -> Result<(), Refusal>
 where
-    R: Input + Print + Clock + AllocGlobal,
+    R: Files<File = File> + Input + Print + Eprint + Clock + AllocGlobal,
     requires { StandsWithin kernel (length (arc_slice_items whole)) }
 {
-    let stands = whole.len();
+    let (stands, begins) = (whole.len(), begun_with(&whole));
+    let carrier = Carrier::new(rt, path, &held)?;
     let mut manager = Manager::over(LogFile::new(held, Some(whole)), kernel);
     match manager.resume(rt.alloc(), stands) {
         Ok(()) => {}
@@ -152,36 +186,33 @@ where
         Err(_) => return Err(why_spent(manager.device(), Stream::Log)),
     }
     greet(rt, &manager, greeting)?;
-    let mut input = OverRead::new(rt.reader());
-    let mut output = OverWrite::new(Patient {
-        rt,
-        inner: io::writer(rt),
-    });
-    match serve(rt.alloc(), &mut manager, &mut input, &mut output) {
-        Ok(()) => Ok(()),
-        Err(Unserved::Spent) => Err(why_spent(manager.device(), Stream::Log)),
-        Err(Unserved::Unread) => Err(stopped(Stream::Input, input.into_error())),
-        Err(Unserved::Unheard) => Err(stopped(Stream::Output, output.into_error())),
-    }
+    serve_lines(rt, &mut manager, carrier, CarryPoint::new(least, begins))
 }
 
-/// Serves the queues of a log to the program at standard input and output. A log that is not there
-/// is made, if it is to be.
-pub(crate) fn serve_log<R>(rt: &R, path: &str, plan: &Plan, creates: bool) -> Result<(), Refusal>
+/// Serves the queues of a log, plain or carried on, to the program at standard input and output. A log
+/// that is not there is made, if it is to be. One of so many bytes is carried on.
+pub(crate) fn serve_log<R>(
+    rt: &R,
+    path: &str,
+    plan: &Plan,
+    creates: bool,
+    least: usize,
+) -> Result<(), Refusal>
 where
-    R: Files<File = File> + Input + Print + Clock + AllocGlobal + Threads + Sync,
+    R: Files<File = File> + Input + Print + Eprint + Clock + AllocGlobal + Threads + Sync,
 {
     if creates {
         make_if_free(rt, path)?;
     }
     let mut held = HeldLog::open(rt, path, Hold::ToWrite)?;
-    let whole = plain_log(rt, &mut held)?;
-    let opening = opened(rt, whole.as_slice(), plan)?;
+    let mut bytes = bytes_from(rt, &*held.file())?;
+    let opening = opened(rt, &mut bytes, plan)?;
     keep_cut(rt, path, &opening)?;
-    held.expect_as_read(rt, whole.len())?;
+    held.expect_as_read(rt, bytes.len())?;
     let greeting = Greeting {
         aborted: opening.found.kernel.open_count(),
         cut: opening.cut.len(),
     };
-    serve_on(rt, held, whole, opening.found.kernel, greeting)
+    let whole = ArcSlice::from_vec(bytes)?;
+    serve_on(rt, path, held, whole, opening.found.kernel, greeting, least)
 }

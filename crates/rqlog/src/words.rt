@@ -1,6 +1,6 @@
 //! The words of the program.
 
-use WordForm::{Flag, Value, ValueOr};
+use WordForm::{Flag, Value, ValueOr, WithOr};
 use clap::Command;
 use rq_file::VERSION;
 use rq_words::{Subcommand, Word, WordForm};
@@ -10,12 +10,6 @@ const LOG: Word = Word(
     "LOG",
     Value(Word::TEXT),
     "The file of the log, plain or carried on",
-);
-
-const PLAIN: Word = Word(
-    "LOG",
-    Value(Word::TEXT),
-    "The file of the log, which was not carried on",
 );
 
 const NEW: Word = Word(
@@ -89,11 +83,16 @@ static COMMANDS: [Subcommand; 9] = [
         name: "serve",
         about: "Serves the queues of a log to the program at standard input and output",
         words: &[
-            PLAIN,
+            LOG,
             Word(
                 "create",
                 Flag,
                 "Makes the log if it is not there, in version 2",
+            ),
+            Word(
+                "carry-at",
+                WithOr("BYTES", Word::SMALL, "3221225472"),
+                "Goes on in a new log when this one has so many bytes",
             ),
             Word::WORKERS,
         ],
