@@ -23,7 +23,7 @@ pub use logs::{CHECKPOINT, ONE_ELEMENT, answer, log_in, log_of, makes, records_o
 pub use managers::{committed_of, defines, found_in, goes_on_from, puts_in};
 pub use replays::{Lawful, analysed, course_of, lawful_of, replayed, traced};
 pub use rooms::{drained_by_threads, take_until, two, two_took};
-pub use sessions::answers_to;
+pub use sessions::{Counting, answers_to};
 pub use standby::{Told, first_of, lists, marks, told};
 pub use surface::{
     has_right_chain, is_made_and_upgraded, is_open, is_restarted, is_restarted_at, is_run,
