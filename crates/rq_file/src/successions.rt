@@ -28,6 +28,12 @@ impl From<io::Error> for NotTaken {
     }
 }
 
+impl From<AllocError> for NotTaken {
+    fn from(error: AllocError) -> NotTaken {
+        NotTaken::Kept(io::Error::from(error))
+    }
+}
+
 /// The names of a log: its own, that of the file that is to take that, and the one that it keeps then.
 #[derive(Drop)]
 pub struct Succession {
