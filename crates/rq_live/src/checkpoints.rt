@@ -30,7 +30,7 @@ impl<D: Device + Drop> Manager<D> {
         if self.spent {
             return Err(NotDone::Spent);
         }
-        let offset = self.kernel.framer.len();
+        let offset = self.kernel.len;
         match self.kernel.mark(alloc) {
             Ok(()) => Ok(offset),
             Err(NotDone::Full) => Err(NotDone::Full),

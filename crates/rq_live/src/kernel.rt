@@ -16,7 +16,7 @@ ghost use Rattle.rq_live.specs.Kernels.{IsKernelBehind, IsBodyOf, KernelTakes, K
 ghost use Rattle.rq_live.specs.Kernels.{KernelAborts, KernelMarks, KernelStopsMark, KernelTakesEach};
 ghost use Rattle.rq_live.specs.Kernels.{open_behind};
 
-use rq_front::{FRAME_LEN, Framer, LOG_LIMIT, header_of};
+use rq_front::{FRAME_LEN, HEADER_LEN, LOG_LIMIT, append_frame, header_of};
 use rq_lawful::Rule;
 use rq_record::{CheckBytes, ElemId, Fault, KeptRecord, QueueNo, Record, UnitNo, Version, encode};
 use rq_standing::{Machine, Taken};
@@ -50,7 +50,9 @@ pub enum NotDone {
 pub struct Kernel {
     pub(crate) version: Version,
     pub(crate) machine: Machine,
-    pub(crate) framer: Framer,
+    // The last 32 bytes of the log, and how many it has.
+    pub(crate) last: [u8; 32],
+    pub(crate) len: usize,
     pub(crate) body: Vec<u8>,
     pub(crate) pending: Vec<u8>,
 }
@@ -67,6 +69,15 @@ fn open_behind(count: usize, kept: &KeptRecord) -> usize
     }
 }
 
+// The last 32 of the bytes.
+fn last_bytes(bytes: &[u8]) -> [u8; 32]
+    requires { 32 ≤ length bytes.now }
+{
+    let mut last = [0u8; 32];
+    last.copy_from_slice(&bytes[bytes.len() - 32..]);
+    last
+}
+
 impl Kernel {
     /// No queues yet, by the rules of the version. The header of the log is pending.
     pub(crate) fn new(alloc: Global, version: Version) -> Result<Kernel, Fault>
@@ -80,14 +91,22 @@ impl Kernel {
         Ok(Kernel {
             version,
             machine: Machine::empty(alloc),
-            framer: Framer::new(version),
+            last: last_bytes(&pending),
+            len: HEADER_LEN,
             body: Vec::new(alloc),
             pending,
         })
     }
 
-    /// Stands where this machine stands and this framer does. No frame is pending.
-    pub fn standing(alloc: Global, version: Version, machine: Machine, framer: Framer) -> Kernel
+    /// Stands where this machine stands, behind so many bytes, whose last 32 are these. No frame is
+    /// pending.
+    pub fn standing(
+        alloc: Global,
+        version: Version,
+        machine: Machine,
+        last: [u8; 32],
+        len: usize,
+    ) -> Kernel
         ensures stands { (rs : List model.Record) → MayFollow (version_of version) empty rs
             → length (log_of (version_of version) rs) ≤ log_limit → machine ≡ run empty rs
             → IsFramerAt (behind_header (version_of version)) rs framer
@@ -97,7 +116,8 @@ impl Kernel {
         Kernel {
             version,
             machine,
-            framer,
+            last,
+            len,
             body: Vec::new(alloc),
             pending: Vec::new(alloc),
         }
@@ -126,13 +146,13 @@ impl Kernel {
     /// Whether the log has room for the end of each unit that is open.
     pub fn has_room_for_ends(&self) -> bool
         ensures { result
-            ≡ nat_le (self.now.framer.len + 45 * length self.now.machine.units) log_limit }
+            ≡ nat_le (self.now.len + 45 * length self.now.machine.units) log_limit }
     {
         let count = self.machine.open_count();
         if count > LOG_LIMIT {
             return false;
         }
-        let len = self.framer.len();
+        let len = self.len;
         len <= LOG_LIMIT && END_LEN * count <= LOG_LIMIT - len
     }
 
@@ -141,7 +161,7 @@ impl Kernel {
     #[tactic(auto, using(crate::proofs::Taking::open_many))]
     fn has_room(&self, kept: &KeptRecord) -> bool
         requires { IsBodyLength (length self.now.body.items) }
-        ensures { result ≡ nat_le (self.now.framer.len + (36 + length self.now.body.items)
+        ensures { result ≡ nat_le (self.now.len + (36 + length self.now.body.items)
             + 45 * open_behind (length self.now.machine.units) (record_of kept.now)) log_limit }
     {
         let count = self.machine.open_count();
@@ -149,13 +169,23 @@ impl Kernel {
             return false;
         }
         let ends = END_LEN * open_behind(count, kept);
-        FRAME_LEN + self.body.len() + ends <= LOG_LIMIT.saturating_sub(self.framer.len())
+        FRAME_LEN + self.body.len() + ends <= LOG_LIMIT.saturating_sub(self.len)
+    }
+
+    // Adds the frame of the body that was spelled to those that are pending.
+    fn put_frame(&mut self) -> Result<(), Fault>
+        requires body { IsBodyLength (length self.old.body.items) }
+        requires room { self.old.len + (36 + length self.old.body.items) ≤ log_limit }
+    {
+        self.last = append_frame(&self.last, &self.body, &mut self.pending)?;
+        self.len += FRAME_LEN + self.body.len();
+        Ok(())
     }
 
     // Why the record is not taken for which there is no room: that it is not lawful is told first,
     // so a COMMIT or an ABORT is never refused for want of room.
     fn without_room(&self, kept: &KeptRecord) -> NotDone
-        requires long { log_limit < self.now.framer.len + (36 + length self.now.body.items)
+        requires long { log_limit < self.now.len + (36 + length self.now.body.items)
             + 45 * open_behind (length self.now.machine.units) (record_of kept.now) }
         requires body { IsBodyOf (record_of kept.now) self.now.body.items }
         ensures { KernelStops self.now self.now (record_of kept.now) result }
@@ -198,7 +228,7 @@ impl Kernel {
             return Err(self.without_room(kept));
         }
         match self.machine.take(alloc, self.version, kept) {
-            Ok(Taken::Done(element)) => match self.framer.put(&self.body, &mut self.pending) {
+            Ok(Taken::Done(element)) => match self.put_frame() {
                 Ok(()) => Ok(element),
                 Err(_) => Err(NotDone::Spent),
             },
@@ -207,8 +237,8 @@ impl Kernel {
         }
     }
 
-    // The bytes that spell the state.
-    fn spelled(&self, alloc: Global) -> Result<CheckBytes, NotDone>
+    /// The bytes that spell the state.
+    pub(crate) fn spelled(&self, alloc: Global) -> Result<CheckBytes, NotDone>
         ensures spelled { IfOk result (λ bytes. bytes ≡ state_bytes self.now.machine) }
         ensures fits { OnOk result (FitsCheckpoint self.now.machine) }
         ensures refused { IfErr result (KernelStopsMark self.now self.now) }
@@ -238,6 +268,7 @@ impl Kernel {
             Err(why) => Err(why),
         }
     }
+
     // Aborts these units, in turn.
     fn abort_each(&mut self, alloc: Global, units: &[UnitNo]) -> Result<(), NotDone>
         ensures { OnOk result (KernelTakesEach self.old self.new

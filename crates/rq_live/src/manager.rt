@@ -77,7 +77,7 @@ impl<D: Device + Drop> Manager<D> {
     pub fn len(&self) -> usize
         ensures { IsLength (stand_of D.written D.synced D.doubted D.failed self.now) result }
     {
-        self.kernel.framer.len()
+        self.kernel.len
     }
 
     /// The last operation of who is registered with a queue by the name, lent; none if nobody is.

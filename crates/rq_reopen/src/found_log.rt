@@ -5,7 +5,7 @@ ghost use Rattle.rq_live.specs.Kernels.{StandsWithin};
 ghost use Rattle.rq_reopen.specs.Openings.{Finds, GoesOnAt, IsExactlyFound};
 ghost use Rattle.rq_reopen.specs.Reopenings.{IsNoMishap};
 
-use rq_front::Framer;
+use rq_front::CARRIED_AT;
 use rq_judged::Edge;
 use rq_live::Kernel;
 use rq_plan::Plan;
@@ -25,6 +25,17 @@ pub struct FoundLog {
     pub end: Edge,
     /// The queues as they stand behind the front, with the units that were open there.
     pub kernel: Kernel,
+}
+
+// The queues behind a front.
+fn behind(alloc: Global, front: &RedoneFront) -> Result<FoundLog, Fault> {
+    let machine = Machine::of(alloc, &front.state)?;
+    let (version, last, end) = (front.version, front.last, front.end);
+    Ok(FoundLog {
+        version,
+        end,
+        kernel: Kernel::standing(alloc, version, machine, last, end.used),
+    })
 }
 
 impl FoundLog {
@@ -50,12 +61,18 @@ impl FoundLog {
         rq_left::crash_leaves();
         rq_model::one_front();
         let front = RedoneFront::of(rt, alloc, left, plan)?;
-        let machine = Machine::of(alloc, &front.state)?;
-        let framer = Framer::after(front.last, front.end.used);
-        Ok(FoundLog {
-            version: front.version,
-            end: front.end,
-            kernel: Kernel::standing(alloc, front.version, machine, framer),
-        })
+        behind(alloc, &front)
+    }
+
+    /// The same of a carried file that is read as a log: they go on from the state that the
+    /// checkpoint at its beginning spells.
+    pub(crate) fn of_carried<R: Threads + Sync>(
+        rt: &R,
+        alloc: Global,
+        left: &LogBytes<'_>,
+        plan: &Plan,
+    ) -> Result<FoundLog, Fault> {
+        let front = RedoneFront::redone_at(rt, alloc, left, CARRIED_AT as u64, plan)?;
+        behind(alloc, &front)
     }
 }

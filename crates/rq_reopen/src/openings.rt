@@ -7,6 +7,7 @@ ghost use Rattle.rq_reopen.specs.Openings.{CutsBehind, GoesOnAt, IsExactlyFound,
 ghost use Rattle.rq_reopen.specs.Openings.{OpensLog, OpensBehind};
 
 use crate::found_log::FoundLog;
+use rq_front::{read_as_log, write_as_carried};
 use rq_journal::Damage;
 use rq_plan::Plan;
 use rq_record::{Fault, LogBytes};
@@ -111,6 +112,43 @@ impl Opening {
         match FoundLog::of(rt, alloc, left, plan) {
             Ok(found) => opened_behind(alloc, left.as_slice(), found, drops),
             Err(fault) => Err(NotOpened::Log(fault)),
+        }
+    }
+
+    // The same of a carried file that is read as a log.
+    fn of_carried<R: Threads + Sync>(
+        rt: &R,
+        alloc: Global,
+        left: &[u8],
+        plan: &Plan,
+        drops: bool,
+    ) -> Result<Opening, NotOpened> {
+        match FoundLog::of_carried(rt, alloc, &LogBytes::borrowed(left), plan) {
+            Ok(found) => opened_behind(alloc, left, found, drops),
+            Err(fault) => Err(NotOpened::Log(fault)),
+        }
+    }
+
+    /// How a manager goes on behind what a crash left of a log or of a carried file, as `of` says it of
+    /// a log. A carried file is read with the header of a log meanwhile, and has its own again then: its
+    /// queues begin in the state that its first frame, a checkpoint, spells.
+    ///
+    /// Refuses with `Log` also a carried file whose first frame is no checkpoint, or is not whole and
+    /// right, with `NoCheckpoint`, and one whose checkpoint spells no state with `BadCheckpoint`.
+    pub fn of_file<R: Threads + Sync>(
+        rt: &R,
+        alloc: Global,
+        left: &mut [u8],
+        plan: &Plan,
+        drops: bool,
+    ) -> Result<Opening, NotOpened> {
+        match read_as_log(left) {
+            Some(_) => {
+                let opened = Opening::of_carried(rt, alloc, left, plan, drops);
+                write_as_carried(left);
+                opened
+            }
+            None => Opening::of(rt, alloc, &LogBytes::borrowed(left), plan, drops),
         }
     }
 }

@@ -20,7 +20,9 @@ pub use by_hand::{is_killed, is_spelled};
 pub use countdowns::{Parcel, tells_a_second_arrival};
 pub use lanes::{are_right, put_message};
 pub use logs::{CHECKPOINT, ONE_ELEMENT, answer, log_in, log_of, makes, records_of, spelled};
-pub use managers::{committed_of, defines, found_in, goes_on_from, puts_in};
+pub use managers::{
+    committed_of, defines, found_in, goes_on_from, goes_on_in, goes_on_twice, puts_in,
+};
 pub use replays::{Lawful, analysed, course_of, lawful_of, replayed, traced};
 pub use rooms::{drained_by_threads, take_until, two, two_took};
 pub use sessions::{Counting, answers_to};

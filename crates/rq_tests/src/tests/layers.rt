@@ -3,6 +3,7 @@
 mod analysis;
 mod by_hand;
 mod bytes;
+mod carries;
 mod chains;
 mod countdowns;
 mod courses;
