@@ -11,8 +11,8 @@ from driven import body_of, spelling
 from frames import CARRIED_AT, HEADER, carried_bytes, carried_header_of, chained, header_of, right_at
 from second import NAME, Element, Machine, Note, Restart, dashed
 
-# The longest line, before its LF; the longest log; the most bytes that a checkpoint's state may have.
-LONGEST_LINE, LONGEST_LOG, LARGEST_STATE = 131_254, 2**32 - 1, 268_435_455
+# The longest line, before its LF; the longest log; the most bytes that a checkpoint's state may have, and the most records that it counts.
+LONGEST_LINE, LONGEST_LOG, LARGEST_STATE, MOST_RECORDS = 131_254, 2**32 - 1, 268_435_455, 2**32 - 1
 # So many bytes at most are written and not synced; and so long is the frame of a COMMIT or an ABORT.
 WINDOW, END = 1_048_576, 45
 # A log of so many bytes is carried on, if nothing else is told.
@@ -270,10 +270,17 @@ class Model:
         self.write(("kill", queue, element))
         return Answer("ok", True)
 
-    def checkpoint(self) -> Answer:
-        at, state = len(self.log), spelling(self.machine)
+    def spelled(self) -> bytes:
+        """The state, as a checkpoint has it."""
+        if self.machine.place > MOST_RECORDS:
+            raise Refusal("ended", "no checkpoint counts so many records")
+        state = spelling(self.machine)
         if len(state) > LARGEST_STATE:
             raise Refusal("large", "the state is too large")
+        return state
+
+    def checkpoint(self) -> Answer:
+        at, state = len(self.log), self.spelled()
         self.write(("checkpoint",), b"\x09" + state)
         return Answer(f"checkpoint {at}", True)
 
@@ -282,12 +289,8 @@ class Model:
 
     def carry_on(self) -> int:
         """Goes on in a new log, which begins with the state: behind how many records."""
-        records, state = self.machine.place, spelling(self.machine)
-        if len(state) > LARGEST_STATE:
-            raise Refusal("large", "the state is too large")
-        new = carried_bytes(self.machine.version, bytes(self.log[-32:]), [b"\x09" + state])
-        if len(new) + END * len(self.machine.open) > LONGEST_LOG:
-            raise Refusal("full", "a new log has no room")
+        records = self.machine.place
+        new = carried_bytes(self.machine.version, bytes(self.log[-32:]), [b"\x09" + self.spelled()])
         self.put_on(records, new)
         self.machine.takes(("checkpoint",))
         self.past.append((records, bytes(self.log)))
@@ -393,10 +396,21 @@ class CarriedRestart(Restart):
             return super().take(log)
         self.used = CARRIED_AT
         why = super().take(log)
-        if why == "whole":
-            Spelled(self.bodies[0][1:]).put(self.machine)
-            self.machine.place += 1
-        return why
+        if why != "whole" or self.begins(self.bodies[0]):
+            return why
+        self.bodies = []
+        return "no checkpoint"
+
+    def begins(self, body: bytes) -> bool:
+        """Begins in the state that a checkpoint spells, if it is one."""
+        self.machine = Machine(self.machine.version)
+        try:
+            Spelled(body[1:]).put(self.machine)
+        except (struct.error, KeyError, IndexError):
+            return False
+        is_checkpoint = body == b"\x09" + spelling(self.machine)
+        self.machine.place += 1
+        return is_checkpoint
 
 
 def begun(log: bytes) -> int:

@@ -189,7 +189,9 @@ class StandIn:
         """Removes what a crash can have left of a new log."""
         if not os.path.lexists(made):
             return
-        if not stat.S_ISREG(os.lstat(made).st_mode) or not is_left(made, new):
+        found = os.lstat(made)
+        is_log = os.path.samestat(found, os.fstat(self.file))
+        if not is_log and (not stat.S_ISREG(found.st_mode) or not is_left(made, new)):
             raise FileExistsError(errno.EEXIST, "something else stands there")
         os.unlink(made)
 
