@@ -6,7 +6,7 @@
 // DISK_IMAGES  where it keeps what is on the disk: `N` is the image of the file with the number N on its file system, `N.dirty` has a byte
 //              for each page that was written and not synced, and `names` the names in the folder when that was synced last, each with
 //              its number. All of it stays when the process is killed, as a disk does.
-// DISK_FAULT   what happens at the call DISK_AT, counted from 1 over writes, cuts and syncs:
+// DISK_FAULT   what happens at the call DISK_AT, counted from 1 over writes, cuts, syncs, and names that files get or lose:
 //              kills   the process is killed before it;     halves  it writes half, or does nothing, and the process is killed;
 //              fails   it fails (EIO), once;                full    it writes half, and from then on there is no room (ENOSPC);
 //              stuck   it fails, and so does each cut of a file from then on.
@@ -176,6 +176,22 @@ static int synced(int file, long call) {
 
 int fsync(int file) { return synced(file, SYS_fsync); }
 int fdatasync(int file) { return synced(file, SYS_fdatasync); }
+
+// Whether a path is of a name in the folder.
+static int is_within(const char *path) {
+  char parent[4096], real[4096];
+  const char *end = strrchr(path, '/');
+  if (!folder || !end) return 0;
+  snprintf(parent, sizeof parent, "%.*s", (int)(end - path), path);
+  return realpath(parent, real) && strcmp(real, folder) == 0;
+}
+
+// Whether a name is refused that is to be given or taken.
+static int is_refused(const char *path) { return is_within(path) && is_met(0) && !is("full"); }
+
+int link(const char *from, const char *to) { return is_refused(to) ? refused(EIO) : syscall(SYS_link, from, to); }
+int rename(const char *from, const char *to) { return is_refused(to) ? refused(EIO) : syscall(SYS_rename, from, to); }
+int unlink(const char *path) { return is_refused(path) ? refused(EIO) : syscall(SYS_unlink, path); }
 
 // A file that begins has nothing on the disk, also if its number was another's.
 static int opened(const char *path, int flags, mode_t mode) {

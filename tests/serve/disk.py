@@ -65,25 +65,37 @@ class Disk:
 
     def cut_power(self, draw: random.Random) -> str:
         """Leaves what is on the disk, and some of what was on its way there: what kind of rest that was."""
-        now = self.numbers()
-        files = {number: content(os.path.join(self.folder, name)) for name, number in now.items()}
-        names = draw.choice([now, self.synced_names() or now])
+        files = {number: content(os.path.join(self.folder, name)) for name, number in self.numbers().items()}
+        names = self.names_left(draw)
         how = draw.choice([None, some_pages, garbage])
         left = {}
-        for name, number in names.items():
+        for number in sorted({*names.values()}):
             image = self.image(number)
-            left[name] = how(image, files.get(number, image), draw) if how else image
-        self.begin_with(left)
+            left[number] = how(image, files.get(number, image), draw) if how else image
+        self.begin_with(names, left)
         return how.__name__ if how else "what was synced"
 
-    def begin_with(self, files: dict[str, bytes]) -> None:
-        """The folder has these files, all of them on the disk."""
+    def names_left(self, draw: random.Random) -> dict[str, int]:
+        """The names on the disk: all that are there, or those that were synced, or of each whichever of both."""
+        now = self.numbers()
+        synced = self.synced_names() or now
+        which = draw.choice([[now], [synced], [now, synced]])
+        found = {name: draw.choice(which).get(name) for name in sorted({*now, *synced})}
+        return {name: number for name, number in found.items() if number is not None}
+
+    def begin_with(self, names: dict[str, int], files: dict[int, bytes]) -> None:
+        """The folder has these names, of files that are on the disk."""
         for folder in (self.folder, self.images):
             shutil.rmtree(folder)
             os.makedirs(folder)
-        for name, it in files.items():
-            put(os.path.join(self.folder, name), it)
-        for number, it in ((number, files[name]) for name, number in self.numbers().items()):
+        first: dict[int, str] = {}
+        for name, number in names.items():
+            path = os.path.join(self.folder, name)
+            if number in first:
+                os.link(first[number], path)
+            else:
+                first[number] = put(path, files[number])
+        for number, it in ((os.stat(path).st_ino, files[number]) for number, path in first.items()):
             put(os.path.join(self.images, str(number)), it)
         lines = "".join(f"{number} {name}\n" for name, number in self.numbers().items())
         put(os.path.join(self.images, "names"), lines.encode())

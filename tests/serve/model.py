@@ -116,9 +116,13 @@ class Model:
     def answer(self, line: bytes) -> Answer:
         """Does what a line asks for, and answers it; carries the log on behind it, if that is due."""
         answer = self.answered(line)
-        if not self.is_closed and len(self.log) >= self.due:
+        if self.is_due():
             self.carry_by_itself()
         return answer
+
+    def is_due(self) -> bool:
+        """Whether the log is carried on now, behind a line."""
+        return not self.is_closed and len(self.log) >= self.due
 
     def answered(self, line: bytes) -> Answer:
         try:
@@ -302,7 +306,11 @@ class Model:
         try:
             self.carry_on()
         except Refusal:
-            self.due = len(self.log) + (LONGEST_LOG - len(self.log)) // 10 + 1
+            self.put_off()
+
+    def put_off(self) -> None:
+        """It was not carried on: it is tried again when it has more than a tenth of what was left."""
+        self.due = len(self.log) + (LONGEST_LOG - len(self.log)) // 10 + 1
 
     def queues(self) -> Answer:
         def lines() -> Iterator[str]:
