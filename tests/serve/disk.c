@@ -10,6 +10,7 @@
 //              kills   the process is killed before it;     halves  it writes half, or does nothing, and the process is killed;
 //              fails   it fails (EIO), once;                full    it writes half, and from then on there is no room (ENOSPC);
 //              stuck   it fails, and so does each cut of a file from then on.
+// DISK_BEGINS  if it is there, calls are counted from when a file is made whose name ends with it.
 //              A sync that fails drops the pages that it was to write: the system calls them clean, and no later sync writes them.
 #define _GNU_SOURCE
 #include <dirent.h>
@@ -30,7 +31,7 @@
   if (!next) next = (__typeof__(&name))dlsym(RTLD_NEXT, #name)
 #define PAGE 4096
 
-static const char *folder, *images, *fault = "";
+static const char *folder, *images, *fault = "", *begins;
 static unsigned long at, calls;
 static int is_full, is_stuck;
 
@@ -38,6 +39,7 @@ __attribute__((constructor)) static void begin(void) {
   folder = getenv("DISK_FOLDER");
   images = getenv("DISK_IMAGES");
   if (getenv("DISK_FAULT")) fault = getenv("DISK_FAULT");
+  begins = getenv("DISK_BEGINS");
   if (getenv("DISK_AT")) at = strtoul(getenv("DISK_AT"), 0, 10);
 }
 
@@ -114,7 +116,7 @@ static void settle_names(void) {
 
 // Whether this call is the one that ends otherwise than well.
 static int is_met(int halves) {
-  if (++calls != at) return 0;
+  if (begins || ++calls != at) return 0;
   if (is("kills") || (is("halves") && !halves)) kill(getpid(), SIGKILL);
   is_full = is("full");
   is_stuck = is("stuck");
@@ -193,8 +195,14 @@ int link(const char *from, const char *to) { return is_refused(to) ? refused(EIO
 int rename(const char *from, const char *to) { return is_refused(to) ? refused(EIO) : syscall(SYS_rename, from, to); }
 int unlink(const char *path) { return is_refused(path) ? refused(EIO) : syscall(SYS_unlink, path); }
 
+static int ends_with(const char *path, const char *end) {
+  size_t length = strlen(path), known = strlen(end);
+  return length >= known && strcmp(path + length - known, end) == 0;
+}
+
 // A file that begins has nothing on the disk, also if its number was another's.
 static int opened(const char *path, int flags, mode_t mode) {
+  if (begins && (flags & O_CREAT) && ends_with(path, begins)) begins = 0;
   int file = syscall(SYS_openat, AT_FDCWD, path, flags, mode), is_folder;
   unsigned long number = file >= 0 && (flags & O_CREAT) ? watched(file, &is_folder) : 0;
   if (number && !is_folder && length_of(file) == 0) {

@@ -92,6 +92,8 @@ class StandIn:
         self.keep()
         self.cut()
         self.secure()
+        # What was killed may have given the log its name, and not told the disk.
+        self.sync_names()
         return self.start.model.carries_at(self.carry_at)
 
     def keep(self) -> None:
@@ -218,15 +220,22 @@ class StandIn:
             self.settle([])
 
     def do(self, lines: list[bytes]) -> None:
-        """Does lines, and answers them all once what they say is true."""
+        """Does lines, and answers them all once what they say is true; before a log is carried on by itself those so far."""
         answers: list[Answer] = []
-        for line in lines:
-            try:
-                answers.append(self.model.answer(line))
-            except OSError as fault:
-                self.spend(answers, fault)
-            if self.model.is_closed:
-                break
+        try:
+            for line in lines:
+                answers.append(self.model.answered(line))
+                if self.model.is_due():
+                    self.tell(answers)
+                    answers = []
+                    self.model.carry_by_itself()
+                if self.model.is_closed:
+                    break
+        except OSError as fault:
+            self.spend(answers, fault)
+        self.tell(answers)
+
+    def tell(self, answers: list[Answer]) -> None:
         self.settle(answers)
         self.say("".join(f"{it.text}\n" for it in answers))
 

@@ -25,8 +25,10 @@ from trying import HERE, check, content
 LOG = "orders.log"
 # Runs of a life; the most turns of a run, and of calls on files before one of them fails.
 RUNS, TURNS, CALLS = 20, 30, 40
-# At so many bytes a log goes on in a new file, in a life in which it does.
+# At so many bytes a log goes on in a new file, in a life in which it does. Of the faults of such a life so many come when that is made, at one of so
+# many calls.
 LEASTS = [1_500, 6_000, 30_000]
+OF_CARRIES, CARRY_CALLS = 0.6, 16
 # What ends a run, and how often: a signal, a call on a file that ends otherwise than well, the end of input, a close.
 ENDS = {"signal": 10, "kills": 4, "halves": 3, "fails": 5, "stuck": 3, "full": 3, "input": 1, "close": 1}
 FAILING = ("fails", "stuck", "full")
@@ -58,7 +60,9 @@ class Run:
     def __init__(self, life: "Life", end: str = "") -> None:
         self.life, self.draw = life, life.draw
         self.end = end or self.draw.choices([*ENDS], [*ENDS.values()])[0]
-        self.at = self.draw.randrange(1, CALLS * (2 if life.carries else 1)) if self.end not in ("signal", "input", "close") else 0
+        is_of_carry = life.carries and self.draw.random() < OF_CARRIES
+        self.begins, calls = (".next", CARRY_CALLS) if is_of_carry else ("", CALLS)
+        self.at = self.draw.randrange(1, calls) if self.end not in ("signal", "input", "close") else 0
         self.sent: deque[Told] = deque()
         self.is_spent = False
         self.status = 0
@@ -69,7 +73,7 @@ class Run:
         self.model: Model = self.start.model.carries_at(life.least)
         self.opened = bytes(self.model.log)
         fault = self.end if self.at else ""
-        self.served = Served(life.log, "--carry-at", str(life.least), env=life.disk.variables(fault, self.at))
+        self.served = Served(life.log, "--carry-at", str(life.least), env=life.disk.variables(fault, self.at, self.begins))
 
     # --- lines and answers -----------------------------------------------------------------------------------------
 
@@ -324,21 +328,25 @@ class Life:
         run = Run(self)
         run.go()
         is_written = run.end in ("signal", "kills", "halves", "input", "close") or run.status == 0
-        how = run.end + f" at call {run.at}" * bool(run.at)
-        self.must_hold(run.model, lambda name: content(os.path.join(self.disk.folder, name)), f"the log lost some, behind {how}")
+        how = run.end + f" at call {run.at}" * bool(run.at) + f" from {run.begins}" * bool(run.at and run.begins)
         self.must_hold(run.model, self.disk.image_of, f"the disk lacks some, behind {how}")
+        left = self.must_hold(run.model, self.content, f"the log lost some, behind {how}")
         if self.draw.random() < POWER_CUTS:
-            how, is_written = f"{how}, power cut: {self.disk.cut_power(self.draw)}", False
+            how, is_written = f"{how}, power cut: {self.disk.cut_power(self.draw, LOG)}", False
             self.counted["power cuts"] += 1
-            self.must_hold(run.model, lambda name: content(os.path.join(self.disk.folder, name)), f"the power cut took some, behind {how}")
+            left = self.must_hold(run.model, self.content, f"the power cut took some, behind {how}")
         for it in self.clients:
             it.crashed()
         self.ledger.crashed(is_written, sum(it.line.startswith("dequeue") for it in run.sent))
+        self.past, self.safe = [], left
         self.clear()
         return how
 
-    def must_hold(self, model: Model, read: Callable[[str], bytes | None], what: str) -> None:
-        """All that is safe is there: in the log, or in the one that it went on from, and each log before has its name."""
+    def content(self, name: str) -> bytes | None:
+        return content(os.path.join(self.disk.folder, name))
+
+    def must_hold(self, model: Model, read: Callable[[str], bytes | None], what: str) -> bytes:
+        """All that is safe is there: in the log, or in the one that it went on from, and each log before has its name. What of the log is safe."""
         later = model.past[len(self.past):]
         logs = [self.safe, *(it for _, it in later[1:]), bytes(model.log)] if later else [self.safe]
         found = read(LOG) or b""
@@ -347,6 +355,7 @@ class Life:
         must(found.startswith(safe), f"of {len(safe)} safe bytes {what}")
         for records, it in [*self.past, *later[:at]]:
             must(read(f"{LOG}.{records}") == it, f"of the log before, of {records} records, {what}")
+        return safe
 
     def clear(self) -> None:
         """What an operator does between two runs: he moves old logs away, and what no crash left of a new one. A name of the log itself he may

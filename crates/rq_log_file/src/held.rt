@@ -1,6 +1,6 @@
 //! The file of a log, which one program writes at a time.
 
-use rq_file::NamedFile;
+use rq_file::{NamedFile, folder_within};
 use std::fs::{File, Files, Metadata, OpenFile, OpenOptions, TryLockError};
 use std::io::{self, Seek, SeekFrom, Write};
 
@@ -78,6 +78,15 @@ impl HeldLog {
     /// The file.
     pub fn file(&mut self) -> &mut File {
         self.place.file_mut()
+    }
+
+    /// Tells the disk of the file's name: whoever gave it that may have been killed before.
+    pub fn sync_name<R>(&self, rt: &R) -> io::Result<()>
+    where
+        R: Files<File = File> + AllocGlobal,
+    {
+        let folder = File::open(rt, folder_within(rt.alloc(), self.name())?.as_str())?;
+        OpenFile::sync_all(&folder)
     }
 
     /// Refuses a file that has its name no more, or not so many bytes as were read.

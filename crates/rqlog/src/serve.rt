@@ -208,6 +208,8 @@ where
     let mut bytes = bytes_from(rt, &*held.file())?;
     let opening = opened(rt, &mut bytes, plan)?;
     keep_cut(rt, path, &opening)?;
+    held.sync_name(rt)
+        .map_err(|error| failed(Stream::Log, error))?;
     held.expect_as_read(rt, bytes.len())?;
     let greeting = Greeting {
         aborted: opening.found.kernel.open_count(),
