@@ -269,7 +269,8 @@ def ended_between(does: str) -> None:
 
 def told_by(ended: trying.Ended, wrong: list, number: int, does: str) -> str:
     """What the answers of a process promise is there, whatever ended it, and a start goes on; what its log was."""
-    answers = ended[1].decode().splitlines()[1:]
+    # Half an answer is none.
+    answers = ended[1].decode().split("\n")[1:-1]
     model = new_model()
     promised = bytes(model.log)
     for line, answer in zip(ASKED, answers):

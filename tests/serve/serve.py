@@ -144,7 +144,7 @@ def syncs() -> None:
         ended, told = noted("syncs.log", script)
         check(f"{line}: synced, and then told", (ended[0], unsynced(calls_of(told))), (0, []))
         if line == "carry":
-            check("carry: each log is there", sorted(os.listdir(".")), ["syncs.log", "syncs.log.8"])
+            check("carry: each log is there", sorted(os.listdir(".")), ["syncs.log", "syncs.log.9"])
 
 
 # --- starts --------------------------------------------------------------------------------------------------------

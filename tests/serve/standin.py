@@ -92,8 +92,7 @@ class StandIn:
         self.keep()
         self.cut()
         self.secure()
-        # What was killed may have given the log its name, and not told the disk.
-        self.sync_names()
+        self.keep_name()
         return self.start.model.carries_at(self.carry_at)
 
     def keep(self) -> None:
@@ -133,8 +132,7 @@ class StandIn:
 
     def put_on(self, records: int, new: bytes) -> None:
         """Goes on in a new file. All before is safe then. If it can't be made, it goes on in the old one."""
-        self.write()
-        self.sync()
+        self.settle_old()
         made, kept = f"{self.real}.next", f"{self.real}.{records}"
         try:
             file = self.made_next(made, kept, new)
@@ -144,6 +142,10 @@ class StandIn:
         self.sync_names()
         os.close(self.file)
         self.file, self.written, self.synced = file, len(new), len(new)
+
+    def settle_old(self) -> None:
+        self.write()
+        self.sync()
 
     def made_next(self, made: str, kept: str, new: bytes) -> int:
         """The file of the new log, which has the log's name; the old one has another."""
@@ -182,6 +184,13 @@ class StandIn:
 
     def sync_names(self) -> None:
         sync_names(os.path.dirname(self.real))
+
+    def keep_name(self) -> None:
+        """A process that was killed may have given the log its name, and not told the disk; or another name, before a new log had its own."""
+        kept = f"{self.real}.{self.start.model.machine.place - len(self.start.aborted)}"
+        if os.path.lexists(kept) and os.path.samestat(os.lstat(kept), os.fstat(self.file)):
+            os.unlink(kept)
+        self.sync_names()
 
     def expect_ours(self, name: str) -> None:
         if not os.path.samestat(os.lstat(name), os.fstat(self.file)):

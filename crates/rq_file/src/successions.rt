@@ -167,9 +167,9 @@ impl Succession {
         }
     }
 
-    // Takes from the log the name that it was given, if it is the log that has it.
-    fn take_back<R: Files>(&self, rt: &R, old: &Metadata) {
-        if is_named(rt, old, &self.kept) {
+    /// Takes from the log the name that it was to keep, if it is the log that has it and its own.
+    pub fn take_back<R: Files>(&self, rt: &R, old: &Metadata) {
+        if is_named(rt, old, &self.log) && is_named(rt, old, &self.kept) {
             let _ = fs::remove_file(rt, self.kept.as_str());
         }
     }

@@ -34,6 +34,16 @@ impl NextFiles {
         })
     }
 
+    /// Takes from a log of so many records the name that it was to keep: a process gave it that, and died
+    /// before a new file had the log's.
+    pub fn forget<R>(&self, rt: &R, records: u64) -> Result<(), AllocError>
+    where
+        R: Files<File = File> + AllocGlobal,
+    {
+        Succession::of(rt.alloc(), &self.name, records)?.take_back(rt, &self.old);
+        Ok(())
+    }
+
     // Locks the new file, and gives it the log's name.
     fn settle<R>(&self, rt: &R, names: &Succession, new: &File) -> Result<Metadata, NotTaken>
     where

@@ -35,6 +35,13 @@ impl<'a, R: AllocGlobal> Carrier<'a, R> {
     }
 }
 
+impl<'a, R: Files<File = File> + AllocGlobal> Carrier<'a, R> {
+    /// Takes back what a process did that died while it carried the log on, behind so many records.
+    pub(crate) fn forget(&self, records: u64) -> Result<(), Refusal> {
+        Ok(self.files.forget(self.rt, records)?)
+    }
+}
+
 impl<'a, R> Carrier<'a, R> {
     /// Why it is not known which file is the log; none if it is.
     pub(crate) fn into_error(self) -> Option<io::Error> {

@@ -162,6 +162,26 @@ where
     }
 }
 
+// Makes sure that the log has its name, and no other that it got from a process that carried it on and
+// died: the disk is told of it.
+fn keep_name<R>(
+    rt: &R,
+    carrier: &Carrier<'_, R>,
+    manager: &Manager<LogFile<HeldLog>>,
+) -> Result<(), Refusal>
+where
+    R: Files<File = File> + AllocGlobal,
+{
+    let Ok(records) = manager.record_count() else {
+        return Err(Refusal::Memory);
+    };
+    carrier.forget(records)?;
+    match manager.device().file().sync_name(rt) {
+        Ok(()) => Ok(()),
+        Err(error) => Err(failed(Stream::Log, error)),
+    }
+}
+
 // Serves a log that was read, which is held: goes on behind its front, greets, and does what lines ask
 // for.
 fn serve_on<R>(
@@ -180,6 +200,7 @@ where
     let (stands, begins) = (whole.len(), begun_with(&whole));
     let carrier = Carrier::new(rt, path, &held)?;
     let mut manager = Manager::over(LogFile::new(held, Some(whole)), kernel);
+    keep_name(rt, &carrier, &manager)?;
     match manager.resume(rt.alloc(), stands) {
         Ok(()) => {}
         Err(NotDone::Full) => return Err(Refusal::from(Fault::TooLarge)),
@@ -208,8 +229,6 @@ where
     let mut bytes = bytes_from(rt, &*held.file())?;
     let opening = opened(rt, &mut bytes, plan)?;
     keep_cut(rt, path, &opening)?;
-    held.sync_name(rt)
-        .map_err(|error| failed(Stream::Log, error))?;
     held.expect_as_read(rt, bytes.len())?;
     let greeting = Greeting {
         aborted: opening.found.kernel.open_count(),
