@@ -91,6 +91,30 @@ def units() -> None:
     m.close()
 
 
+def carries() -> None:
+    """A log goes on in a new one, with the units that are open; by itself, too."""
+    m, jobs = started()
+    ann = jobs.register("ann")
+    open_unit = m.unit()
+    element = open_unit.enqueue(jobs, b"a", by=ann.next())
+    check("it is carried on", (m.carry(), os.path.exists("client.log.5")), (5, True))
+    open_unit.commit()
+    check("what stands", ([it.id for it in jobs.free()], jobs.last("ann")), ([element], ("enqueue", 1, element)))
+    trying.put("client.log.7", b"another file")
+    check("a name that is taken", (raised(m.carry), jobs.depth().free), ("NotCarried", 1))
+    m.close()
+    m = Manager("client.log", carry_at=500)
+    jobs = m.queue("jobs")
+    for number in range(40):
+        with m.unit(later=True) as u:
+            u.enqueue(jobs, b"x" * 20)
+            u.dequeue(jobs)
+    m.settle()
+    check("by itself", (len(os.listdir(".")) > 4, jobs.depth().free), (True, 1))
+    check("no such length", raised(lambda: Manager("client.log", carry_at=2**32)), "ValueError")
+    m.close()
+
+
 def threads() -> None:
     """Threads share a manager: each element is taken once, by a thread that waited for it."""
     m, jobs = started()
@@ -233,7 +257,7 @@ def installed() -> None:
     check("what is installed", sorted(set(eval(found.stdout)) - {"__pycache__"}), sorted(files))
 
 
-PARTS = [page, refusals, units, threads, pipes, lost, opening, desk, types, installed]
+PARTS = [page, refusals, units, carries, threads, pipes, lost, opening, desk, types, installed]
 
 
 def main(options: object) -> None:

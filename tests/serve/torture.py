@@ -1,6 +1,7 @@
 """Quick, of 30 kills; by hand of 1,000 before a release, and if serve or what it stands on changes. Eight clients ask a served log, whose process is
 killed anywhere, whose writes and syncs fail, whose disk is full, and whose host loses power: then that stands which was synced, or some pages more, or
-garbage. Each second life has a log that goes on in new files. Two judges look on. One is the model, which knows what each line answers and writes; the other knows only what the clients know.
+garbage. Each second life has a log that goes on in new files. Two judges look on. One is the model, which knows what each line answers and writes;
+the other knows only what the clients know.
 
 With --wrong it tries wrong programs, which are made of the stand-in: each is caught. With --kills so many runs end by a crash. With --first it begins
 with the life of this number: each life is a log that outlives so many crashes, and the same number makes the same life, but for when a kill comes.

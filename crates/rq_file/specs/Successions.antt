@@ -4,7 +4,7 @@ use Rattle.std.specs.Fmt.{decimal}
 use Rattle.rq_file.specs.declared.successions.Succession.{Succession}
 
 -- those of a log of this name, which has so many records
-pub record AreNamesOf (log : List ℕ) (records : ℕ) (names : Succession) : Type 0 where
-  pub log : string_bytes names.log ≡ log
-  pub next : string_bytes names.next ≡ log ++ codes ".next"
-  pub kept : string_bytes names.kept ≡ log ++ (codes "." ++ decimal records)
+pub record AreNamesOf (path : List ℕ) (records : ℕ) (names : Succession) : Type 0 where
+  pub log : string_bytes names.log ≡ path
+  pub next : string_bytes names.next ≡ path ++ codes ".next"
+  pub kept : string_bytes names.kept ≡ path ++ (codes "." ++ decimal records)
