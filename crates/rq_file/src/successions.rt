@@ -99,6 +99,14 @@ impl Succession {
         }
     }
 
+    // Refuses if the log lost one of its two names.
+    fn expect_both<R: Files>(&self, rt: &R, old: &Metadata) -> io::Result<()> {
+        if is_named(rt, old, &self.log) && is_named(rt, old, &self.kept) {
+            return Ok(());
+        }
+        Err(others("somebody else took a name of the log"))
+    }
+
     // Whether what stands under the new file's name, and begins as these bytes do, was left by a crash.
     fn is_left<R>(&self, rt: &R, first: &[u8]) -> io::Result<bool>
     where
@@ -183,7 +191,7 @@ impl Succession {
         new: &R::File,
     ) -> Result<(), NotTaken> {
         OpenFile::sync_all(folder)?;
-        self.expect_names(rt, old)?;
+        self.expect_both(rt, old)?;
         expect_under(rt, new, &self.next)?;
         match fs::rename(rt, self.next.as_str(), self.log.as_str()) {
             Err(error) if !is_under(rt, new, &self.log) => Err(NotTaken::Kept(error)),
