@@ -1,5 +1,16 @@
 //! A log that goes on in another file, in which its state is the beginning.
 
+ghost use Rattle.std.specs.Prelude.{◌≡◌, [], Err, true, false, length, OnOk, IfOk, IfErr};
+ghost use Rattle.rq_model.specs.Frames.{IsBodyLength, digest, frame};
+ghost use Rattle.rq_model.specs.Carrying.{carried_file};
+ghost use Rattle.rq_record.specs.Views.{version_of};
+ghost use Rattle.rq_record.specs.declared.fault.Fault.TheVariants.{Resources};
+ghost use Rattle.rq_device.specs.Devices.{AreStored, IsAllSynced};
+ghost use Rattle.rq_live.specs.Kernels.{KernelStays};
+ghost use Rattle.rq_live.specs.Managers.{IsInOrder, KeepsSafe, KeepsWindow, stand_of};
+ghost use Rattle.rq_live.specs.Carries.{BeginsBehind, CarriesOn, KernelGoesOver, KernelIsKept};
+ghost use Rattle.rq_live.specs.Carries.{StandsOver, StaysThere, StopsCarry};
+
 use crate::kernel::{Kernel, NotDone};
 use crate::manager::Manager;
 use rq_device::{Device, Successor, Unmade};
@@ -34,18 +45,15 @@ pub(crate) struct Begun {
     last: [u8; 32],
 }
 
-// Why the state is not spelled.
-fn unspelled(why: NotDone) -> NotCarried {
-    match why {
-        NotDone::Large => NotCarried::Large,
-        NotDone::Ended => NotCarried::Ended,
-        _ => NotCarried::Resources,
-    }
-}
-
 impl Kernel {
     // The file whose first frame is that of the body that was spelled.
-    fn begun_by(&self, alloc: Global) -> Result<Begun, Fault> {
+    fn begun_by(&self, alloc: Global) -> Result<Begun, Fault>
+        requires { IsBodyLength (length self.now.body.items) }
+        ensures bytes { IfOk result (λ b. b.bytes.items ≡ carried_file (version_of self.now.version)
+            self.now.last (frame self.now.last self.now.body.items)) }
+        ensures last { IfOk result (λ b. b.last ≡ digest self.now.last self.now.body.items) }
+        ensures refused { IfErr result (λ e. e ≡ Resources) }
+    {
         let mut bytes = Vec::new(alloc);
         carried_header_of(self.version, &mut bytes)?;
         bytes.extend_from_slice(&self.last)?;
@@ -54,10 +62,19 @@ impl Kernel {
     }
 
     // The first bytes of the file in which the log goes on from here. It stands where it stood.
-    fn begun(&mut self, alloc: Global) -> Result<Begun, NotCarried> {
+    fn begun(&mut self, alloc: Global) -> Result<Begun, NotCarried>
+        ensures begun { IfOk result (λ b. BeginsBehind self.new b.bytes.items b.last) }
+        ensures stays { KernelStays self.old self.new }
+        ensures pending { self.new.pending ≡ self.old.pending }
+        ensures refused { IfErr result (KernelIsKept self.old) }
+        ensures unspent { IfErr result (λ why. why ≡ NotCarried.Spent → ⊥) }
+    {
+        rq_model::one_spelling();
         let bytes = match self.spelled(alloc) {
             Ok(bytes) => bytes,
-            Err(why) => return Err(unspelled(why)),
+            Err(NotDone::Large) => return Err(NotCarried::Large),
+            Err(NotDone::Ended) => return Err(NotCarried::Ended),
+            Err(_) => return Err(NotCarried::Resources),
         };
         self.body.clear();
         let Ok(()) = encode(&Record::Checkpoint { bytes }, &mut self.body) else {
@@ -71,7 +88,14 @@ impl Kernel {
 
     // Stands behind these first bytes. What a checkpoint says is nothing to the machine, so it counts one
     // of no bytes.
-    fn go_over(&mut self, alloc: Global, begun: &Begun) -> Result<(), NotCarried> {
+    fn go_over(&mut self, alloc: Global, begun: &Begun) -> Result<(), NotCarried>
+        requires begun { BeginsBehind self.old begun.now.bytes.items begun.now.last }
+        requires none { self.old.pending.items ≡ [] }
+        ensures over { OnOk result (KernelGoesOver self.old self.new begun.now.bytes.items) }
+        ensures none { OnOk result (self.new.pending.items ≡ []) }
+        ensures refused { IfErr result (λ why. why ≡ NotCarried.Spent) }
+    {
+        rq_model::runs_are_well_formed();
         let Some(bytes) = CheckBytes::new(Vec::new(alloc)) else {
             return Err(NotCarried::Spent);
         };
@@ -88,11 +112,28 @@ impl Kernel {
 }
 
 impl<D: Device + Drop> Manager<D> {
-    // Goes over to the device that stands for the old one.
-    fn go_over(&mut self, alloc: Global, device: D, begun: &Begun) -> Result<(), NotCarried> {
-        self.device = device;
+    // Stands behind these first bytes on the device on which they stand.
+    fn stand_over(&mut self, alloc: Global, device: D, begun: &Begun) -> Result<(), NotCarried>
+        requires window { KeepsWindow (stand_of D.written D.synced D.doubted D.failed self.old) }
+        requires begun { BeginsBehind self.old.kernel begun.now.bytes.items begun.now.last }
+        requires none { self.old.kernel.pending.items ≡ [] }
+        requires bytes { AreStored (D.written device) begun.now.bytes.items }
+        requires synced { IsAllSynced (D.written device) (D.synced device) }
+        requires sure { D.doubted device ≡ false }
+        requires works { D.failed device ≡ false }
+        ensures window { KeepsWindow (stand_of D.written D.synced D.doubted D.failed self.new) }
+        ensures none { OnOk result (self.new.kernel.pending.items ≡ []) }
+        ensures over { OnOk result (StandsOver
+            (stand_of D.written D.synced D.doubted D.failed self.old)
+            (stand_of D.written D.synced D.doubted D.failed self.new)) }
+        ensures refused { IfErr result (λ why. (why ≡ NotCarried.Spent) × (self.new.spent ≡ true)) }
+        ensures keeps { IfErr result (λ why. self.new.device ≡ self.old.device) }
+    {
         match self.kernel.go_over(alloc, begun) {
-            Ok(()) => Ok(()),
+            Ok(()) => {
+                self.device = device;
+                Ok(())
+            }
             Err(why) => {
                 self.spent = true;
                 Err(why)
@@ -106,11 +147,24 @@ impl<D: Device + Drop> Manager<D> {
         alloc: Global,
         begun: &Begun,
         next: &mut S,
-    ) -> Result<u64, NotCarried> {
+    ) -> Result<u64, NotCarried>
+        requires window { KeepsWindow (stand_of D.written D.synced D.doubted D.failed self.old) }
+        requires begun { BeginsBehind self.old.kernel begun.now.bytes.items begun.now.last }
+        requires none { self.old.kernel.pending.items ≡ [] }
+        ensures window { KeepsWindow (stand_of D.written D.synced D.doubted D.failed self.new) }
+        ensures none { self.new.spent ≡ false → self.new.kernel.pending.items ≡ [] }
+        ensures carried { IfOk result (CarriesOn
+            (stand_of D.written D.synced D.doubted D.failed self.old)
+            (stand_of D.written D.synced D.doubted D.failed self.new)) }
+        ensures refused { IfErr result (StaysThere
+            (stand_of D.written D.synced D.doubted D.failed self.old)
+            (stand_of D.written D.synced D.doubted D.failed self.new)) }
+        ensures keeps { IfErr result (λ why. self.new.device ≡ self.old.device) }
+    {
         let records = self.kernel.machine.next();
         match next.put(records, &begun.bytes) {
             Ok(device) => {
-                self.go_over(alloc, device, begun)?;
+                self.stand_over(alloc, device, begun)?;
                 Ok(records)
             }
             Err(Unmade::Kept) => Err(NotCarried::Unmade),
@@ -121,18 +175,50 @@ impl<D: Device + Drop> Manager<D> {
         }
     }
 
-    /// Settles all, and goes on in another file: it begins with a checkpoint of the state, behind the
-    /// last 32 bytes of the log, and takes the log's place. Units that are open stay open, and all
-    /// numbers go on. How many records were done before; the checkpoint is one more.
-    pub fn carry<S: Successor<D>>(
+    // Goes on in another file, if all is settled.
+    fn carry_settled<S: Successor<D>>(
         &mut self,
         alloc: Global,
         next: &mut S,
-    ) -> Result<u64, NotCarried> {
-        if self.settle().is_err() {
-            return Err(NotCarried::Spent);
-        }
+    ) -> Result<u64, NotCarried>
+        requires window { KeepsWindow (stand_of D.written D.synced D.doubted D.failed self.old) }
+        requires none { self.old.kernel.pending.items ≡ [] }
+        ensures window { KeepsWindow (stand_of D.written D.synced D.doubted D.failed self.new) }
+        ensures none { self.new.spent ≡ false → self.new.kernel.pending.items ≡ [] }
+        ensures carried { IfOk result (CarriesOn
+            (stand_of D.written D.synced D.doubted D.failed self.old)
+            (stand_of D.written D.synced D.doubted D.failed self.new)) }
+        ensures refused { IfErr result (StaysThere
+            (stand_of D.written D.synced D.doubted D.failed self.old)
+            (stand_of D.written D.synced D.doubted D.failed self.new)) }
+        ensures keeps { IfErr result (λ why. self.new.device ≡ self.old.device) }
+    {
         let begun = self.kernel.begun(alloc)?;
         self.go_on(alloc, &begun, next)
+    }
+
+    /// Settles all, and goes on in another file: it begins with a checkpoint of the state, behind the
+    /// last 32 bytes of the log, and takes the log's place. Units that are open stay open, and all
+    /// numbers go on. How many records were done before; the checkpoint is one more. It is never
+    /// refused for want of room: the ends of all open units have room there.
+    pub fn carry<S: Successor<D>>(&mut self, alloc: Global, next: &mut S) -> Result<u64, NotCarried>
+        requires { IsInOrder (stand_of D.written D.synced D.doubted D.failed self.old) }
+        ensures order { IsInOrder (stand_of D.written D.synced D.doubted D.failed self.new) }
+        ensures spent { self.old.spent ≡ true
+            → (self.new ≡ self.old) × (result ≡ Err NotCarried.Spent) }
+        ensures carried { IfOk result (CarriesOn
+            (stand_of D.written D.synced D.doubted D.failed self.old)
+            (stand_of D.written D.synced D.doubted D.failed self.new)) }
+        ensures refused { IfErr result (StopsCarry
+            (stand_of D.written D.synced D.doubted D.failed self.old)
+            (stand_of D.written D.synced D.doubted D.failed self.new)) }
+        ensures keeps { IfErr result (λ why. KeepsSafe
+            (stand_of D.written D.synced D.doubted D.failed self.old)
+            (stand_of D.written D.synced D.doubted D.failed self.new)) }
+    {
+        match self.settle_pending() {
+            Ok(()) => self.carry_settled(alloc, next),
+            Err(_) => Err(NotCarried::Spent),
+        }
     }
 }

@@ -1,20 +1,20 @@
 //! The queues as they stand, and the frames of what was done to them.
 
-ghost use Rattle.std.specs.Prelude.{◌≡◌, ◌≢◌, ◌<◌, ◌≤◌, ◌+◌, ◌*◌, List, [], length, nat_le};
-ghost use Rattle.std.specs.Prelude.{map, IfOk, IfErr, OnOk};
+ghost use Rattle.std.specs.Prelude.{◌≡◌, ◌≢◌, ◌<◌, ◌≤◌, ◌+◌, ◌-◌, ◌*◌, List, [], length, nat_le};
+ghost use Rattle.std.specs.Prelude.{map, drop, IfOk, IfErr, OnOk};
 ghost use Rattle.rq_model.specs.Records as model;
 ghost use Rattle.rq_model.specs.Appending.{MayFollow, FitsCheckpoint};
-ghost use Rattle.rq_model.specs.Frames.{IsBodyLength, log_limit, log_of};
-ghost use Rattle.rq_model.specs.States.{empty};
+ghost use Rattle.rq_model.specs.Frames.{IsBodyLength, log_limit};
 ghost use Rattle.rq_model.specs.StateSpelling.{state_bytes};
-ghost use Rattle.rq_model.specs.Machine.{best, run};
+ghost use Rattle.rq_model.specs.Machine.{best};
 ghost use Rattle.rq_record.specs.Views.{record_of, version_of};
 ghost use Rattle.rq_record.specs.declared.fault.Fault.TheVariants.{Resources};
 ghost use Rattle.rq_state.specs.Views.{unit_of};
-ghost use Rattle.rq_front.specs.Framers.{IsFramerAt, behind_header};
+ghost use Rattle.rq_live.specs.Starts.{Start, Plain, AreBegun, rules_of, base_of, file_of};
+ghost use Rattle.rq_live.specs.Starts.{state_behind, last_behind};
 ghost use Rattle.rq_live.specs.Kernels.{IsKernelBehind, IsBodyOf, KernelTakes, KernelStops};
 ghost use Rattle.rq_live.specs.Kernels.{KernelAborts, KernelMarks, KernelStopsMark, KernelTakesEach};
-ghost use Rattle.rq_live.specs.Kernels.{open_behind};
+ghost use Rattle.rq_live.specs.Kernels.{Frames, open_behind};
 
 use rq_front::{FRAME_LEN, HEADER_LEN, LOG_LIMIT, append_frame, header_of};
 use rq_lawful::Rule;
@@ -72,6 +72,7 @@ fn open_behind(count: usize, kept: &KeptRecord) -> usize
 // The last 32 of the bytes.
 fn last_bytes(bytes: &[u8]) -> [u8; 32]
     requires { 32 ≤ length bytes.now }
+    ensures { result ≡ drop (length bytes.now - 32) bytes.now }
 {
     let mut last = [0u8; 32];
     last.copy_from_slice(&bytes[bytes.len() - 32..]);
@@ -81,7 +82,7 @@ fn last_bytes(bytes: &[u8]) -> [u8; 32]
 impl Kernel {
     /// No queues yet, by the rules of the version. The header of the log is pending.
     pub(crate) fn new(alloc: Global, version: Version) -> Result<Kernel, Fault>
-        ensures stands { IfOk result (IsKernelBehind (version_of version) [] []) }
+        ensures stands { IfOk result (IsKernelBehind (Plain (version_of version)) [] []) }
         ensures few { IfOk result (λ kernel. length kernel.pending.items ≤ 40) }
         ensures refused { IfErr result (λ e. e ≡ Resources) }
     {
@@ -107,10 +108,12 @@ impl Kernel {
         last: [u8; 32],
         len: usize,
     ) -> Kernel
-        ensures stands { (rs : List model.Record) → MayFollow (version_of version) empty rs
-            → length (log_of (version_of version) rs) ≤ log_limit → machine ≡ run empty rs
-            → IsFramerAt (behind_header (version_of version)) rs framer
-            → IsKernelBehind (version_of version) rs (log_of (version_of version) rs) result }
+        ensures stands { (from : Start) (rs : List model.Record) → version_of version ≡ rules_of from
+            → AreBegun from rs → MayFollow (rules_of from) (base_of from) rs
+            → length (file_of from rs) ≤ log_limit → machine ≡ state_behind from rs
+            → last ≡ last_behind from rs → len ≡ length (file_of from rs)
+            → IsKernelBehind from rs (file_of from rs) result }
+        ensures len { result.len ≡ len }
         ensures none { result.pending.items ≡ [] }
     {
         Kernel {
@@ -176,6 +179,9 @@ impl Kernel {
     fn put_frame(&mut self) -> Result<(), Fault>
         requires body { IsBodyLength (length self.old.body.items) }
         requires room { self.old.len + (36 + length self.old.body.items) ≤ log_limit }
+        ensures framed { OnOk result (Frames self.old self.new self.old.body.items) }
+        ensures rules { self.new.version ≡ self.old.version }
+        ensures machine { self.new.machine ≡ self.old.machine }
     {
         self.last = append_frame(&self.last, &self.body, &mut self.pending)?;
         self.len += FRAME_LEN + self.body.len();
@@ -241,6 +247,7 @@ impl Kernel {
     pub(crate) fn spelled(&self, alloc: Global) -> Result<CheckBytes, NotDone>
         ensures spelled { IfOk result (λ bytes. bytes ≡ state_bytes self.now.machine) }
         ensures fits { OnOk result (FitsCheckpoint self.now.machine) }
+        ensures few { OnOk result (self.now.machine.next ≤ 4294967295) }
         ensures refused { IfErr result (KernelStopsMark self.now self.now) }
     {
         if self.machine.next() > State::RECORDS {

@@ -1,8 +1,12 @@
 //! Where a manager goes on behind what a crash left.
 
-ghost use Rattle.std.specs.Prelude.{IfErr, IfOk, length};
+ghost use Rattle.std.specs.Prelude.{◌≡◌, List, ℕ, IfErr, IfOk, length};
+ghost use Rattle.rq_model.specs.Carrying.{carried_at};
+ghost use Rattle.rq_record.specs.declared.fault.Fault.TheVariants.{Resources};
+ghost use Rattle.rq_restart.specs.RedoneFronts.{IsRedoneAt, IsRedoneFront};
 ghost use Rattle.rq_live.specs.Kernels.{StandsWithin};
-ghost use Rattle.rq_reopen.specs.Openings.{Finds, GoesOnAt, IsExactlyFound};
+ghost use Rattle.rq_reopen.specs.Files.{FindsFrom, IsFoundFrom};
+ghost use Rattle.rq_reopen.specs.Openings.{Finds, IsFound, GoesOnAt, IsExactlyFound};
 ghost use Rattle.rq_reopen.specs.Reopenings.{IsNoMishap};
 
 use rq_front::CARRIED_AT;
@@ -28,7 +32,12 @@ pub struct FoundLog {
 }
 
 // The queues behind a front.
-fn behind(alloc: Global, front: &RedoneFront) -> Result<FoundLog, Fault> {
+fn behind(alloc: Global, front: &RedoneFront) -> Result<FoundLog, Fault>
+    ensures found { IfOk result (λ l. (c : List ℕ) → IsRedoneFront c front.now → IsFound c l) }
+    ensures from { IfOk result
+        (λ l. (b : List ℕ) → IsRedoneAt b carried_at front.now → IsFoundFrom b l) }
+    ensures refused { IfErr result (λ e. e ≡ Resources) }
+{
     let machine = Machine::of(alloc, &front.state)?;
     let (version, last, end) = (front.version, front.last, front.end);
     Ok(FoundLog {
@@ -71,7 +80,10 @@ impl FoundLog {
         alloc: Global,
         left: &LogBytes<'_>,
         plan: &Plan,
-    ) -> Result<FoundLog, Fault> {
+    ) -> Result<FoundLog, Fault>
+        ensures finds { FindsFrom left.now result }
+        ensures within { IfOk result (λ l. StandsWithin l.kernel (length left.now)) }
+    {
         let front = RedoneFront::redone_at(rt, alloc, left, CARRIED_AT as u64, plan)?;
         behind(alloc, &front)
     }

@@ -5,6 +5,8 @@ ghost use Rattle.rq_record.specs.declared.fault.Fault.TheVariants.{Resources};
 ghost use Rattle.rq_live.specs.Kernels.{StandsWithin};
 ghost use Rattle.rq_reopen.specs.Openings.{CutsBehind, GoesOnAt, IsExactlyFound, IsNotShut};
 ghost use Rattle.rq_reopen.specs.Openings.{OpensLog, OpensBehind};
+ghost use Rattle.rq_reopen.specs.Files.{GoesOnAnywhere, IsExactlyIn, IsNotShutIn, OpensFile};
+ghost use Rattle.rq_reopen.specs.Files.{OpensFrom};
 
 use crate::found_log::FoundLog;
 use rq_front::{read_as_log, write_as_carried};
@@ -122,7 +124,10 @@ impl Opening {
         left: &[u8],
         plan: &Plan,
         drops: bool,
-    ) -> Result<Opening, NotOpened> {
+    ) -> Result<Opening, NotOpened>
+        ensures opens { OpensFrom left.now drops result }
+        ensures within { IfOk result (λ o. StandsWithin o.found.kernel (length left.now)) }
+    {
         match FoundLog::of_carried(rt, alloc, &LogBytes::borrowed(left), plan) {
             Ok(found) => opened_behind(alloc, left, found, drops),
             Err(fault) => Err(NotOpened::Log(fault)),
@@ -141,7 +146,23 @@ impl Opening {
         left: &mut [u8],
         plan: &Plan,
         drops: bool,
-    ) -> Result<Opening, NotOpened> {
+    ) -> Result<Opening, NotOpened>
+        ensures same { left.new ≡ left.old }
+        ensures opens { OpensFile left.old drops result }
+        ensures within { IfOk result (λ o. StandsWithin o.found.kernel (length left.old)) }
+        ensures survives { IfOk result (λ o. GoesOnAnywhere left.old o.found) }
+        ensures exact { IfOk result (λ o. IsExactlyIn left.old o.found) }
+        ensures headed { IfErr result (IsNotShutIn left.old) }
+    {
+        rq_left::crash_leaves();
+        rq_model::one_front();
+        rq_model::one_spelling();
+        rq_model::versions();
+        rq_model::carried_headers();
+        rq_model::frames_are_right();
+        rq_model::appended_logs();
+        rq_model::numbers_after();
+        rq_model::runs_are_well_formed();
         match read_as_log(left) {
             Some(_) => {
                 let opened = Opening::of_carried(rt, alloc, left, plan, drops);

@@ -1,10 +1,10 @@
 //! A manager that goes on in other files, and from what a crash left of one.
 
-use rq_device::{Memory, NewMemory};
+use rq_device::{Memory, NewMemory, Successor, Unmade};
 use rq_front::is_carried;
 use rq_journal::carried;
-use rq_live::Manager;
-use rq_record::{LogBytes, Name, Payload, Version};
+use rq_live::{Manager, NotCarried, NotDone};
+use rq_record::{LogBytes, Name, Payload, UnitNo, Version};
 use rq_restart::{Plan, RedoneFront};
 use rq_rows::{defines, goes_on_in, goes_on_twice, puts_in};
 use std::alloc::Global;
@@ -97,5 +97,43 @@ fn a_manager_goes_on_from_each_beginning_of_a_file(rt: HostRuntime) -> Result<()
         );
         assert!(rt; after.get(..whole) == bytes.get(..whole), "{len}");
     }
+    Ok(())
+}
+
+// One that makes no device, for this reason.
+#[derive(Drop)]
+struct Refusing {
+    why: Unmade,
+    told: u64,
+}
+
+impl Successor<Memory> for Refusing {
+    fn put(&mut self, records: u64, _first: &[u8]) -> Result<Memory, Unmade> {
+        self.told = records;
+        Err(self.why)
+    }
+}
+
+// If the other file is not made, all is settled where it was, and the next call goes on. If it is not
+// known what became of the log, none does.
+#[test]
+fn a_manager_stays_if_no_file_is_made(rt: HostRuntime) -> Result<(), Fail> {
+    let mut m = begun(&rt, Version::Two)?;
+    let mut next = Refusing {
+        why: Unmade::Kept,
+        told: 0,
+    };
+    let unit = m.begin(rt.alloc());
+    let carried = m.carry(rt.alloc(), &mut next);
+    assert!(rt; carried == Err(NotCarried::Unmade) && next.told == 8 && unit.is_ok());
+    let len = m.len();
+    assert!(rt; !is_carried(m.device().bytes()) && m.device().synced() == len);
+    let committed = m.commit(rt.alloc(), UnitNo(2));
+    assert!(rt; committed == Ok(()) && m.len() == len + 45 && m.record_count() == Ok(9));
+    next.why = Unmade::Lost;
+    let carried = m.carry(rt.alloc(), &mut next);
+    assert!(rt; carried == Err(NotCarried::Spent) && next.told == 9);
+    assert!(rt; m.begin(rt.alloc()) == Err(NotDone::Spent) && m.device().synced() == len + 45);
+    assert!(rt; m.carry(rt.alloc(), &mut next) == Err(NotCarried::Spent));
     Ok(())
 }
