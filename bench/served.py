@@ -1,6 +1,6 @@
-"""By hand. Times a served log beside a table of SQLite, and beside the bytes alone."""
+"""By hand. Times a served log beside a table of SQLite, and beside the bytes alone; and does a long session."""
 from __future__ import annotations
-import os, shutil, statistics, subprocess, sys
+import os, shutil, statistics, subprocess, sys, time
 
 from frames import bodies_of, commit
 from restarts import parsed, parser
@@ -94,3 +94,52 @@ def serve() -> None:
     timed(made, "serve-1", 100, path, program)
     sizes = bytes_by_unit(path)
     print(f"\nbytes of a unit that puts one in: at most {max(sizes[::2])}; that takes one out: at most {max(sizes[1::2])}")
+
+
+# --- a long session --------------------------------------------------------------------------------------------------
+
+# So often the memory of the program is looked at.
+EACH = 0.25
+
+
+def memory_of(parent: int) -> int | None:
+    """How many KiB of memory the child of a process has; none if it has none by now."""
+    try:
+        with open(f"/proc/{parent}/task/{parent}/children", encoding="ascii") as file:
+            child = file.read().split()[0]
+        with open(f"/proc/{child}/statm", encoding="ascii") as file:
+            return int(file.read().split()[1]) * os.sysconf("SC_PAGE_SIZE") // 1024
+    except (OSError, IndexError):
+        return None
+
+
+def session() -> None:
+    """Does many units through one served log, which carries itself on, and tells the memory of `serve` meanwhile.
+
+    usage: python3 bench session RQLOG [--units N] [--carry-at BYTES] [--folder FOLDER]
+    An element of 100 bytes is put in by one unit and taken out by another, 100 units in a write. The table has a line for each tenth of the
+    session: the most memory that `serve` had in it.
+    """
+    words = parser()
+    words.add_argument("--units", type=int, default=10_000_000)
+    words.add_argument("--carry-at", type=int, default=256 << 20)
+    options = parsed(words)
+    made, path = built(options.folder), free_path(options.folder)
+    begun = time.perf_counter()
+    command = [made, "serve-100", str(options.units // 2), path, options.program, "serve", "--create", "--carry-at", str(options.carry_at), path]
+    running = subprocess.Popen(command, stdout=subprocess.PIPE, text=True)
+    seen: list[int] = []
+    while running.poll() is None:
+        if (now := memory_of(running.pid)) is not None:
+            seen.append(now)
+        time.sleep(EACH)
+    took = time.perf_counter() - begun
+    if running.returncode:
+        sys.exit(f"the session ended with {running.returncode}")
+    files = sorted(os.listdir(os.path.dirname(path)))
+    size = sum(os.path.getsize(os.path.join(os.path.dirname(path), it)) for it in files)
+    print(f"{options.units} units in {took:.0f} s, {options.units / took:.0f} a second; {len(files)} files, {size / 1e9:.2f} GB in all\n")
+    print("| tenth of the session | memory, KiB |\n|---|---|")
+    for tenth in range(10):
+        part = seen[len(seen) * tenth // 10:len(seen) * (tenth + 1) // 10]
+        print(f"| {tenth + 1} | {max(part, default=0)} |")
