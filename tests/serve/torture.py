@@ -2,8 +2,9 @@
 killed anywhere, whose writes and syncs fail, whose disk is full, and whose host loses power: then that stands which was synced, or some pages more, or
 garbage. Two judges look on. One is the model, which knows what each line answers and writes; the other knows only what the clients know.
 
-With --wrong it tries wrong programs, which are made of the stand-in: each is caught. With --kills so many runs end by a crash. With --first it begins
-with the life of this number: each life is a log that outlives so many crashes, and the same number makes the same life, but for when a kill comes.
+With --wrong it tries wrong programs, which are made of the stand-in: each is caught. With --draw it tries so many of them, drawn by the sum of the
+clone's files. With --kills so many runs end by a crash. With --first it begins with the life of this number: each life is a log that outlives so many
+crashes, and the same number makes the same life, but for when a kill comes.
 """
 from __future__ import annotations
 import argparse, itertools, multiprocessing, os, random, shutil, tempfile, threading, time
@@ -17,7 +18,7 @@ from clients import DEFINITIONS, STAGES, Client, Ledger, Line, Talk, Wrong, eigh
 from disk import Disk
 from model import Model, Start
 from served import UNANSWERED, Served
-from trying import HERE, check, content
+from trying import HERE, check, content, drawn
 
 LOG = "orders.log"
 # Runs of a life; the most turns of a run, and of calls on files before one of them fails.
@@ -324,6 +325,7 @@ def takes(line: argparse.ArgumentParser) -> None:
     line.add_argument("--first", type=int, default=0, help="the number of the first life")
     line.add_argument("--jobs", type=int, default=len(os.sched_getaffinity(0)))
     line.add_argument("--wrong", nargs="*", metavar="NAME", help="tries wrong programs: these, or all")
+    line.add_argument("--draw", type=int, default=len(wrong_programs.PROGRAMS), help="tries so many of all wrong programs")
 
 
 def tortured(options: argparse.Namespace, library: str) -> None:
@@ -346,7 +348,8 @@ def main(options: argparse.Namespace) -> None:
         tortured(options, library)
         return
     with multiprocessing.Pool(options.jobs) as pool:
-        for name, how in pool.imap_unordered(caught, ((it, options.folder, library) for it in options.wrong or wrong_programs.PROGRAMS)):
+        names = options.wrong or drawn([*wrong_programs.PROGRAMS], options.draw)
+        for name, how in pool.imap_unordered(caught, ((it, options.folder, library) for it in names)):
             if options.wrong:
                 print(f"{name}: {how}")
             check(f"{name} is caught", how != "", True)
