@@ -1,7 +1,7 @@
 -- The first such byte cuts.
-use Rattle.std.proofs.Common.{◌≡◌, ℕ, zero, suc, ◌+◌, ◌<◌, ◌≤◌, Bool, true, false, List, [], ◌∷◌, length, take, drop, slice_index, Option, Some, None, refl, ap, sym, arith, ◌-◌, add-one, take_all}
+use Rattle.std.proofs.Common.{◌≡◌, ℕ, zero, suc, ◌+◌, ◌<◌, true, List, [], ◌∷◌, length, take, drop, Some, None, refl, sym, arith, ◌-◌, add-one, take_all}
 use Rattle.std.proofs.lemmas.List.{length-drop}
-use Rattle.memchr.specs.Find.{Nowhere, NoneBefore, Passes, IsFirstByte, is_byte}
+use Rattle.memchr.specs.Find.{Nowhere, NoneBefore, Passes, is_byte}
 use Rattle.rq_writer.specs.Reading.{cut_at}
 
 -- no byte of the rest is it either
