@@ -2,14 +2,14 @@
 """`rt ci`, with its processors shared out by the chains of crates.
 
 usage: proofs.py [--sparing]
-Run where `rt ci` runs. It says and keeps what `rt ci` does, and ends as that does. But `rt ci` gives a check more than one processor
-only if hardly anything else is ready, so the longest chain of crates takes half an hour on four processors. Here the crate that has
-the longest chain of others behind it gets several of them, all if nothing else is ready. Beside it others get up to half of them
-each, and are nicer than it, so that they take what it leaves idle. With --sparing each check gets one processor, the longest chains first,
-and processors take the least time in all: of rq_record a check on two takes 1.3 times what it takes on one, on four 1.4 times. As for rt, RT_JOBS is the number of processors, and then free
-memory decides only whether a check gets more than one. The tests of a crate that ONLY_RUN names are not proved, nor is a program that it
-names: tests.py runs them. If the toolchain's rt is not made as that of rattle-kit-13f is, its `rt ci` shares processors out by itself, and
-proves these too.
+Run where `rt ci` runs. It says and keeps what `rt ci` does, and ends as that does. But `rt ci` gives a check more than one processor only
+if hardly anything else is ready, so the longest chain of crates takes half an hour on four processors. Here the crate that has the
+longest chain of others behind it gets several of them, all if nothing else is ready. Beside it others get up to half of them each, and
+are nicer than it, so that they take what it leaves idle. With --sparing each check gets one processor, the longest chains first, and
+processors take the least time in all: of rq_record a check on two takes 1.3 times what it takes on one, on four 1.4 times. As for rt,
+RT_JOBS is the number of processors, and then free memory decides only whether a check gets more than one. The tests of a crate that
+ONLY_RUN names are not proved, nor is a program that it names: tests.py runs them. If the toolchain's rt is not made as that of
+rattle-kit-13f is, its `rt ci` shares processors out by itself, and proves these too.
 """
 from __future__ import annotations
 import os, sys
