@@ -2,10 +2,10 @@
 
 use crate::beginning::{Stage, joined, stage_linked, stage_of};
 use rq_judged::{Edge, Why, grain_of};
-use rq_plan::{Gate, Plan};
+use rq_plan::Plan;
 use rq_record::Fault;
 use rq_reopen::FoundLog;
-use rq_restart::Restarted;
+use rq_restart::RedoneFront;
 use std::alloc::Global;
 use std::marker::Sync;
 use std::thread::Threads;
@@ -51,6 +51,16 @@ impl Follower {
         Ok(())
     }
 
+    /// How many bytes came.
+    pub fn total(&self) -> usize {
+        match &self.stage {
+            Stage::Plain(pass) => pass.total(),
+            Stage::Carried(pass) => pass.total(),
+            Stage::Header(first) => first.len(),
+            Stage::Linked(first) => first.len(),
+        }
+    }
+
     /// Whether what comes is a carried file; that is not known before its header came.
     pub fn is_carried(&self) -> bool {
         matches!(self.stage, Stage::Linked(_) | Stage::Carried(_))
@@ -81,19 +91,12 @@ impl Follower {
         }
     }
 
-    /// What a restart answers of the bytes that came.
-    pub fn restarted<R: Threads + Sync, G: Gate + Sync>(
-        self,
-        rt: &R,
-        alloc: Global,
-        plan: &Plan,
-        gate: &G,
-    ) -> Result<Restarted, Fault> {
-        match self.stage {
-            Stage::Plain(pass) | Stage::Carried(pass) => {
-                let (front, total) = pass.redone(alloc)?;
-                front.restarted(rt, alloc, total, plan, gate)
-            }
+    /// The front of the bytes that came, and the state behind it, as `RedoneFront::of` finds them; a
+    /// carried file's, as it is read, as `RedoneFront::redone_at` does. Refused as these are.
+    pub fn redone(&self, alloc: Global) -> Result<RedoneFront, Fault> {
+        match &self.stage {
+            Stage::Plain(pass) => pass.redone(alloc),
+            Stage::Carried(pass) => pass.redone(alloc),
             Stage::Header(_) => Err(Fault::NotALog),
             Stage::Linked(_) => Err(Fault::NoCheckpoint),
         }

@@ -1,7 +1,7 @@
 //! A machine that goes along with the frames of a log, as their bytes come.
 
-use rq_front::{Framer, HEADER_LEN, LOG_LIMIT, Span, chain};
-use rq_judged::{Edge, Why, before, why_of};
+use rq_front::{Framer, HEADER_LEN, LOG_LIMIT, Rest, Span, chain};
+use rq_judged::{Edge, Why, before};
 use rq_live::Kernel;
 use rq_record::{Fault, Version, decode_kept};
 use rq_reopen::FoundLog;
@@ -30,6 +30,16 @@ pub(crate) enum Verdict {
     Lawful,
     Unlawful,
     NoRecord,
+}
+
+// Why the front ends behind all frames that are whole, by what follows them.
+fn why_behind(rest: Rest) -> Why {
+    match rest {
+        Rest::Whole => Why::Whole,
+        Rest::Cut => Why::Cut,
+        Rest::Length => Why::Length,
+        Rest::Digest => Why::Chain,
+    }
 }
 
 // What the machine makes of a body; the record of a lawful one it does.
@@ -99,7 +109,7 @@ impl Pass {
         grain: u32,
     ) -> Result<(), Fault> {
         let found = chain(rt, alloc, &self.window, self.place, grain)?;
-        self.why = self.do_frames(alloc, &found.spans, why_of(found.rest))?;
+        self.why = self.do_frames(alloc, &found.spans, why_behind(found.rest))?;
         self.let_go();
         Ok(())
     }
@@ -120,6 +130,11 @@ impl Pass {
         self.look(rt, alloc, grain)
     }
 
+    /// How many bytes of the log came.
+    pub(crate) fn total(&self) -> usize {
+        self.total
+    }
+
     /// Where the front ends of what came, and why.
     pub(crate) fn end(&self) -> Edge {
         Edge {
@@ -134,15 +149,15 @@ impl Pass {
         &self.window[self.place - 32..]
     }
 
-    /// The front of what came, and how many bytes that are. Refused with `Resources` alone.
-    pub(crate) fn redone(self, alloc: Global) -> Result<(RedoneFront, usize), Fault> {
-        let front = RedoneFront {
+    /// The front of what came, and the state behind it; a copy. Refused with `Resources` alone.
+    pub(crate) fn redone(&self, alloc: Global) -> Result<RedoneFront, Fault> {
+        let state = self.machine.state(alloc)?;
+        Ok(RedoneFront {
             version: self.version,
-            state: self.machine.state(alloc)?,
+            state,
             last: before(&self.window, self.place),
             end: self.end(),
-        };
-        Ok((front, self.total))
+        })
     }
 
     /// Where a manager goes on behind the front.

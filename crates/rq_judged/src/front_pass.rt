@@ -40,7 +40,7 @@ pub fn grain_of(plan: &Plan) -> u32
 }
 
 /// Why the front ends behind all frames of a chain, by what follows them.
-pub fn why_of(rest: Rest) -> Why
+pub(crate) fn why_of(rest: Rest) -> Why
     ensures { why_of result ≡ Ends (rest_of rest) }
 {
     match rest {

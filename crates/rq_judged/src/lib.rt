@@ -17,6 +17,6 @@ pub use checkpoint::Begun;
 pub use ends::{Edge, FrontEnd, Why};
 pub use frames::{before, body_at};
 pub use front::Front;
-pub use front_pass::{grain_of, why_of};
+pub use front_pass::grain_of;
 pub use growing_front::GrowingFront;
 pub use judged::JudgedFront;

@@ -100,14 +100,16 @@ fn report<R>(rt: &R, follower: Follower, plan: &Plan) -> Result<(), Refusal>
 where
     R: Print + Clock + AllocGlobal + Threads + Sync,
 {
-    let restarted = follower
-        .restarted(rt, rt.alloc(), plan, &Open)
-        .map_err(|fault| of_source(fault))?;
+    let alloc = rt.alloc();
+    let front = follower.redone(alloc).map_err(|fault| of_source(fault))?;
+    let total = follower.total();
+    drop(follower);
+    let restarted = front.restarted(rt, alloc, total, plan, &Open)?;
     let mut output = OverWrite::new(Patient {
         rt,
         inner: io::writer(rt),
     });
-    Ok(write_report_by(rt, rt.alloc(), &restarted, plan, &mut output)?)
+    Ok(write_report_by(rt, alloc, &restarted, plan, &mut output)?)
 }
 
 // What stands behind the front, behind the 32 bytes before that.
