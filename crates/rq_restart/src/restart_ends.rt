@@ -215,7 +215,7 @@ pub(crate) fn closed_front<R: Threads + Sync, G: Gate + Sync>(
     gate: &G,
 ) -> Result<Restarted, Fault>
     requires lawful { all_lawful model.Two state (map record_of front.records.items) ≡ true }
-    requires few { state.next + length front.records.items ≤ 2 ^ 63 }
+    requires few { state.next ≤ 2 ^ 62 }
     requires within { front.end ≤ total }
     requires analysed { IsAnalysis model.Two state (map record_of front.records.items) front.analysis }
     ensures answer { IfOk result
@@ -226,7 +226,6 @@ pub(crate) fn closed_front<R: Threads + Sync, G: Gate + Sync>(
     rq_model::runs_are_well_formed();
     rq_model::numbers_after();
     rq_model::crash_is_harmless();
-    rq_model::versions();
     state.is_well_formed();
     let Front {
         mut records,
@@ -270,8 +269,6 @@ pub(crate) fn finish<R: Threads + Sync, G: Gate + Sync>(
         (total - from.front.end) total (why_of from.front.why)) }
     ensures refused { IfErr result (λ e. e ≡ Resources) }
 {
-    rq_model::runs_are_well_formed();
-    rq_model::numbers_after();
     rq_model::versions();
     closed_front(rt, alloc, from.state, from.front, total, plan, gate)
 }

@@ -284,8 +284,8 @@ impl Refusal {
             }
             Refusal::Damaged(bad) => eprintln!(rt; "{bad}"),
             Refusal::FrontEnds(end) => {
-                let (why, used, count) = (end.why.word(), end.used, end.records);
-                eprintln!(rt; "its front ends by {why} at {used} bytes, behind {count} records")
+                let (why, used) = (end.why.word(), end.used);
+                eprintln!(rt; "its front ends by {why} at {used} bytes")
             }
             Refusal::Line(refused) => eprintln!(rt; "{refused}"),
             Refusal::Refused(_, fault) => {
