@@ -57,6 +57,23 @@ impl<F> LogFile<F> {
         }
     }
 
+    /// Over a file of so many bytes, all of which its holder wrote and synced: a `rewrite` has nothing to
+    /// write again.
+    pub fn of_synced(file: F, len: usize) -> LogFile<F>
+        ensures { result.error ≡ None }
+    {
+        LogFile {
+            file,
+            read: None,
+            kept: 0,
+            len: len as u64,
+            synced: len as u64,
+            shown: 0,
+            error: None,
+            is_cut_back: false,
+        }
+    }
+
     /// The file.
     pub fn file(&self) -> &F
         ensures { result.now ≡ self.now.file }

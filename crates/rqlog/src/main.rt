@@ -1,12 +1,14 @@
-//! The program `rqlog`: begins logs, appends to them, serves them, makes them whole after a crash, marks
-//! them with checkpoints, and carries them on into new files.
+//! The program `rqlog`: begins logs, appends to them, serves them, goes along with them, makes them whole
+//! after a crash, marks them with checkpoints, and carries them on into new files.
 #![tactic(auto)]
 
 mod checkpoints;
 mod commands;
+mod copies;
 mod damage;
 mod expected;
 mod files;
+mod follow;
 mod fronts;
 mod inputs;
 mod lines;
@@ -18,6 +20,7 @@ mod serve;
 mod words;
 
 use crate::commands::{carry, checkpoint, close, new_log, print_audit, print_report};
+use crate::follow::follow;
 use crate::lines::append;
 use crate::recovery::recover;
 use crate::refusal::Refusal;
@@ -89,6 +92,9 @@ where
         return new_log(rt, words);
     }
     let plan = plan_of(words)?;
+    if name == "follow" {
+        return follow(rt, &plan, words);
+    }
     let path = words.get_str("LOG").unwrap_or("-");
     match name {
         "append" => append(rt, path, &plan, words),

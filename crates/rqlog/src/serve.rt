@@ -1,7 +1,6 @@
 //! A log is served to one program, line by line.
 
-ghost use Rattle.std.specs.Arc.{arc_slice_items};
-ghost use Rattle.std.specs.Prelude.{IfOk, length};
+ghost use Rattle.std.specs.Prelude.{◌≡◌, IfOk, None, length};
 ghost use Rattle.rq_live.specs.Kernels.{StandsWithin};
 
 use crate::damage::BadEnd;
@@ -13,6 +12,7 @@ use rq_device::WINDOW;
 use rq_file::Patient;
 use rq_front::header_of;
 use rq_journal::{Damage, Fault, Plan, Why};
+use rq_judged::Edge;
 use rq_live::{Kernel, Manager, NotDone};
 use rq_log_file::{HeldLog, Hold, LogFile};
 use rq_record::{LogBytes, Version};
@@ -25,13 +25,13 @@ use std::rt::Clock;
 use std::sync::ArcSlice;
 use std::thread::Threads;
 
-// What is told of a log before it is served.
+/// What is told of a log before it is served.
 #[derive(Clone, Copy)]
-struct Greeting {
-    // How many units were open, which are aborted.
-    aborted: usize,
-    // How many bytes behind the front were cut off.
-    cut: usize,
+pub(crate) struct Greeting {
+    /// How many units were open, which are aborted.
+    pub(crate) aborted: usize,
+    /// How many bytes behind the front were cut off.
+    pub(crate) cut: usize,
 }
 
 // Makes a log without records, unless something stands there.
@@ -60,10 +60,10 @@ fn plain_log<R: AllocGlobal>(rt: &R, held: &mut HeldLog) -> Result<ArcSlice<u8>,
     Ok(ArcSlice::from_vec(read.bytes)?)
 }
 
-// Whether a crash can have left so many bytes behind a front. Frames that are right can stand behind a
-// page that was not written: a crash may leave any of the pages that were not synced. But a manager
-// leaves no more bytes than these unsynced.
-fn is_left_by_crash(damage: Option<Damage>, behind: usize) -> bool {
+/// Whether a crash can have left so many bytes behind a front. Frames that are right can stand behind a
+/// page that was not written: a crash may leave any of the pages that were not synced. But a manager
+/// leaves no more bytes than these unsynced.
+pub(crate) fn is_left_by_crash(damage: Option<Damage>, behind: usize) -> bool {
     match damage {
         None => true,
         Some(Damage::Right(_) | Damage::Unsearched(_)) => behind <= WINDOW,
@@ -93,16 +93,21 @@ where
     }
 }
 
-// Keeps what is cut off, if it is more than the beginning of a frame.
-fn keep_cut<R>(rt: &R, path: &str, opening: &Opening) -> Result<(), Refusal>
+/// Keeps what is cut off behind a front that ends here, if it is more than the beginning of a frame.
+pub(crate) fn keep_cut<R>(
+    rt: &R,
+    path: &str,
+    end: Edge,
+    damage: Option<Damage>,
+    cut: &[u8],
+) -> Result<(), Refusal>
 where
     R: Files<File = File> + AllocGlobal,
 {
-    let end = opening.found.end;
-    if opening.damage.is_none() && matches!(end.why, Why::Cut) {
+    if damage.is_none() && matches!(end.why, Why::Cut) {
         return Ok(());
     }
-    kept_cut(rt, path, end.used, &opening.cut)?;
+    kept_cut(rt, path, end.used, cut)?;
     Ok(())
 }
 
@@ -131,21 +136,21 @@ fn stopped(stream: Stream, error: Option<io::Error>) -> Refusal {
     }
 }
 
-// Serves a log that was read, which is held: goes on behind its front, greets, and does what lines ask
-// for until the input ends, or one closes.
-fn serve_on<R>(
+/// Serves a log in a file, which has so many bytes: goes on behind its front, greets, and does what
+/// lines ask for until the input ends, or one closes.
+pub(crate) fn serve_on<R>(
     rt: &R,
-    held: HeldLog,
-    whole: ArcSlice<u8>,
+    file: LogFile<HeldLog>,
+    stands: usize,
     kernel: Kernel,
     greeting: Greeting,
 ) -> Result<(), Refusal>
 where
     R: Input + Print + Clock + AllocGlobal,
-    requires { StandsWithin kernel (length (arc_slice_items whole)) }
+    requires works { file.error ≡ None }
+    requires within { StandsWithin kernel stands }
 {
-    let stands = whole.len();
-    let mut manager = Manager::over(LogFile::new(held, Some(whole)), kernel);
+    let mut manager = Manager::over(file, kernel);
     match manager.resume(rt.alloc(), stands) {
         Ok(()) => {}
         Err(NotDone::Full) => return Err(Refusal::from(Fault::TooLarge)),
@@ -177,11 +182,13 @@ where
     let mut held = HeldLog::open(rt, path, Hold::ToWrite)?;
     let whole = plain_log(rt, &mut held)?;
     let opening = opened(rt, whole.as_slice(), plan)?;
-    keep_cut(rt, path, &opening)?;
-    held.expect_as_read(rt, whole.len())?;
+    let stands = whole.len();
+    keep_cut(rt, path, opening.found.end, opening.damage, &opening.cut)?;
+    held.expect_as_read(rt, stands)?;
     let greeting = Greeting {
         aborted: opening.found.kernel.open_count(),
         cut: opening.cut.len(),
     };
-    serve_on(rt, held, whole, opening.found.kernel, greeting)
+    let file = LogFile::new(held, Some(whole));
+    serve_on(rt, file, stands, opening.found.kernel, greeting)
 }
