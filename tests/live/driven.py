@@ -1,19 +1,21 @@
-"""Quick, of 400 sequences, behind the gate's proofs; by hand of 10,000. Drives a queue manager over memory by random calls, and holds each
+"""In the gate, of 400 sequences; by hand of 10,000. Drives a queue manager over memory by random calls, and holds each
 answer, and the log that it writes, beside the second program in Python; then lets it go on from what crashes leave of that log.
 
-The program `rqdrive` takes a line a call, and answers each with a line. The first is `new VERSION`. A line of a script is done by the call
-of its kind, and a BEGIN gets the next number whatever it tells; `take LINE` does the record as it is told; `later UNIT` is a COMMIT that
+The program `rqdrive` is built without a proof by tools/tests.py, which needs the toolchain, unless one is named that was built. It takes a line
+a call, and answers each with a line. The first is `new VERSION`. A line of a script is done by the call of its kind, and a BEGIN gets the next
+number whatever it tells; `take LINE` does the record as it is told; `later UNIT` is a COMMIT that
 need not be safe yet; `settle` makes all safe; `look WHAT` shows something; `left SYNCED HEX` lets another manager go on behind these bytes,
 of which so many were synced, and begins a unit there. What is not lawful is answered by a rule that it breaks.
 """
 from __future__ import annotations
-import argparse, multiprocessing, os, random, struct, subprocess
-from collections.abc import Iterable
+import argparse, itertools, multiprocessing, os, pickle, random, re, struct, subprocess, sys
+from collections.abc import Iterable, Iterator
+from typing import NamedTuple
 
 import frames as records
 from frames import HEADER, header_of, listed
 from second import DRAWN, Machine, Note, Restart, record_of
-from trying import TOP, check
+from trying import TOP, check, put
 
 # So many lines a sequence has before crashes.
 LENGTH = 40
@@ -21,6 +23,9 @@ LENGTH = 40
 OTHERS = {"take": 3, "later": 6, "settle": 3, "queues": 1, "units": 3, "first": 6, "last": 4, "logged": 3}
 # So many crashes are tried, but of one sequence of so many a crash at each length; and so long is the garbage that one may leave.
 CRASHES, EACH, GARBAGE = 6, 100, 200
+# Answers to so many bytes are asked of one run of the program, and the first that goes beyond: it may not print more than a MiB. A run may
+# take so many seconds.
+MOST, SECONDS = 400_000, 60
 GREATEST = 2**64 - 1
 NAMES = [b"ann", b"an", b"b-1", b"c.d_e"]
 
@@ -307,34 +312,103 @@ class Sequence:
         return [left for left in (self.left(*it) for it in crashes) if left is not None]
 
 
-def driven(task: tuple[str, int, bool]) -> list[tuple[str, str, str]]:
-    """Drives a sequence: each line that is answered otherwise, its answer, and the right one."""
-    program, number, tries_each = task
+# --- what is asked of the program --------------------------------------------------------------------------------------
+
+Answers = list[tuple[str, ...]]
+
+
+class Case(NamedTuple):
+    """What one run of the program is asked, and for each line each answer that is right."""
+    name: str
+    lines: list[bytes]
+    answers: Answers
+
+    def wrong(self, status: int, got: list[str]) -> list[tuple[str, str, str]]:
+        """Each line that is answered otherwise, its answer, and the right one."""
+        found = [(f"sequence {self.name}: {line.decode()}", answer, " or ".join(right))
+                 for line, answer, right in zip(self.lines[1:], got, self.answers) if answer not in right]
+        if (status, len(got)) != (0, len(self.answers)):
+            found.append((f"sequence {self.name}: status and count of answers", f"{status}, {len(got)}", f"0, {len(self.answers)}"))
+        return found
+
+
+def parts_of(it: Sequence, before: int) -> Iterator[tuple[list[bytes], Answers]]:
+    """The sequence up to its crashes, which begin behind so many answers, and then some of these at a time: they ask nothing of what was
+    done before."""
+    first, *lines = it.lines
+    yield [first, *lines[:before]], it.answers[:before]
+    ends = itertools.accumulate(len(right[0]) for right in it.answers[before:])
+    for _, some in itertools.groupby(zip(ends, lines[before:], it.answers[before:]), lambda one: one[0] // MOST):
+        part = [*some]
+        yield [first, *(line for _, line, _ in part)], [right for _, _, right in part]
+
+
+def asked(task: tuple[str, int, bool]) -> list[tuple[str, str, str]]:
+    """Draws a sequence: its cases go into the folder, each as what is sent, and beside it as what is right. What is wrong of the log alone."""
+    folder, number, tries_each = task
     it = Sequence(random.Random(number), 1 + number % 2)
     it.settle()
     it.logged()
+    before = len(it.answers)
     lost = it.each_crash() if tries_each else it.crashes(CRASHES)
-    ended = subprocess.run([program], input=b"".join(line + b"\n" for line in it.lines), stdout=subprocess.PIPE)
-    got = ended.stdout.decode().split("\n")[:-1]
-    name = f"sequence {number}"
-    wrong = [(f"{name}: what a crash leaves", left.hex(), "all that was safe") for left in lost]
-    wrong += [(f"{name}: {line.decode()}", answer, " or ".join(right))
-              for line, answer, right in zip(it.lines[1:], got, it.answers) if answer not in right]
-    if (ended.returncode, len(got)) != (0, len(it.answers)):
-        wrong.append((f"{name}: status and count of answers", f"{ended.returncode}, {len(got)}", f"0, {len(it.answers)}"))
-    return wrong
+    for at, (lines, answers) in enumerate(parts_of(it, before)):
+        case = Case(f"{number}.{at}", lines, answers)
+        put(os.path.join(folder, "sent", case.name), b"".join(line + b"\n" for line in lines))
+        put(os.path.join(folder, "right", case.name), pickle.dumps(case))
+    return [(f"sequence {number}: what a crash leaves", left.hex(), "all that was safe") for left in lost]
+
+
+# --- what it answers -----------------------------------------------------------------------------------------------------
+
+def ended_of(task: tuple[str, str]) -> tuple[str, int, list[str]]:
+    """How a built program ends over a file."""
+    program, path = task
+    with open(path, "rb") as sent:
+        ended = subprocess.run([program], stdin=sent, stdout=subprocess.PIPE)
+    return os.path.basename(path), ended.returncode, ended.stdout.decode().split("\n")[:-1]
+
+
+def tried(folder: str) -> Iterator[tuple[str, int, list[str]]]:
+    """How the program ends over each file, built without a proof. What else is said of it is told."""
+    words = [sys.executable, os.path.join(TOP, "tools", "tests.py"), "rqdrive", str(SECONDS), folder]
+    with subprocess.Popen(words, stdin=subprocess.DEVNULL, stdout=subprocess.PIPE, text=True, errors="replace") as going:
+        got: list[str] | None = None
+        for line in going.stdout:
+            begun, end = re.match("== [0-9.]+$", line), re.match(r"case=(\S+) run=(\w+) (?:status=(\d+))?", line)
+            if begun:
+                got = []
+            elif end:
+                yield end[1], int(end[3]) if end[2] == "ended" and end[3] else -1, got or []
+                got = None
+            elif got is not None:
+                got.append(line.rstrip("\n"))
+            else:
+                print(line, end="")
+    check("status of tools/tests.py rqdrive", going.returncode, 0)
 
 
 def takes(line: argparse.ArgumentParser) -> None:
     line.add_argument("--sequences", type=int, default=400)
     line.add_argument("--from", dest="first", type=int, default=0, help="the number of the first sequence")
-    line.add_argument("--drive", default=os.path.join(TOP, "crates", "rqdrive", "out", "rqdrive"), help="the built program rqdrive")
+    line.add_argument("--drive", default="", help="a built program rqdrive")
 
 
 def main(options: argparse.Namespace) -> None:
-    program = os.path.abspath(options.drive)
-    tasks = ((program, options.first + number, number % EACH == 0) for number in range(options.sequences))
+    sent, right = (os.path.join(options.folder, it) for it in ("sent", "right"))
+    for it in (sent, right):
+        os.makedirs(it)
+    tasks = ((options.folder, options.first + number, number % EACH == 0) for number in range(options.sequences))
     with multiprocessing.Pool(len(os.sched_getaffinity(0))) as pool:
-        for wrong in pool.imap(driven, tasks, chunksize=8):
-            for name, got, want in wrong or [("all answers", "", "")]:
+        for wrong in pool.imap_unordered(asked, tasks, chunksize=8):
+            for name, got, want in wrong or [("what crashes leave", "", "")]:
                 check(name, got, want)
+        left = {*os.listdir(right)}
+        program = os.path.abspath(options.drive)
+        ran = pool.imap_unordered(ended_of, ((program, os.path.join(sent, it)) for it in left)) if options.drive else tried(sent)
+        for name, status, answers in ran:
+            left.discard(name)
+            with open(os.path.join(right, name), "rb") as file:
+                case: Case = pickle.load(file)
+            for what, got, want in case.wrong(status, answers) or [("all answers", "", "")]:
+                check(what, got, want)
+    check("sequences that were not asked", sorted(left), [])

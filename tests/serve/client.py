@@ -34,6 +34,13 @@ def page() -> None:
     check("the page's examples", (found.failed, found.attempted > 20), (0, True))
 
 
+def first_screen() -> None:
+    """The lines that the repository's first page shows do what they say."""
+    lines = PYTHON.findall(text_in(os.path.join(TOP, "README.md")))[0]
+    done = subprocess.run([sys.executable, "-c", lines], env={**os.environ, "PYTHONPATH": PACKAGE}, capture_output=True, text=True)
+    check("the first page's lines", (done.returncode, done.stdout, done.stderr, len(lines.split("\n")) < 13), (0, "b'pack 7 boxes'\n", "", True))
+
+
 def started() -> tuple[Manager, Queue]:
     m = Manager("client.log")
     return m, m.define("jobs", 3, m.define("dead"))
@@ -257,7 +264,7 @@ def installed() -> None:
     check("what is installed", sorted(set(eval(found.stdout)) - {"__pycache__"}), sorted(files))
 
 
-PARTS = [page, refusals, units, carries, threads, pipes, lost, opening, desk, types, installed]
+PARTS = [page, first_screen, refusals, units, carries, threads, pipes, lost, opening, desk, types, installed]
 
 
 def main(options: object) -> None:

@@ -3,8 +3,9 @@ killed anywhere, whose writes and syncs fail, whose disk is full, and whose host
 garbage. Each second life has a log that goes on in new files. Two judges look on. One is the model, which knows what each line answers and writes;
 the other knows only what the clients know.
 
-With --wrong it tries wrong programs, which are made of the stand-in: each is caught. With --kills so many runs end by a crash. With --first it begins
-with the life of this number: each life is a log that outlives so many crashes, and the same number makes the same life, but for when a kill comes.
+With --wrong it tries wrong programs, which are made of the stand-in: each is caught. With --draw it tries so many of them, drawn by the sum of the
+clone's files. With --kills so many runs end by a crash. With --first it begins with the life of this number: each life is a log that outlives so many
+crashes, and the same number makes the same life, but for when a kill comes.
 With --carry each life has a log that goes on in new files.
 """
 from __future__ import annotations
@@ -21,7 +22,7 @@ from frames import CARRIED_AT, carried_header_of
 from model import CARRY_AT, Model, Start, begun
 from served import UNANSWERED, Served
 from standin import is_left
-from trying import HERE, check, content
+from trying import HERE, check, content, drawn
 
 LOG = "orders.log"
 # Runs of a life; the most turns of a run, and of calls on files before one of them fails.
@@ -410,6 +411,7 @@ def takes(line: argparse.ArgumentParser) -> None:
     line.add_argument("--jobs", type=int, default=len(os.sched_getaffinity(0)))
     line.add_argument("--carry", action="store_true", help="each log goes on in new files")
     line.add_argument("--wrong", nargs="*", metavar="NAME", help="tries wrong programs: these, or all")
+    line.add_argument("--draw", type=int, default=len(wrong_programs.PROGRAMS), help="tries so many of all wrong programs")
 
 
 def tortured(options: argparse.Namespace, library: str) -> None:
@@ -432,7 +434,8 @@ def main(options: argparse.Namespace) -> None:
         tortured(options, library)
         return
     with multiprocessing.Pool(options.jobs) as pool:
-        for name, how in pool.imap_unordered(caught, ((it, options.folder, library, options.carry) for it in options.wrong or wrong_programs.PROGRAMS)):
+        names = options.wrong or drawn([*wrong_programs.PROGRAMS], options.draw)
+        for name, how in pool.imap_unordered(caught, ((it, options.folder, library, options.carry) for it in names)):
             if options.wrong:
                 print(f"{name}: {how}")
             check(f"{name} is caught", how != "", True)

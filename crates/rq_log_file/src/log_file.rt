@@ -57,16 +57,17 @@ impl<F> LogFile<F> {
         }
     }
 
-    /// Over a file to which so many bytes were written, all that it has, and synced. It stands at its end.
-    pub fn written(file: F, len: u64) -> LogFile<F>
+    /// Over a file of so many bytes, all of which its holder wrote and synced: a `rewrite` has nothing to
+    /// write again.
+    pub fn of_synced(file: F, len: usize) -> LogFile<F>
         ensures { result.error ≡ None }
     {
         LogFile {
             file,
             read: None,
             kept: 0,
-            len,
-            synced: len,
+            len: len as u64,
+            synced: len as u64,
             shown: 0,
             error: None,
             is_cut_back: false,

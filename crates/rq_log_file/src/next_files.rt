@@ -84,6 +84,6 @@ impl NextFiles {
         let new = names.make(rt, &self.old, first)?;
         self.old = self.settle(rt, &names, &new)?;
         let held = HeldLog::over(NamedFile::under(new, name));
-        Ok(LogFile::written(held, first.len() as u64))
+        Ok(LogFile::of_synced(held, first.len()))
     }
 }

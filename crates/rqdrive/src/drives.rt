@@ -5,14 +5,16 @@ ghost use Rattle.rq_live.specs.Managers.{IsInOrder, stand_of};
 use crate::answers::{Answer, told};
 use crate::looks::{Shows, looked};
 use crate::openings::gone_on;
-use crate::times::time;
+use crate::times::{time, time_file};
 use crate::words::{Unanswered, first_word, number_in};
 use rq_device::{Device, Memory};
 use rq_live::{Manager, NotDone};
 use rq_record::{Record, UnitNo, Version};
 use rq_writer::{ScriptLine, line_at};
 use std::alloc::Global;
+use std::fs::{File, Files};
 use std::rt::Clock;
+use std::str;
 use std::thread::Threads;
 
 // Does a record by the call of its kind. A BEGIN's own number does not count.
@@ -166,16 +168,31 @@ where
     Ok(())
 }
 
+// Times a manager over a new file: the words are a count, and the file's path.
+fn timed_file<R>(rt: &R, words: &[u8]) -> Result<(), Unanswered>
+where
+    R: Files<File = File> + Print + Clock + AllocGlobal,
+{
+    let (count, path) = first_word(words);
+    match str::from_utf8(path) {
+        Ok(path) => time_file(rt, number_in(count)?, path),
+        Err(_) => Err(Unanswered::Line),
+    }
+}
+
 /// Drives a new manager of the version that the first line tells by the lines behind it; or, if
 /// that tells a count, times a manager.
 pub(crate) fn drive_new<R>(rt: &R, lines: &[u8]) -> Result<(), Unanswered>
 where
-    R: Print + Clock + AllocGlobal + Threads + Sync,
+    R: Files<File = File> + Print + Clock + AllocGlobal + Threads + Sync,
 {
     let (head, rest) = line_at(1, lines)?;
     let (word, told) = first_word(head);
     if word == b"time".as_slice() {
         return time(rt, number_in(told)?);
+    }
+    if word == b"file".as_slice() {
+        return timed_file(rt, told);
     }
     let version = if told == b"1".as_slice() {
         Version::One

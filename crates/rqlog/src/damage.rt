@@ -130,8 +130,8 @@ pub(crate) fn tell_left_out<R: Eprint>(rt: &R, left: Option<LeftOut>) {
     );
 }
 
-// The same damage of a log, before whose last bytes stand so many.
-fn moved(damage: Damage, before: usize) -> Damage {
+/// The same damage of a log, before whose last bytes stand so many.
+pub(crate) fn moved(damage: Damage, before: usize) -> Damage {
     match damage {
         Damage::Right(place) => Damage::Right(place.saturating_add(before)),
         Damage::Unsearched(place) => Damage::Unsearched(place.saturating_add(before)),

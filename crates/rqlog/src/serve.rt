@@ -1,7 +1,6 @@
 //! A log is served to one program, line by line.
 
-ghost use Rattle.std.specs.Arc.{arc_slice_items};
-ghost use Rattle.std.specs.Prelude.{IfOk, length};
+ghost use Rattle.std.specs.Prelude.{◌≡◌, IfOk, None, length};
 ghost use Rattle.rq_live.specs.Kernels.{StandsWithin};
 
 use crate::carrier::Carrier;
@@ -14,6 +13,7 @@ use rq_device::WINDOW;
 use rq_file::Patient;
 use rq_front::{CARRIED_AT, FRAME_LEN, HEADER_LEN, header_of, is_carried};
 use rq_journal::{Damage, Fault, Plan, Why};
+use rq_judged::Edge;
 use rq_live::{Kernel, Manager, NotDone};
 use rq_log_file::{HeldLog, Hold, LogFile};
 use rq_record::Version;
@@ -26,13 +26,16 @@ use std::rt::Clock;
 use std::sync::ArcSlice;
 use std::thread::Threads;
 
-// What is told of a log before it is served.
+/// The bytes at which a log is carried on, if nothing else is told.
+pub(crate) const CARRY_AT: usize = 3_221_225_472;
+
+/// What is told of a log before it is served.
 #[derive(Clone, Copy)]
-struct Greeting {
-    // How many units were open, which are aborted.
-    aborted: usize,
-    // How many bytes behind the front were cut off.
-    cut: usize,
+pub(crate) struct Greeting {
+    /// How many units were open, which are aborted.
+    pub(crate) aborted: usize,
+    /// How many bytes behind the front were cut off.
+    pub(crate) cut: usize,
 }
 
 // Makes a log without records, unless something stands there.
@@ -52,10 +55,10 @@ where
     }
 }
 
-// Whether a crash can have left so many bytes behind a front. Frames that are right can stand behind a
-// page that was not written: a crash may leave any of the pages that were not synced. But a manager
-// leaves no more bytes than these unsynced.
-fn is_left_by_crash(damage: Option<Damage>, behind: usize) -> bool {
+/// Whether a crash can have left so many bytes behind a front. Frames that are right can stand behind a
+/// page that was not written: a crash may leave any of the pages that were not synced. But a manager
+/// leaves no more bytes than these unsynced.
+pub(crate) fn is_left_by_crash(damage: Option<Damage>, behind: usize) -> bool {
     match damage {
         None => true,
         Some(Damage::Right(_) | Damage::Unsearched(_)) => behind <= WINDOW,
@@ -86,8 +89,9 @@ where
     }
 }
 
-// How many bytes a log began with: its header; or that of a carried file, its link and its first frame.
-fn begun_with(log: &[u8]) -> usize {
+/// How many bytes a log began with that has these first ones: its header; or that of a carried file, its
+/// link and its first frame.
+pub(crate) fn begun_with(log: &[u8]) -> usize {
     let Some(len) = log.get(CARRIED_AT..CARRIED_AT + 4) else {
         return HEADER_LEN;
     };
@@ -98,16 +102,21 @@ fn begun_with(log: &[u8]) -> usize {
     CARRIED_AT + FRAME_LEN + len as usize
 }
 
-// Keeps what is cut off, if it is more than the beginning of a frame.
-fn keep_cut<R>(rt: &R, path: &str, opening: &Opening) -> Result<(), Refusal>
+/// Keeps what is cut off behind a front that ends here, if it is more than the beginning of a frame.
+pub(crate) fn keep_cut<R>(
+    rt: &R,
+    path: &str,
+    end: Edge,
+    damage: Option<Damage>,
+    cut: &[u8],
+) -> Result<(), Refusal>
 where
     R: Files<File = File> + AllocGlobal,
 {
-    let end = opening.found.end;
-    if opening.damage.is_none() && matches!(end.why, Why::Cut) {
+    if damage.is_none() && matches!(end.why, Why::Cut) {
         return Ok(());
     }
-    kept_cut(rt, path, end.used, &opening.cut)?;
+    kept_cut(rt, path, end.used, cut)?;
     Ok(())
 }
 
@@ -182,24 +191,24 @@ where
     }
 }
 
-// Serves a log that was read, which is held: goes on behind its front, greets, and does what lines ask
-// for.
-fn serve_on<R>(
+/// Serves a log in a file, which has so many bytes and this path: goes on behind its front, greets, and
+/// does what lines ask for until the input ends, or one closes. It is carried on at the point.
+pub(crate) fn serve_on<R>(
     rt: &R,
     path: &str,
-    held: HeldLog,
-    whole: ArcSlice<u8>,
+    file: LogFile<HeldLog>,
+    stands: usize,
     kernel: Kernel,
     greeting: Greeting,
-    least: usize,
+    point: CarryPoint,
 ) -> Result<(), Refusal>
 where
     R: Files<File = File> + Input + Print + Eprint + Clock + AllocGlobal,
-    requires { StandsWithin kernel (length (arc_slice_items whole)) }
+    requires works { file.error ≡ None }
+    requires within { StandsWithin kernel stands }
 {
-    let (stands, begins) = (whole.len(), begun_with(&whole));
-    let carrier = Carrier::new(rt, path, &held)?;
-    let mut manager = Manager::over(LogFile::new(held, Some(whole)), kernel);
+    let carrier = Carrier::new(rt, path, file.file())?;
+    let mut manager = Manager::over(file, kernel);
     keep_name(rt, &carrier, &manager)?;
     match manager.resume(rt.alloc(), stands) {
         Ok(()) => {}
@@ -207,7 +216,7 @@ where
         Err(_) => return Err(why_spent(manager.device(), Stream::Log)),
     }
     greet(rt, &manager, greeting)?;
-    serve_lines(rt, &mut manager, carrier, CarryPoint::new(least, begins))
+    serve_lines(rt, &mut manager, carrier, point)
 }
 
 /// Serves the queues of a log, plain or carried on, to the program at standard input and output. A log
@@ -227,13 +236,15 @@ where
     }
     let mut held = HeldLog::open(rt, path, Hold::ToWrite)?;
     let mut bytes = bytes_from(rt, &*held.file())?;
+    let (stands, begins) = (bytes.len(), begun_with(&bytes));
     let opening = opened(rt, &mut bytes, plan)?;
-    keep_cut(rt, path, &opening)?;
-    held.expect_as_read(rt, bytes.len())?;
+    keep_cut(rt, path, opening.found.end, opening.damage, &opening.cut)?;
+    held.expect_as_read(rt, stands)?;
     let greeting = Greeting {
         aborted: opening.found.kernel.open_count(),
         cut: opening.cut.len(),
     };
     let whole = ArcSlice::from_vec(bytes)?;
-    serve_on(rt, path, held, whole, opening.found.kernel, greeting, least)
+    let (file, kernel) = (LogFile::new(held, Some(whole)), opening.found.kernel);
+    serve_on(rt, path, file, stands, kernel, greeting, CarryPoint::new(least, begins))
 }

@@ -32,7 +32,7 @@ const COUNT: Word = Word(
     "How many threads work, 1 to 64",
 );
 
-static COMMANDS: [Subcommand; 9] = [
+static COMMANDS: [Subcommand; 10] = [
     Subcommand {
         name: "new",
         about: "Makes a log that has no record yet, in version 2",
@@ -93,6 +93,28 @@ static COMMANDS: [Subcommand; 9] = [
                 "carry-at",
                 WithOr("BYTES", Word::SMALL, "3221225472"),
                 "Goes on in a new log when this one has so many bytes",
+            ),
+            Word::WORKERS,
+        ],
+    },
+    Subcommand {
+        name: "follow",
+        about: "Goes along with a log that comes, and prints its report where it ends, or serves a copy",
+        words: &[
+            Word(
+                "COPY",
+                ValueOr(Word::TEXT, "-"),
+                "The file of a copy that is written as the log comes, or - for none",
+            ),
+            Word(
+                "from",
+                WithOr("FILE", Word::TEXT, "-"),
+                "A pipe or a file that the log comes from, or - for standard input",
+            ),
+            Word(
+                "serve",
+                Flag,
+                "Serves the copy where the log ends, in place of the report",
             ),
             Word::WORKERS,
         ],
