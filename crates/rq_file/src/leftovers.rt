@@ -1,6 +1,6 @@
 //! Whether a crash left a file that was being written, or somebody else put it there.
 
-ghost use Rattle.std.specs.Prelude.{◌≡◌, ◌≤◌, length};
+ghost use Rattle.std.specs.Prelude.{◌≡◌, take};
 ghost use Rattle.rq_file.specs.Leftovers as spec;
 
 /// So many bytes of a log that another one goes on in tell the length of its first frame: the header,
@@ -31,6 +31,16 @@ fn is_blank(begins: &[u8]) -> bool
     begins.iter().all(|byte| *byte == 0)
 }
 
+// The bytes of the header, as far as they are there.
+fn header_in(begins: &[u8]) -> &[u8]
+    ensures { result.now ≡ take 40 begins.now }
+{
+    if begins.len() <= HEADER {
+        return begins;
+    }
+    begins.split_at(HEADER).0
+}
+
 /// Whether a crash can have left a file of so many bytes, which begins so, of a new log that begins
 /// with those bytes: nothing of it but zeros, or a beginning of its header, with at most one frame
 /// behind it. `begins` are the first 76 bytes, or all if there are fewer.
@@ -40,6 +50,5 @@ pub(crate) fn is_left(begins: &[u8], len: u64, first: &[u8]) -> bool
     if len <= BEGUN as u64 && is_blank(begins) {
         return true;
     }
-    let header = &begins[..begins.len().min(HEADER)];
-    has_one_frame(begins, len) && first.starts_with(header)
+    has_one_frame(begins, len) && first.starts_with(header_in(begins))
 }

@@ -94,7 +94,9 @@ impl Succession {
             return Err(others("somebody else put another file in the log's place"));
         }
         match fs::symlink_metadata(rt, self.kept.as_str()) {
-            Ok(found) if !is_same(&found, old) => Err(others("another file has the name that the old log gets")),
+            Ok(found) if !is_same(&found, old) => Err(others(
+                "another file has the name that the old log gets",
+            )),
             _ => Ok(()),
         }
     }

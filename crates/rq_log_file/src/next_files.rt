@@ -20,7 +20,10 @@ pub struct NextFiles {
 fn why(not: NotHeld) -> io::Error {
     match not {
         NotHeld::Failed(error) => error,
-        NotHeld::Locked | NotHeld::Changed => io::Error::new(ErrorKind::WouldBlock, "another program holds the new log"),
+        NotHeld::Locked | NotHeld::Changed => io::Error::new(
+            ErrorKind::WouldBlock,
+            "another program holds the new log",
+        ),
     }
 }
 

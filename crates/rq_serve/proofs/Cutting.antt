@@ -31,5 +31,5 @@ pub first_cuts : (byte : ℕ) (bytes : List ℕ) (at : ℕ) → NoneBefore (Pass
     → Some (take at bytes, take (length bytes - (at + 1)) (drop (at + 1) bytes)) ≡ cut_at byte bytes
 first_cuts byte bytes at before here =
     let all : take (length bytes - (at + 1)) (drop (at + 1) bytes) ≡ drop (at + 1) bytes
-        = take_all _ _ (omega (arith, length-drop (at + 1) bytes)) in
+    = take_all _ _ (omega (arith, length-drop (at + 1) bytes)) in
     rw (all, add-one at) (sym (first_cuts_at byte bytes at before.high before.before here))

@@ -1,6 +1,7 @@
 //! What is done for each request.
 
-ghost use Rattle.std.specs.Prelude.{◌≡◌, true, IsErr, IfErr};
+ghost use Rattle.std.specs.Prelude.{◌≡◌, true, IsErr, IfErr, IfOk};
+ghost use Rattle.rq_live.specs.Carries.{CarriesOn};
 ghost use Rattle.rq_live.specs.Managers.{IsInOrder, stand_of};
 ghost use Rattle.rq_serve.specs.Serving.{DoomsIfRefused, DoomsUnit, KeepsBut, NeverCommits};
 ghost use Rattle.rq_serve.specs.Units.{is_doomed, KeepsDoomed, KeepsOthers};
@@ -309,7 +310,9 @@ where
     D: Device + Drop,
     S: Successor<D> + Operator,
     requires { IsInOrder (stand_of D.written D.synced D.doubted D.failed m.old) }
-    ensures { IsInOrder (stand_of D.written D.synced D.doubted D.failed m.new) }
+    ensures order { IsInOrder (stand_of D.written D.synced D.doubted D.failed m.new) }
+    ensures carried { IfOk result (CarriesOn (stand_of D.written D.synced D.doubted D.failed m.old)
+        (stand_of D.written D.synced D.doubted D.failed m.new)) }
 {
     match m.carry(alloc, next) {
         Ok(records) => Ok(records),

@@ -1,6 +1,6 @@
 //! When a served log is carried on by itself, and who hears of that.
 
-ghost use Rattle.std.specs.Prelude.{◌≡◌, ◌<◌, ◌≤◌};
+ghost use Rattle.std.specs.Prelude.{◌≡◌, ◌≤◌, ◌&&◌, ◌/◌, ℕ, nat_le};
 ghost use Rattle.rq_serve.specs.Carrying as spec;
 
 use crate::refusals::Refused;

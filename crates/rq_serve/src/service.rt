@@ -5,7 +5,7 @@ ghost use Rattle.std.specs.Prelude.{string_bytes};
 ghost use Rattle.std.specs.Io.KnownBytes.{Appends};
 ghost use Rattle.rq_live.specs.Managers.{IsInOrder, Settles, stand_of};
 ghost use Rattle.rq_writer.specs.Reading.{cut_at};
-ghost use Rattle.rq_serve.specs.Serving.{EndsLine};
+ghost use Rattle.rq_serve.specs.Serving.{EndsLine, HasSettled};
 
 use crate::deeds::carry;
 use crate::operators::{CarryPoint, Operator};
@@ -256,7 +256,9 @@ where
     requires order { IsInOrder (stand_of D.written D.synced D.doubted D.failed m.old) }
     requires reads { I.faults input.old < 18446744073709551615 }
     requires writes { O.faults output.old < 18446744073709551615 }
-    ensures { IsInOrder (stand_of D.written D.synced D.doubted D.failed m.new) }
+    ensures order { IsInOrder (stand_of D.written D.synced D.doubted D.failed m.new) }
+    ensures settled { OnOk result (HasSettled
+        (stand_of D.written D.synced D.doubted D.failed m.new)) }
 {
     let mut session = Session::new(alloc, point);
     match serve_lines(alloc, m, next, &mut session, input, output) {

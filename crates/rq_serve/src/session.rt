@@ -80,8 +80,7 @@ impl Session {
         &mut self,
         m: &Manager<D>,
         done: Result<Answer, Undone>,
-    ) -> Result<Answer, Spent>
-    {
+    ) -> Result<Answer, Spent> {
         match done {
             Ok(answer) => {
                 if matches!(answer, Answer::Carried(_)) {

@@ -160,7 +160,14 @@ where
         rt,
         inner: io::writer(rt),
     });
-    match serve(rt.alloc(), manager, &mut carrier, point, &mut input, &mut output) {
+    match serve(
+        rt.alloc(),
+        manager,
+        &mut carrier,
+        point,
+        &mut input,
+        &mut output,
+    ) {
         Ok(()) => Ok(()),
         Err(Unserved::Spent) => match carrier.into_error() {
             Some(error) => Err(failed(Stream::Log, error)),
@@ -246,5 +253,13 @@ where
     };
     let whole = ArcSlice::from_vec(bytes)?;
     let (file, kernel) = (LogFile::new(held, Some(whole)), opening.found.kernel);
-    serve_on(rt, path, file, stands, kernel, greeting, CarryPoint::new(least, begins))
+    serve_on(
+        rt,
+        path,
+        file,
+        stands,
+        kernel,
+        greeting,
+        CarryPoint::new(least, begins),
+    )
 }
