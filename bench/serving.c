@@ -199,13 +199,13 @@ int main(int count, char **words) {
   if (count < 4) return 2;
   const char *how = words[1], *path = words[3];
   long units = atol(words[2]);
-  double begun = now();
+  double begun = now(), took = 0;
   if (strcmp(how, "raw") == 0) raw(units, path);
   else if (strcmp(how, "sqlite-full") == 0) sqlite(units, path, "FULL", 1);
   else if (strcmp(how, "sqlite-off") == 0) sqlite(units, path, "OFF", 1);
   else if (strcmp(how, "sqlite-off-8") == 0) sqlite(units, path, "OFF", 2 * CLIENTS);
-  else begun = now() - served(how, units, words + 4);
-  double took = now() - begun;
+  else took = served(how, units, words + 4);
+  if (took == 0) took = now() - begun;
   struct stat found;
   expect(stat(path, &found) == 0, path);
   printf("%.6f %ld\n", took, (long)found.st_size);

@@ -107,6 +107,7 @@ word_request text =
     if bytes_eq text (codes "begin") then Some (requests.Begin None)
     else if bytes_eq text (codes "settle") then Some requests.Settle
     else if bytes_eq text (codes "checkpoint") then Some requests.Checkpoint
+    else if bytes_eq text (codes "carry") then Some requests.Carry
     else if bytes_eq text (codes "queues") then Some requests.Queues
     else if bytes_eq text (codes "close") then Some requests.Close
     else None

@@ -1,6 +1,7 @@
 //! What is done for each request.
 
-ghost use Rattle.std.specs.Prelude.{◌≡◌, true, IsErr, IfErr};
+ghost use Rattle.std.specs.Prelude.{◌≡◌, true, IsErr, IfErr, IfOk};
+ghost use Rattle.rq_live.specs.Carries.{CarriesOn};
 ghost use Rattle.rq_live.specs.Managers.{IsInOrder, stand_of};
 ghost use Rattle.rq_serve.specs.Serving.{DoomsIfRefused, DoomsUnit, KeepsBut, NeverCommits};
 ghost use Rattle.rq_serve.specs.Units.{is_doomed, KeepsDoomed, KeepsOthers};
@@ -8,9 +9,10 @@ ghost use Rattle.rq_serve.specs.Units.{is_doomed, KeepsDoomed, KeepsOthers};
 use crate::answers::Answer;
 use crate::doomed::Doomed;
 use crate::listings::{listed, queue_at, queues_told};
+use crate::operators::Operator;
 use crate::refusals::{Refused, Undone};
 use crate::requests::Request;
-use rq_device::Device;
+use rq_device::{Device, Successor};
 use rq_live::Manager;
 use rq_record::{By, ElemId, KeptName, Name, Payload, QueueNo, Record, UnitNo};
 use std::alloc::Global;
@@ -291,12 +293,49 @@ fn close<D: Device + Drop>(alloc: Global, m: &mut Manager<D>) -> Result<Answer, 
     Ok(Answer::Closed(m.len()))
 }
 
+// Takes a checkpoint.
+fn checkpoint<D: Device + Drop>(alloc: Global, m: &mut Manager<D>) -> Result<Answer, Undone>
+    requires { IsInOrder (stand_of D.written D.synced D.doubted D.failed m.old) }
+    ensures { IsInOrder (stand_of D.written D.synced D.doubted D.failed m.new) }
+{
+    match m.checkpoint(alloc) {
+        Ok(offset) => Ok(Answer::Checkpoint(offset)),
+        Err(why) => Err(Undone::from(Refused::of_checkpoint(why))),
+    }
+}
+
+/// Goes on in a new log, behind so many records. If none could be made, the operator hears why.
+pub(crate) fn carry<D, S>(alloc: Global, m: &mut Manager<D>, next: &mut S) -> Result<u64, Undone>
+where
+    D: Device + Drop,
+    S: Successor<D> + Operator,
+    requires { IsInOrder (stand_of D.written D.synced D.doubted D.failed m.old) }
+    ensures order { IsInOrder (stand_of D.written D.synced D.doubted D.failed m.new) }
+    ensures carried { IfOk result (CarriesOn (stand_of D.written D.synced D.doubted D.failed m.old)
+        (stand_of D.written D.synced D.doubted D.failed m.new)) }
+{
+    match m.carry(alloc, next) {
+        Ok(records) => Ok(records),
+        Err(why) => match Refused::of_carry(why) {
+            Some(refused) => {
+                next.hear_refused(refused);
+                Err(Undone::Refused(refused))
+            }
+            None => Err(Undone::Spent),
+        },
+    }
+}
+
 // Does a request that is of no unit.
-fn done_outside<D: Device + Drop>(
+fn done_outside<D, S>(
     alloc: Global,
     m: &mut Manager<D>,
+    next: &mut S,
     request: &Request,
 ) -> Result<Answer, Undone>
+where
+    D: Device + Drop,
+    S: Successor<D> + Operator,
     requires { IsInOrder (stand_of D.written D.synced D.doubted D.failed m.old) }
     ensures { IsInOrder (stand_of D.written D.synced D.doubted D.failed m.new) }
 {
@@ -310,7 +349,8 @@ fn done_outside<D: Device + Drop>(
         Request::Deregister { queue, who } => deregister(alloc, m, *queue, *who),
         Request::Begin { unit } => begin(alloc, m, *unit),
         Request::Kill { queue, element } => kill(alloc, m, queue, *element),
-        Request::Checkpoint => Ok(Answer::Checkpoint(m.checkpoint(alloc)?)),
+        Request::Checkpoint => checkpoint(alloc, m),
+        Request::Carry => Ok(Answer::Carried(carry(alloc, m, next)?)),
         Request::Last { queue, who } => tell_last(alloc, m, queue, who),
         Request::Queues => queues_told(alloc, m),
         Request::Queue { queue, count } => {
@@ -323,12 +363,16 @@ fn done_outside<D: Device + Drop>(
 }
 
 /// Does a request.
-pub(crate) fn done<D: Device + Drop>(
+pub(crate) fn done<D, S>(
     alloc: Global,
     m: &mut Manager<D>,
+    next: &mut S,
     doomed: &mut Doomed,
     request: Request,
 ) -> Result<Answer, Undone>
+where
+    D: Device + Drop,
+    S: Successor<D> + Operator,
     requires { IsInOrder (stand_of D.written D.synced D.doubted D.failed m.old) }
     ensures order { IsInOrder (stand_of D.written D.synced D.doubted D.failed m.new) }
     ensures keeps { KeepsBut request doomed.old doomed.new }
@@ -353,6 +397,6 @@ pub(crate) fn done<D: Device + Drop>(
         },
         Request::Commit { unit, is_later } => commit(alloc, m, doomed, unit, is_later),
         Request::Abort { unit } => abort(alloc, m, doomed, unit),
-        other => done_outside(alloc, m, &other),
+        other => done_outside(alloc, m, next, &other),
     }
 }

@@ -6,6 +6,7 @@ mod answers;
 mod deeds;
 mod doomed;
 mod listings;
+mod operators;
 mod refusals;
 mod requests;
 mod service;
@@ -13,6 +14,7 @@ mod session;
 mod words;
 
 pub use answers::Answer;
+pub use operators::{CarryPoint, Operator};
 pub use refusals::Refused;
 pub use requests::{LONGEST, Request};
 pub use service::{Unserved, serve};

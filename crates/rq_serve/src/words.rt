@@ -9,22 +9,20 @@ ghost use Rattle.hex.specs.Hex.{decode_of};
 ghost use Rattle.rq_serve.specs.Requests as spec;
 
 use hex::FromHexError;
+use memchr::memchr;
 use rq_record::{By, Fault, Name, Payload};
 use rq_writer::decimal_number;
 use std::alloc::Global;
 
 /// What comes before the first such byte, and what after it.
+#[tactic(auto, using(crate::proofs::Cutting::first_cuts, crate::proofs::Cutting::none_cuts))]
 pub(crate) fn cut_once(byte: u8, bytes: &[u8]) -> Option<(&[u8], &[u8])>
     ensures { option_map (λ x. (x.0.now, x.1.now)) result ≡ cut_at byte bytes.now }
 {
-    let mut at = 0;
-    while at < bytes.len() {
-        if bytes[at] == byte {
-            return Some((&bytes[..at], &bytes[at + 1..]));
-        }
-        at += 1;
+    match memchr(byte, bytes) {
+        Some(at) => Some((&bytes[..at], &bytes[at + 1..])),
+        None => None,
     }
-    None
 }
 
 /// A word, and what comes after its space.

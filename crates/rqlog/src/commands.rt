@@ -153,7 +153,7 @@ pub(crate) fn print_report<R>(rt: &R, path: &str, plan: &Plan) -> Result<(), Ref
 where
     R: Files<File = File> + Print + Clock + AllocGlobal + Threads + Sync,
 {
-    let (is_carried, from) = begun_log(rt, opened(rt, path)?)?;
+    let (is_carried, from) = begun_log(rt, opened(rt, path, Stream::Log)?)?;
     let work = if is_carried {
         Work::ReportAt(CARRIED_AT as u64)
     } else {
@@ -230,7 +230,7 @@ where
     let rule = replaced_by(words);
     rule.expect_replaceable(rt, out)
         .map_err(|error| failed(Stream::Out, error))?;
-    let log = log_from(rt, opened(rt, path)?)?;
+    let log = log_from(rt, opened(rt, path, Stream::Log)?)?;
     let (made, left) = closed_of(rt, log, plan, true)?;
     rule.put_over(rt, out, &[&made])
         .map_err(|error| failed(Stream::Out, error))?;
@@ -269,7 +269,7 @@ pub(crate) fn print_audit<R>(rt: &R, path: &str, plan: &Plan) -> Result<(), Refu
 where
     R: Files<File = File> + Print + Clock + AllocGlobal + Threads + Sync,
 {
-    let (is_carried, from) = begun_log(rt, opened(rt, path)?)?;
+    let (is_carried, from) = begun_log(rt, opened(rt, path, Stream::Log)?)?;
     if is_carried {
         return tell_audit(rt, from, plan);
     }

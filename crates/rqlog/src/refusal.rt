@@ -6,6 +6,7 @@ use clap::ArgMatches;
 use clap::error::ErrorKind;
 use rq_found::Seen;
 use rq_journal::{Fault, NotMarked};
+use rq_judged::Edge;
 use rq_log_file::NotHeld;
 use std::alloc::AllocError;
 use std::io;
@@ -37,6 +38,8 @@ pub(crate) enum Stream {
     LogToRecover,
     /// The file that keeps what is cut off at an offset.
     Kept(usize),
+    /// The log that a standby goes along with.
+    Source,
     Input,
     Output,
     /// The output that was to tell what is done all the same.
@@ -64,6 +67,14 @@ pub(crate) enum Refusal {
     Damaged(BadEnd),
     /// What is to be kept of the log from an offset on has a name under which other bytes stand.
     KeptOther(usize),
+    /// What comes is not served, since no copy is kept.
+    NoCopy,
+    /// A copy has other bytes than those that come.
+    CopyOther,
+    /// A copy has more bytes than came.
+    CopyLonger,
+    /// The front of what comes ends there, and nothing that follows can be done.
+    FrontEnds(Edge),
     /// A line is not appended.
     Line(LineRefused),
     /// There is no room behind the log.
@@ -141,6 +152,14 @@ pub(crate) fn untold(error: io::Error) -> Refusal {
     Refusal::Failed(Stream::Telling, error)
 }
 
+// What a word of the command names. A standby writes no log but the copy of one.
+fn named<'a>(words: &'a ArgMatches<'_>, word: &str) -> Option<&'a str> {
+    match words.get_str(word) {
+        None if word == "LOG" => words.get_str("COPY"),
+        name => name,
+    }
+}
+
 impl Stream {
     // The word of the command that names it, if one does.
     fn word(self) -> Option<&'static str> {
@@ -151,6 +170,7 @@ impl Stream {
             | Stream::LogToRecover
             | Stream::Kept(_) => Some("LOG"),
             Stream::Script => Some("SCRIPT"),
+            Stream::Source => Some("from"),
             Stream::New => Some("NEW"),
             Stream::Out => Some("OUT"),
             Stream::Input | Stream::Output | Stream::Telling => None,
@@ -165,8 +185,8 @@ impl Stream {
         let Some(word) = self.word() else {
             return Seen("standard output");
         };
-        match words.and_then(|words| words.get_str(word)) {
-            Some("-") if matches!(self, Stream::Script) => Seen("standard input"),
+        match words.and_then(|words| named(words, word)) {
+            Some("-") if matches!(self, Stream::Script | Stream::Source) => Seen("standard input"),
             Some(name) => Seen(name),
             None => Seen(word),
         }
@@ -216,19 +236,24 @@ impl Refusal {
             Refusal::KeptOther(_) => "other bytes stand there: move it away",
             Refusal::Full => "log is full: carry it on",
             Refusal::Ended => "numbers end at 4294967295: begin a new log",
+            Refusal::NoCopy => "--serve needs a COPY, which it serves",
+            Refusal::CopyOther => "other bytes stand there than those that come: name another file",
+            Refusal::CopyLonger => "more bytes stand there than came: name another file",
             _ => "resources",
         }
     }
 
     fn exit(&self) -> u8 {
         match self {
-            Refusal::Words(_) | Refusal::NoText | Refusal::Plan => USAGE,
+            Refusal::Words(_) | Refusal::NoText | Refusal::Plan | Refusal::NoCopy => USAGE,
             Refusal::Failed(..)
             | Refusal::Held
             | Refusal::There
             | Refusal::KeptOther(_)
+            | Refusal::CopyOther
+            | Refusal::CopyLonger
             | Refusal::Changed => STREAM,
-            Refusal::Damaged(_) | Refusal::Full | Refusal::Ended => REFUSED,
+            Refusal::Damaged(_) | Refusal::FrontEnds(_) | Refusal::Full | Refusal::Ended => REFUSED,
             Refusal::Line(refused) if matches!(refused.reason, Reason::Memory) => MEMORY,
             Refusal::Line(_) => REFUSED,
             Refusal::Refused(_, fault) => fault.exit(),
@@ -242,6 +267,8 @@ impl Refusal {
             Refusal::Failed(stream, _) | Refusal::Refused(stream, _) => Some(*stream),
             Refusal::There => Some(Stream::New),
             Refusal::KeptOther(offset) => Some(Stream::Kept(*offset)),
+            Refusal::FrontEnds(_) => Some(Stream::Source),
+            Refusal::CopyOther | Refusal::CopyLonger => Some(Stream::Log),
             Refusal::Held | Refusal::Changed | Refusal::Damaged(_) => Some(Stream::Log),
             _ => None,
         }
@@ -256,6 +283,10 @@ impl Refusal {
                 eprintln!(rt; "{error}{left}")
             }
             Refusal::Damaged(bad) => eprintln!(rt; "{bad}"),
+            Refusal::FrontEnds(end) => {
+                let (why, used) = (end.why.word(), end.used);
+                eprintln!(rt; "its front ends by {why} at {used} bytes")
+            }
             Refusal::Line(refused) => eprintln!(rt; "{refused}"),
             Refusal::Refused(_, fault) => {
                 let advice = advice(*fault);
