@@ -62,16 +62,10 @@ impl<F> LogFile<F> {
     pub fn of_synced(file: F, len: usize) -> LogFile<F>
         ensures { result.error ≡ None }
     {
-        LogFile {
-            file,
-            read: None,
-            kept: 0,
-            len: len as u64,
-            synced: len as u64,
-            shown: 0,
-            error: None,
-            is_cut_back: false,
-        }
+        let mut it = LogFile::new(file, None);
+        it.len = len as u64;
+        it.synced = len as u64;
+        it
     }
 
     /// The file.

@@ -112,3 +112,10 @@ stands_within c l is =
         length-append log (drop l.end.used c),
       ),
     )
+
+-- nor behind where the front ends
+pub stands_at : (c : List ℕ) (l : FoundLog) → IsFound c l → StandsWithin l.kernel l.end.used
+stands_at c l is = (
+  (stands_within c l is).0,
+  omega (arith, is.at.framer.len, log_long (version_of l.version) is.records, is.used),
+)

@@ -1,8 +1,9 @@
 //! Where a manager goes on behind what a crash left.
 
-ghost use Rattle.std.specs.Prelude.{IfErr, IfOk, length};
+ghost use Rattle.std.specs.Prelude.{◌≡◌, ℕ, IfErr, IfOk, List, length};
+ghost use Rattle.rq_restart.specs.RedoneFronts.{IsRedoneFront};
 ghost use Rattle.rq_live.specs.Kernels.{StandsWithin};
-ghost use Rattle.rq_reopen.specs.Openings.{Finds, GoesOnAt, IsExactlyFound};
+ghost use Rattle.rq_reopen.specs.Openings.{Finds, GoesOnAt, IsExactlyFound, IsFound, front_with};
 ghost use Rattle.rq_reopen.specs.Reopenings.{IsNoMishap};
 
 use rq_front::Framer;
@@ -48,14 +49,38 @@ impl FoundLog {
         ensures exact { IfOk result (IsExactlyFound left.now) }
     {
         rq_left::crash_leaves();
-        rq_model::one_front();
         let front = RedoneFront::of(rt, alloc, left, plan)?;
         let machine = Machine::of(alloc, &front.state)?;
-        let framer = Framer::after(front.last, front.end.used);
-        Ok(FoundLog {
-            version: front.version,
-            end: front.end,
-            kernel: Kernel::standing(alloc, front.version, machine, framer),
-        })
+        Ok(FoundLog::behind(alloc, front.version, machine, front.last, front.end))
+    }
+
+    /// The queues behind the front of what a crash left of a log, of which a machine stands there. They
+    /// are those that `of` finds. Takes no memory.
+    pub fn behind(
+        alloc: Global,
+        version: Version,
+        machine: Machine,
+        last: [u8; 32],
+        end: Edge,
+    ) -> FoundLog
+        requires { (c : List ℕ) × IsRedoneFront c (front_with version machine last end) }
+        ensures found { (c : List ℕ) → IsRedoneFront c (front_with version machine last end)
+            → IsFound c result }
+        ensures within { StandsWithin result.kernel result.end.used }
+        ensures end { result.end ≡ end }
+        ensures version { result.version ≡ version }
+        ensures survives { (c : List ℕ) → IsRedoneFront c (front_with version machine last end)
+            → GoesOnAt c result }
+        ensures exact { (c : List ℕ) → IsRedoneFront c (front_with version machine last end)
+            → IsExactlyFound c result }
+    {
+        rq_left::crash_leaves();
+        rq_model::one_front();
+        let framer = Framer::after(last, end.used);
+        FoundLog {
+            version,
+            end,
+            kernel: Kernel::standing(alloc, version, machine, framer),
+        }
     }
 }

@@ -1,5 +1,9 @@
 //! A standby goes along with a log that comes from a pipe. It may keep a copy, and serve that at the end.
 
+ghost use Rattle.std.specs.Prelude.{◌≡◌, ◌≤◌, ℕ, IfOk, List, OnOk, length};
+ghost use Rattle.rq_follow.specs.Followers.{Follows};
+ghost use Rattle.rq_live.specs.Kernels.{StandsWithin};
+
 use crate::copies::LogCopy;
 use crate::damage::{BadEnd, LINK_LEN, moved};
 use crate::inputs::{opened, read_piece};
@@ -7,9 +11,11 @@ use crate::refusal::{Refusal, Stream};
 use crate::serve::{Greeting, is_left_by_crash, keep_cut, serve_on};
 use clap::ArgMatches;
 use rq_file::Patient;
-use rq_follow::Follower;
-use rq_journal::{Damage, Fault, Plan};
+use rq_follow::{Follower, Standing};
+use rq_journal::{Damage, Fault, Plan, Why};
+use rq_judged::Edge;
 use rq_log_file::{HeldLog, LogFile};
+use rq_record::Version;
 use rq_reopen::FoundLog;
 use rq_report::{OverWrite, write_report_by};
 use rq_tool::Open;
@@ -49,6 +55,8 @@ impl Standby {
     fn take<R>(&mut self, rt: &R, piece: &[u8], plan: &Plan) -> Result<(), Refusal>
     where
         R: AllocGlobal + Threads + Sync,
+        requires { (b : List ℕ) × Follows b self.old.follower }
+        ensures { OnOk result ((b : List ℕ) × Follows b self.new.follower) }
     {
         if let Some(copy) = &mut self.copy {
             copy.put(rt.alloc(), piece)?;
@@ -60,13 +68,15 @@ impl Standby {
             return Err(of_source(Fault::NotALog));
         }
         match self.follower.end() {
-            Some(end) if self.follower.is_ended() => Err(Refusal::FrontEnds(end)),
+            Some(end) if !matches!(end.why, Why::Whole | Why::Cut) => Err(Refusal::FrontEnds(end)),
             _ => Ok(()),
         }
     }
 
     // Tells the disk of what came.
-    fn sync(&mut self) -> Result<(), Refusal> {
+    fn sync(&mut self) -> Result<(), Refusal>
+        ensures { self.new.follower ≡ self.old.follower }
+    {
         match &mut self.copy {
             Some(copy) => copy.sync(),
             None => Ok(()),
@@ -78,6 +88,8 @@ impl Standby {
     where
         R: AllocGlobal + Threads + Sync,
         F: Read,
+        requires { (b : List ℕ) × Follows b self.old.follower }
+        ensures { OnOk result ((b : List ℕ) × Follows b self.new.follower) }
     {
         let mut piece = room_for_piece(rt.alloc())?;
         for _ in 0..u64::MAX {
@@ -99,6 +111,7 @@ impl Standby {
 fn report<R>(rt: &R, follower: Follower, plan: &Plan) -> Result<(), Refusal>
 where
     R: Print + Clock + AllocGlobal + Threads + Sync,
+    requires { (b : List ℕ) × Follows b follower }
 {
     let alloc = rt.alloc();
     let front = follower.redone(alloc).map_err(|fault| of_source(fault))?;
@@ -113,7 +126,9 @@ where
 }
 
 // What stands behind the front, behind the 32 bytes before that.
-fn behind(alloc: Global, follower: &Follower) -> Result<Vec<u8>, AllocError> {
+fn behind(alloc: Global, follower: &Follower) -> Result<Vec<u8>, AllocError>
+    requires { (b : List ℕ) × Follows b follower.now }
+{
     let mut last = Vec::new(alloc);
     last.extend_from_slice(follower.behind())?;
     Ok(last)
@@ -121,9 +136,16 @@ fn behind(alloc: Global, follower: &Follower) -> Result<Vec<u8>, AllocError> {
 
 // Why what stands behind a front is not what a crash leaves. Refuses a log that is not served then, as
 // when it is opened.
-fn damage_behind(alloc: Global, last: &[u8], found: &FoundLog) -> Result<Option<Damage>, Refusal> {
-    let (end, cut) = (found.end, last.len().saturating_sub(LINK_LEN));
-    let damage = Damage::left_behind(alloc, found.version, last, LINK_LEN, end.why)?;
+fn damage_behind(
+    alloc: Global,
+    last: &[u8],
+    version: Version,
+    end: Edge,
+) -> Result<Option<Damage>, Refusal>
+    requires { 32 ≤ length last.now }
+{
+    let cut = last.len() - LINK_LEN;
+    let damage = Damage::left_behind(alloc, version, last, LINK_LEN, end.why)?;
     match damage {
         Some(damage) if !is_left_by_crash(Some(damage), cut) => {
             let there = moved(damage, end.used.saturating_sub(LINK_LEN));
@@ -134,16 +156,34 @@ fn damage_behind(alloc: Global, last: &[u8], found: &FoundLog) -> Result<Option<
     }
 }
 
+// What a manager goes on from, of a copy that a machine went along with.
+fn found_in(alloc: Global, follower: Follower) -> Result<FoundLog, Refusal>
+    requires { (b : List ℕ) × Follows b follower }
+    ensures { IfOk result (λ l. StandsWithin l.kernel l.end.used) }
+{
+    match follower.standing() {
+        Ok(Standing {
+            version,
+            machine,
+            last,
+            end,
+        }) => Ok(FoundLog::behind(alloc, version, machine, last, end)),
+        Err(fault) => Err(of_source(fault)),
+    }
+}
+
 // Serves a copy, from the machine that went along with it.
 fn serve_copy<R>(rt: &R, path: &str, held: HeldLog, follower: Follower) -> Result<(), Refusal>
 where
     R: Files<File = File> + Input + Print + Clock + AllocGlobal,
+    requires { (b : List ℕ) × Follows b follower }
 {
     let last = behind(rt.alloc(), &follower)?;
-    let found = follower
-        .found(rt.alloc())
-        .map_err(|fault| of_source(fault))?;
-    let damage = damage_behind(rt.alloc(), &last, &found)?;
+    let found = found_in(rt.alloc(), follower)?;
+    if last.len() < LINK_LEN {
+        return Err(of_source(Fault::NotALog));
+    }
+    let damage = damage_behind(rt.alloc(), &last, found.version, found.end)?;
     let cut = last.split_at(LINK_LEN).1;
     keep_cut(rt, path, found.end, damage, cut)?;
     let greeting = Greeting {
@@ -151,19 +191,15 @@ where
         cut: cut.len(),
     };
     let stands = found.end.used.saturating_add(cut.len());
-    serve_on(
-        rt,
-        LogFile::of_synced(held, stands),
-        stands,
-        found.kernel,
-        greeting,
-    )
+    let file = LogFile::of_synced(held, stands);
+    serve_on(rt, file, stands, found.kernel, greeting)
 }
 
 // What is done where the log ends: the copy is served, or the report printed.
 fn finish<R>(rt: &R, path: &str, standby: Standby, plan: &Plan) -> Result<(), Refusal>
 where
     R: Files<File = File> + Input + Print + Clock + AllocGlobal + Threads + Sync,
+    requires { (b : List ℕ) × Follows b standby.follower }
 {
     let Standby {
         follower,

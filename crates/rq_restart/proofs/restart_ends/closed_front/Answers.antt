@@ -94,7 +94,7 @@ returns-clause-answer g c =
     answered model.Two c.numbers_after.ensures s c.in_ok-state.state rs (all g d) _ _ _ _ _ _ _
     (open_in c.args.front.analysis) (why_of c.args.front.why) c.is_well_formed.ensures c.requires.lawful
     (are_closed g d) (c.in_ok-state.ensures.state ∙ ap (run s) (whole g e))
-    c.requires.within next
+    (omega (arith, c.requires.within)) next
     (c.committed-committed.ensures ∙ c.requires.analysed.committed
     ∙ ap (λ (xs : List model.Record). (run s xs).committed) here)
     (c.aborted-aborted.ensures ∙ c.requires.analysed.aborted

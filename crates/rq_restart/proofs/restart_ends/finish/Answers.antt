@@ -5,7 +5,7 @@ use Rattle.rq_catalog.proofs.Fronts.{analysis_is_wider, lawful_in_two}
 use Rattle.rq_restart.proofs.restart_ends.finish.Goals as goal
 
 pub closed_front-requires-clause-lawful : goal.closed_front-requires-clause-lawful
-closed_front-requires-clause-lawful g c =
+closed_front-requires-clause-lawful g c κs within =
     lawful_in_two c.versions.ensures.two (version_of c.args.from.version) c.args.from.state
     (map record_of c.args.from.front.records.items) c.requires.front.2.front.longest.begins.lawful
 
@@ -16,7 +16,7 @@ pub closed_front-requires-clause-within : goal.closed_front-requires-clause-with
 closed_front-requires-clause-within g c = omega (arith, c.requires.front.2.front.within, c.requires.front.3)
 
 pub closed_front-requires-clause-analysed : goal.closed_front-requires-clause-analysed
-closed_front-requires-clause-analysed g c =
+closed_front-requires-clause-analysed g c κs within =
     analysis_is_wider c.versions.ensures.two (version_of c.args.from.version) c.args.from.state
     (map record_of c.args.from.front.records.items) c.args.from.front.analysis
     c.requires.front.2.front.longest.begins.lawful c.requires.front.2.analysis

@@ -1,48 +1,44 @@
 use Rattle.std.proofs.Common.{◌≡◌, rules, subst, sym}
 use Rattle.std.specs.Prelude.{Result, Err, IfErr}
+use Rattle.rq_model.specs.States.{State}
 use Rattle.rq_record.specs.declared.fault.Fault.{Fault}
+use Rattle.rq_restart.specs.RedoneFronts.{IsRedoneFront}
 use Rattle.rq_reopen.specs.declared.found_log.FoundLog.{FoundLog}
 use Rattle.rq_record.specs.declared.fault.Fault.TheVariants.{Resources}
+use Rattle.rq_reopen.specs.Openings.{IsFound, front_with}
 use Rattle.rq_reopen.specs.Reopenings.{IsNoMishap}
 use Rattle.rq_reopen.proofs.Found.{mishap}
-use Rattle.rq_reopen.proofs.Behind.{is_found, goes_on_at, is_exactly_found, stands_within}
+use Rattle.rq_reopen.proofs.Behind.{stands_within}
 use Rattle.rq_reopen.proofs.found_log.FoundLog.of.Goals as goal
+use Rattle.rq_reopen.proofs.found_log.FoundLog.of.Goals.{In_ok-machine}
+
+-- the machine stands behind the front
+there : (g : _) (c : In_ok-machine g) → IsRedoneFront c.args.left.now
+    (front_with c.in_ok-front.front.version c.in_ok-machine.machine c.in_ok-front.front.last c.in_ok-front.front.end)
+there g c =
+    let front = c.in_ok-front.front in
+    subst (λ (s : State). IsRedoneFront c.args.left.now (front_with front.version s front.last front.end))
+    (sym c.in_ok-machine.ensures.made) c.in_ok-front.ensures
+
+pub behind-requires : goal.behind-requires
+behind-requires g c = (c.args.left.now, there g (goal.at.behind-requires g c).In_ok-machine)
 
 pub returns-clause-finds : goal.returns-clause-finds
 returns-clause-finds g c =
-    is_found c.args.left.now c.in_ok-front.front c.in_ok-machine.machine c.after-framer.result c.standing.result
-    c.in_ok-front.ensures c.in_ok-machine.ensures.made c.after-framer.ensures.last c.after-framer.ensures.len
-    c.standing.ensures.stands
+    c.behind.ensures.found c.args.left.now (there g (goal.at.returns-clause-finds g c).In_ok-machine)
 
 pub returns-clause-survives : goal.returns-clause-survives
 returns-clause-survives g c =
-    goes_on_at c.crash_leaves.ensures.synced c.crash_leaves.ensures.commit c.args.left.now
-    (record {
-      version = c.in_ok-front.front.version;
-      end = c.in_ok-front.front.end;
-      kernel = c.standing.result;
-    })
-    (returns-clause-finds g c)
+    c.behind.ensures.survives c.args.left.now (there g (goal.at.returns-clause-survives g c).In_ok-machine)
 
 pub returns-clause-exact : goal.returns-clause-exact
 returns-clause-exact g c =
-    is_exactly_found c.crash_leaves.ensures.beginning c.one_front.ensures.front c.args.left.now
-    (record {
-      version = c.in_ok-front.front.version;
-      end = c.in_ok-front.front.end;
-      kernel = c.standing.result;
-    })
-    (returns-clause-finds g c)
+    c.behind.ensures.exact c.args.left.now (there g (goal.at.returns-clause-exact g c).In_ok-machine)
 
 pub returns-clause-within : goal.returns-clause-within
 returns-clause-within g c =
-    stands_within c.args.left.now
-    (record {
-      version = c.in_ok-front.front.version;
-      end = c.in_ok-front.front.end;
-      kernel = c.standing.result;
-    })
-    (returns-clause-finds g c)
+    stands_within c.args.left.now c.behind.result
+    (c.behind.ensures.found c.args.left.now (there g (goal.at.returns-clause-within g c).In_ok-machine))
 
 pub returns-in_err-front-clause-headed : goal.returns-in_err-front-clause-headed
 returns-in_err-front-clause-headed g c =
