@@ -51,12 +51,12 @@ impl FoundLog {
         rq_left::crash_leaves();
         let front = RedoneFront::of(rt, alloc, left, plan)?;
         let machine = Machine::of(alloc, &front.state)?;
-        Ok(FoundLog::behind(alloc, front.version, machine, front.last, front.end))
+        Ok(FoundLog::of_machine(alloc, front.version, machine, front.last, front.end))
     }
 
     /// The queues behind the front of what a crash left of a log, of which a machine stands there. They
     /// are those that `of` finds. Takes no memory.
-    pub fn behind(
+    pub fn of_machine(
         alloc: Global,
         version: Version,
         machine: Machine,

@@ -1,7 +1,7 @@
 //! A standby goes along with a log that comes from a pipe. It may keep a copy, and serve that at the end.
 
 ghost use Rattle.std.specs.Prelude.{◌≡◌, ◌≤◌, ℕ, IfOk, List, OnOk, length};
-ghost use Rattle.rq_follow.specs.Followers.{Follows};
+ghost use Rattle.rq_follow.specs.Followers.{IsFollowing};
 ghost use Rattle.rq_live.specs.Kernels.{StandsWithin};
 
 use crate::copies::LogCopy;
@@ -55,8 +55,8 @@ impl Standby {
     fn take<R>(&mut self, rt: &R, piece: &[u8], plan: &Plan) -> Result<(), Refusal>
     where
         R: AllocGlobal + Threads + Sync,
-        requires { (b : List ℕ) × Follows b self.old.follower }
-        ensures { OnOk result ((b : List ℕ) × Follows b self.new.follower) }
+        requires { (b : List ℕ) × IsFollowing b self.old.follower }
+        ensures { OnOk result ((b : List ℕ) × IsFollowing b self.new.follower) }
     {
         if let Some(copy) = &mut self.copy {
             copy.put(rt.alloc(), piece)?;
@@ -88,8 +88,8 @@ impl Standby {
     where
         R: AllocGlobal + Threads + Sync,
         F: Read,
-        requires { (b : List ℕ) × Follows b self.old.follower }
-        ensures { OnOk result ((b : List ℕ) × Follows b self.new.follower) }
+        requires { (b : List ℕ) × IsFollowing b self.old.follower }
+        ensures { OnOk result ((b : List ℕ) × IsFollowing b self.new.follower) }
     {
         let mut piece = room_for_piece(rt.alloc())?;
         for _ in 0..u64::MAX {
@@ -111,13 +111,13 @@ impl Standby {
 fn report<R>(rt: &R, follower: Follower, plan: &Plan) -> Result<(), Refusal>
 where
     R: Print + Clock + AllocGlobal + Threads + Sync,
-    requires { (b : List ℕ) × Follows b follower }
+    requires { (b : List ℕ) × IsFollowing b follower }
 {
     let alloc = rt.alloc();
     let front = follower.redone(alloc).map_err(|fault| of_source(fault))?;
-    let total = follower.total();
+    let total = follower.bytes_come();
     drop(follower);
-    let restarted = front.restarted(rt, alloc, total, plan, &Open)?;
+    let restarted = front.into_restarted(rt, alloc, total, plan, &Open)?;
     let mut output = OverWrite::new(Patient {
         rt,
         inner: io::writer(rt),
@@ -127,10 +127,10 @@ where
 
 // What stands behind the front, behind the 32 bytes before that.
 fn behind(alloc: Global, follower: &Follower) -> Result<Vec<u8>, AllocError>
-    requires { (b : List ℕ) × Follows b follower.now }
+    requires { (b : List ℕ) × IsFollowing b follower.now }
 {
     let mut last = Vec::new(alloc);
-    last.extend_from_slice(follower.behind())?;
+    last.extend_from_slice(follower.what_follows())?;
     Ok(last)
 }
 
@@ -158,16 +158,18 @@ fn damage_behind(
 
 // What a manager goes on from, of a copy that a machine went along with.
 fn found_in(alloc: Global, follower: Follower) -> Result<FoundLog, Refusal>
-    requires { (b : List ℕ) × Follows b follower }
+    requires { (b : List ℕ) × IsFollowing b follower }
     ensures { IfOk result (λ l. StandsWithin l.kernel l.end.used) }
 {
-    match follower.standing() {
-        Ok(Standing {
-            version,
-            machine,
-            last,
-            end,
-        }) => Ok(FoundLog::behind(alloc, version, machine, last, end)),
+    match follower.into_standing() {
+        Ok(
+            Standing {
+                version,
+                machine,
+                last,
+                end,
+            },
+        ) => Ok(FoundLog::of_machine(alloc, version, machine, last, end)),
         Err(fault) => Err(of_source(fault)),
     }
 }
@@ -176,7 +178,7 @@ fn found_in(alloc: Global, follower: Follower) -> Result<FoundLog, Refusal>
 fn serve_copy<R>(rt: &R, path: &str, held: HeldLog, follower: Follower) -> Result<(), Refusal>
 where
     R: Files<File = File> + Input + Print + Clock + AllocGlobal,
-    requires { (b : List ℕ) × Follows b follower }
+    requires { (b : List ℕ) × IsFollowing b follower }
 {
     let last = behind(rt.alloc(), &follower)?;
     let found = found_in(rt.alloc(), follower)?;
@@ -199,7 +201,7 @@ where
 fn finish<R>(rt: &R, path: &str, standby: Standby, plan: &Plan) -> Result<(), Refusal>
 where
     R: Files<File = File> + Input + Print + Clock + AllocGlobal + Threads + Sync,
-    requires { (b : List ℕ) × Follows b standby.follower }
+    requires { (b : List ℕ) × IsFollowing b standby.follower }
 {
     let Standby {
         follower,
@@ -220,7 +222,7 @@ where
 
 /// Goes along with a log that comes from standard input, or from a file or a pipe, and prints its report
 /// where it ends. Keeps a copy, if that is named, and may serve it in place of the report.
-pub(crate) fn follow<R>(rt: &R, plan: &Plan, words: &ArgMatches<'_>) -> Result<(), Refusal>
+pub(crate) fn stand_by<R>(rt: &R, plan: &Plan, words: &ArgMatches<'_>) -> Result<(), Refusal>
 where
     R: Files<File = File> + Input + Print + Clock + AllocGlobal + Threads + Sync,
 {

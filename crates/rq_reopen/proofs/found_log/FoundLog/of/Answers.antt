@@ -20,25 +20,25 @@ there g c =
     subst (λ (s : State). IsRedoneFront c.args.left.now (front_with front.version s front.last front.end))
     (sym c.in_ok-machine.ensures.made) c.in_ok-front.ensures
 
-pub behind-requires : goal.behind-requires
-behind-requires g c = (c.args.left.now, there g (goal.at.behind-requires g c).In_ok-machine)
+pub of_machine-requires : goal.of_machine-requires
+of_machine-requires g c = (c.args.left.now, there g (goal.at.of_machine-requires g c).In_ok-machine)
 
 pub returns-clause-finds : goal.returns-clause-finds
 returns-clause-finds g c =
-    c.behind.ensures.found c.args.left.now (there g (goal.at.returns-clause-finds g c).In_ok-machine)
+    c.of_machine.ensures.found c.args.left.now (there g (goal.at.returns-clause-finds g c).In_ok-machine)
 
 pub returns-clause-survives : goal.returns-clause-survives
 returns-clause-survives g c =
-    c.behind.ensures.survives c.args.left.now (there g (goal.at.returns-clause-survives g c).In_ok-machine)
+    c.of_machine.ensures.survives c.args.left.now (there g (goal.at.returns-clause-survives g c).In_ok-machine)
 
 pub returns-clause-exact : goal.returns-clause-exact
 returns-clause-exact g c =
-    c.behind.ensures.exact c.args.left.now (there g (goal.at.returns-clause-exact g c).In_ok-machine)
+    c.of_machine.ensures.exact c.args.left.now (there g (goal.at.returns-clause-exact g c).In_ok-machine)
 
 pub returns-clause-within : goal.returns-clause-within
 returns-clause-within g c =
-    stands_within c.args.left.now c.behind.result
-    (c.behind.ensures.found c.args.left.now (there g (goal.at.returns-clause-within g c).In_ok-machine))
+    stands_within c.args.left.now c.of_machine.result
+    (c.of_machine.ensures.found c.args.left.now (there g (goal.at.returns-clause-within g c).In_ok-machine))
 
 pub returns-in_err-front-clause-headed : goal.returns-in_err-front-clause-headed
 returns-in_err-front-clause-headed g c =

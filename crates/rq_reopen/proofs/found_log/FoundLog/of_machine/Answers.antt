@@ -1,7 +1,7 @@
 use Rattle.std.proofs.Common.{refl}
 use Rattle.rq_reopen.specs.Openings.{front_with}
 use Rattle.rq_reopen.proofs.Behind.{is_found, goes_on_at, is_exactly_found, stands_at}
-use Rattle.rq_reopen.proofs.found_log.FoundLog.behind.Goals as goal
+use Rattle.rq_reopen.proofs.found_log.FoundLog.of_machine.Goals as goal
 
 pub returns-clause-found : goal.returns-clause-found
 returns-clause-found c = λ b h.
