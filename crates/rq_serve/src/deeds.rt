@@ -1,7 +1,7 @@
 //! What is done for each request.
 
 ghost use Rattle.std.specs.Prelude.{◌≡◌, true, IsErr, IfErr, IfOk};
-ghost use Rattle.rq_live.specs.Carries.{CarriesOn};
+ghost use Rattle.rq_live.specs.Carries.{GoesOver};
 ghost use Rattle.rq_live.specs.Managers.{IsInOrder, stand_of};
 ghost use Rattle.rq_serve.specs.Serving.{DoomsIfRefused, DoomsUnit, KeepsBut, NeverCommits};
 ghost use Rattle.rq_serve.specs.Units.{is_doomed, KeepsDoomed, KeepsOthers};
@@ -311,7 +311,7 @@ where
     S: Successor<D> + Operator,
     requires { IsInOrder (stand_of D.written D.synced D.doubted D.failed m.old) }
     ensures order { IsInOrder (stand_of D.written D.synced D.doubted D.failed m.new) }
-    ensures carried { IfOk result (CarriesOn (stand_of D.written D.synced D.doubted D.failed m.old)
+    ensures carried { IfOk result (GoesOver (stand_of D.written D.synced D.doubted D.failed m.old)
         (stand_of D.written D.synced D.doubted D.failed m.new)) }
 {
     match m.carry(alloc, next) {
