@@ -1,5 +1,7 @@
 //! The file in which a log goes on that is held.
 
+ghost use Rattle.std.specs.Prelude.{◌≡◌, IfOk, None};
+
 use crate::held::{HeldLog, Hold, NotHeld, lock};
 use crate::log_file::LogFile;
 use rq_file::{NamedFile, NotTaken, Succession};
@@ -81,6 +83,7 @@ impl NextFiles {
     ) -> Result<LogFile<HeldLog>, NotTaken>
     where
         R: Files<File = File> + AllocGlobal,
+        ensures { IfOk result (λ file. file.error ≡ None) }
     {
         let names = Succession::of(rt.alloc(), &self.name, records)?;
         let name = String::from_str(rt.alloc(), &self.name)?;
