@@ -335,10 +335,11 @@ def releasing(clone: Clone) -> None:
     status, out, _ = clone.run("tools/release", folder)
     check("what is not released", (status, "not done: changes: " in out, "1 steps are not done" in out), (1, True, True))
     check("the steps", [it[3:] for it in out.splitlines() if it.startswith("== ")][:-1],
-          ["tree", "versions", "changes", "dist", "test", "wrong programs", "wrong versions", "shipped", "package", "image", "packages"])
+          ["tree", "versions", "changes", "dist", "test", "wrong programs", "wrong versions", "driven", "shipped", "package", "image",
+           "packages"])
     check("their commands", [it for it in out.splitlines() if it.split(" ")[0] in STEPS.values()],
-          ["tests documents versions", "dist --check", "test", "tests torture --wrong", "tests many --wrong", "test --shipped", "package", "image",
-           "tests packages"])
+          ["tests documents versions", "dist --check", "test", "tests torture --wrong", "tests many --wrong", "tests driven", "test --shipped",
+           "package", "image", "tests packages"])
     check("what is left to people", [it for it in out.splitlines() if it.startswith("left to you")],
           ["left to you: a licence: package and image say that they are not licensed for distribution", "left to you: the tag: git tag v1.0"])
     check("what it leaves", files_below(folder), ["SHA256SUMS", "a_1.0_amd64.deb", "a_1.0_amd64.oci.tar"])

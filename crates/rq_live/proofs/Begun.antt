@@ -14,15 +14,15 @@ use Rattle.rq_model.specs.Appending.{MayFollow}
 use Rattle.rq_model.proofs.Runs.{frame_long}
 use Rattle.rq_model.proofs.Longest.{frames_of_join}
 use Rattle.rq_model.proofs.Restarts.{run_join, spelt_after}
-use Rattle.rq_live.specs.Starts.{Start, Plain, Carried, rules_of, base_of, link_of, head_of, file_of, state_behind}
+use Rattle.rq_live.specs.Starts.{Start, Plain, Carried, rules_of, base_of, link_of, bytes_ahead, file_of, state_reached}
 use Rattle.rq_live.specs.Starts.{last_behind, AreBegun}
 
 -- a file with more records
 pub file_joins : (from : Start) (rs xs : List Record)
     → file_of from (rs ++ xs) ≡ file_of from rs ++ frames_of (last_behind from rs) xs
 file_joins from rs xs =
-    ap (λ (b : List ℕ). head_of from ++ b) (frames_of_join (link_of from) rs xs)
-    ∙ sym (append_assoc (head_of from) (frames_of (link_of from) rs) (frames_of (last_behind from rs) xs))
+    ap (λ (b : List ℕ). bytes_ahead from ++ b) (frames_of_join (link_of from) rs xs)
+    ∙ sym (append_assoc (bytes_ahead from) (frames_of (link_of from) rs) (frames_of (last_behind from rs) xs))
 
 -- one record more
 pub one_longer : (from : Start) (rs : List Record) (r : Record)
@@ -39,7 +39,7 @@ one_longer from rs r =
 
 -- the state behind more records
 pub state_joins : (from : Start) (rs xs : List Record)
-    → state_behind from (rs ++ xs) ≡ run (state_behind from rs) xs
+    → state_reached from (rs ++ xs) ≡ run (state_reached from rs) xs
 state_joins from rs xs = run_join (base_of from) rs xs
 
 -- records that are begun are so with more behind them
@@ -68,14 +68,14 @@ well_based start (Carried version link s) rs h = h.1.keeps
 
 -- and so is the one behind the records
 pub well_behind : EmptyIsWellFormed → RunsAreWellFormed → (from : Start) (rs : List Record) → AreBegun from rs
-    → MayFollow (rules_of from) (base_of from) rs → IsWellFormed (state_behind from rs)
+    → MayFollow (rules_of from) (base_of from) rs → IsWellFormed (state_reached from rs)
 well_behind start runs from rs h may =
     runs (rules_of from) (base_of from) rs (well_based start from rs h) may.lawful
 
 -- which a checkpoint spells, if it numbers few enough records
 pub spelt_behind : EmptyIsWellFormed → (from : Start) (rs : List Record) → AreBegun from rs
-    → MayFollow (rules_of from) (base_of from) rs → (state_behind from rs).next ≤ 4294967295
-    → SpellsState (rules_of from) (state_behind from rs) (state_bytes (state_behind from rs))
+    → MayFollow (rules_of from) (base_of from) rs → (state_reached from rs).next ≤ 4294967295
+    → SpellsState (rules_of from) (state_reached from rs) (state_bytes (state_reached from rs))
 spelt_behind start (Plain version) rs h may few =
     spelt_after version empty rs start fits_empty (deep_empty version) may few
 spelt_behind start (Carried version link s) rs h may few =

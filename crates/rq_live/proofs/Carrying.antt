@@ -21,12 +21,12 @@ use Rattle.rq_record.specs.Views.{version_of}
 use Rattle.rq_live.specs.declared.kernel.Kernel.{Kernel}
 use Rattle.rq_live.specs.declared.carries.NotCarried.{NotCarried}
 use Rattle.rq_live.specs.declared.carries.NotCarried.TheVariants.{Large, Ended, Unmade, Resources, Spent}
-use Rattle.rq_live.specs.Starts.{Start, Plain, Carried, rules_of, base_of, link_of, file_of, state_behind, last_behind}
+use Rattle.rq_live.specs.Starts.{Start, Plain, Carried, rules_of, base_of, link_of, file_of, state_reached, last_behind}
 use Rattle.rq_live.specs.Starts.{checkpoint_in, begun_behind, AreBegun}
 use Rattle.rq_live.specs.Kernels.{IsKernelBehind, HasRoomForEnds}
 use Rattle.rq_live.specs.Managers.{Stand, Settles}
-use Rattle.rq_live.specs.Carries.{BeginsBehind, KernelGoesOver, GoesOnAsOne, StandsOver, CarriesOn}
-use Rattle.rq_live.specs.Carries.{StaysThere, StopsCarry}
+use Rattle.rq_live.specs.Carries.{BeginsBehind, KernelGoesOver, GoesOnAsOne, StandsOver, GoesOver}
+use Rattle.rq_live.specs.Carries.{StaysSafe, StopsCarry}
 use Rattle.rq_live.proofs.Begun.{spelt_behind}
 use Rattle.rq_live.proofs.CarriedFiles.{file_long}
 
@@ -125,7 +125,7 @@ pub goes_over : EmptyIsWellFormed → (a b : Kernel) (first end : List ℕ) → 
 goes_over start a b first end begins rules moved last len none from rs w h =
     let version = rules_of from in
     let link = last_behind from rs in
-    let s = state_behind from rs in
+    let s = state_reached from rs in
     let long = last_long (link_of from) rs (link_long from rs h.begun) in
     let few = subst (λ (t : State). t.next ≤ 4294967295) h.state begins.few in
     let is : first ≡ carried_file version link (frame link (body_of (checkpoint_in s))) =
@@ -140,18 +140,18 @@ goes_over start a b first end begins rules moved last len none from rs w h =
 goes_as_one : (from : Start) (rs : List Record) → GoesOnAsOne from rs
 goes_as_one from rs xs = sym (run_join (base_of from) rs (begun_behind from rs ++ xs))
 
-pub carries_over : (a b : Stand) (count : ℕ) → StandsOver a b → count ≡ a.kernel.machine.next → CarriesOn a b count
+pub carries_over : (a b : Stand) (count : ℕ) → StandsOver a b → count ≡ a.kernel.machine.next → GoesOver a b count
 carries_over a b count over is from rs m =
     let x = over from rs m in
     (x.0, x.1, goes_as_one from rs, is ∙ ap (λ (s : State). s.next) m.at.state)
 
 -- after all was settled
-pub carries_so : (a m b : Stand) (result : Result ℕ NotCarried) → Settles a m → IfOk result (CarriesOn m b)
-    → IfOk result (CarriesOn a b)
+pub carries_so : (a m b : Stand) (result : Result ℕ NotCarried) → Settles a m → IfOk result (GoesOver m b)
+    → IfOk result (GoesOver a b)
 carries_so a m b (Ok count) settled carried = λ from rs h. carried from rs (settled from rs h).0
 carries_so a m b (Err why) settled carried = tt
 
-pub stops_so : (a m b : Stand) (result : Result ℕ NotCarried) → Settles a m → IfErr result (StaysThere m b)
+pub stops_so : (a m b : Stand) (result : Result ℕ NotCarried) → Settles a m → IfErr result (StaysSafe m b)
     → IfErr result (StopsCarry a b)
 stops_so a m b (Ok count) settled there = tt
 stops_so a m b (Err Large) settled there = λ from rs h. let x = settled from rs h in there from rs x.0 x.1

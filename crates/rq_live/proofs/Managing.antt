@@ -33,9 +33,9 @@ use Rattle.rq_live.specs.declared.kernel.NotDone.TheVariants.{Unlawful, Full, La
 use Rattle.rq_live.specs.Kernels.{KernelTakes, KernelStays, KernelRefuses, KernelMarks, IsWhyNotTaken, HasRoomForEnds}
 use Rattle.rq_live.specs.Kernels.{HasNoRoom, KernelAborts}
 use Rattle.rq_live.specs.Kernels.{IsKernelBehind, length_with_ends}
-use Rattle.rq_live.specs.Starts.{Start, Plain, Carried, file_of, state_behind, checkpoint_in}
+use Rattle.rq_live.specs.Starts.{Start, Plain, Carried, file_of, state_reached, checkpoint_in}
 use Rattle.rq_live.specs.Managers.{Stand, IsManaged, Does, DoesTaking, ManagerStops, StopsEnd, StopsBegin}
-use Rattle.rq_live.specs.Managers.{Serves, Settles}
+use Rattle.rq_live.specs.Managers.{Serves, Settles, AllIsSafe}
 use Rattle.rq_live.specs.Managers.{AreFirstFree, AbortsAll, Secures, Resumes, StopsResume, Commits}
 use Rattle.rq_live.specs.Managers.{MarksState}
 use Rattle.rq_live.specs.Managers.{MarksSafely, IsTrueIn}
@@ -75,13 +75,13 @@ pub managed_marks : (a : Stand) (k : Kernel) (offset : ℕ) → KernelMarks a.ke
     → MarksState a (record a { kernel = k }) offset
 managed_marks a k offset marks is long from rs m =
     let x = marks from rs m.bytes m.at in
-    (over_kernel a k from rs (rs ++ checkpoint_in (state_behind from rs) ∷ []) m x.0 x.2, x.1, is ∙ long from rs m, x.3)
+    (over_kernel a k from rs (rs ++ checkpoint_in (state_reached from rs) ∷ []) m x.0 x.2, x.1, is ∙ long from rs m, x.3)
 
 -- why there is no checkpoint of the state there
 pub stops_there : (a : Stand) (k : Kernel) (why : NotDone) → KernelStays a.kernel k
     → KernelRefuses a.kernel (checkpoint_in a.kernel.machine) why → (from : Start) (rs : List Record)
     → IsManaged from rs a → IsManaged from rs (record a { kernel = k })
-    × IsWhyNotTaken from rs (checkpoint_in (state_behind from rs)) why
+    × IsWhyNotTaken from rs (checkpoint_in (state_reached from rs)) why
 stops_there a k why stays refuses from rs m =
     let x = managed_stops a k (checkpoint_in a.kernel.machine) why stays refuses from rs m in
     (x.0, subst (λ (s : State). IsWhyNotTaken from rs (checkpoint_in s) why) m.at.state x.1)
@@ -127,6 +127,12 @@ settles a written synced doubted failed pending works sure more all none from rs
       record { written = subst (AreStored written) (sym m.at.bytes) known; synced = all },
     )
 
+-- a manager of which nothing is pending, unless it is spent
+pub all_safe : (m : Stand) → (m.spent ≡ false → m.kernel.pending.items ≡ []) → AllIsSafe m
+all_safe m none from rs h =
+    let whole = h.at.bytes ∙ ap (λ (p : List ℕ). h.bytes ++ p) (none h.unspent) ∙ append-nil h.bytes in
+    record { written = subst (AreStored m.written) (sym whole) h.known; synced = h.serves.2 }
+
 -- a record that is done, and then settled
 pub done_so : (a m b : Stand) (r : Record) (id : Option ElemId) → DoesTaking a m r id → Settles m b
     → DoesTaking a b r id
@@ -150,17 +156,17 @@ spent_stops a b r (Err why) h = subst (StopsEnd a b r) (sym h.0) h.1
 
 -- there is room for the end of an open unit
 ends_fit : (from : Start) (rs : List Record) (r : Record) → HasRoomForEnds from rs → length (body_of r) ≡ 9
-    → 1 ≤ length (state_behind from rs).units
-    → log_limit < length_with_ends from (rs ++ r ∷ []) (length (state_behind from rs).units - 1) → ⊥
+    → 1 ≤ length (state_reached from rs).units
+    → log_limit < length_with_ends from (rs ++ r ∷ []) (length (state_reached from rs).units - 1) → ⊥
 ends_fit from rs r room long some full =
-    omega (arith, room, long, some, full, long_with_ends from rs r (length (state_behind from rs).units - 1))
+    omega (arith, room, long, some, full, long_with_ends from rs r (length (state_reached from rs).units - 1))
 
 pub commit_stops : (a b : Stand) (unit : ℕ) (why : NotDone) → ManagerStops a b (Commit unit) why
     → StopsEnd a b (Commit unit) why
 commit_stops a b unit (Unlawful rule) s = s
 commit_stops a b unit Full s = λ from rs m.
     let x = (s from rs m).1 in
-    ends_fit from rs (Commit unit) m.room (commit_long unit) (some_open unit (state_behind from rs).units x.lawful) x.long
+    ends_fit from rs (Commit unit) m.room (commit_long unit) (some_open unit (state_reached from rs).units x.lawful) x.long
 commit_stops a b unit Large s = s
 commit_stops a b unit Ended s = s
 commit_stops a b unit Spent s = s
@@ -170,17 +176,17 @@ pub abort_stops : (a b : Stand) (unit : ℕ) (why : NotDone) → ManagerStops a 
 abort_stops a b unit (Unlawful rule) s = s
 abort_stops a b unit Full s = λ from rs m.
     let x = (s from rs m).1 in
-    ends_fit from rs (Abort unit) m.room (abort_long unit) (some_open unit (state_behind from rs).units x.lawful) x.long
+    ends_fit from rs (Abort unit) m.room (abort_long unit) (some_open unit (state_reached from rs).units x.lawful) x.long
 abort_stops a b unit Large s = s
 abort_stops a b unit Ended s = s
 abort_stops a b unit Spent s = s
 
 -- the BEGIN of the next unit is lawful, so it stops for room alone
 pub begin_stops : (a b : Stand) (n : ℕ) (why : NotDone)
-    → ((from : Start) (rs : List Record) → IsManaged from rs a → n ≡ (state_behind from rs).greatest)
+    → ((from : Start) (rs : List Record) → IsManaged from rs a → n ≡ (state_reached from rs).greatest)
     → ManagerStops a b (Begin (n + 1)) why → StopsBegin a b why
 begin_stops a b n (Unlawful rule) g s = λ from rs m.
-    let lawful = lt-ltb (state_behind from rs).greatest (n + 1) (omega (arith, g from rs m)) in
+    let lawful = lt-ltb (state_reached from rs).greatest (n + 1) (omega (arith, g from rs m)) in
     false≢true (sym (s from rs m).1.unlawful ∙ lawful)
 begin_stops a b n Full g s = λ from rs m.
     let x = s from rs m in
@@ -198,8 +204,8 @@ front_there stops appended version rs w k at =
 -- a checkpoint of the state there is true
 true_there : FrontStops → FrameIsRight → AppendedIsFront → CheckpointIsTrue → LaterSaysTheSame → (from : Start)
     (rs : List Record) (v w : List ℕ) (a b : Kernel) (offset : ℕ) → IsKernelBehind from rs v a
-    → IsKernelBehind from (rs ++ checkpoint_in (state_behind from rs) ∷ []) w b
-    → FitsCheckpoint (state_behind from rs) → (state_behind from rs).next ≤ 4294967295
+    → IsKernelBehind from (rs ++ checkpoint_in (state_reached from rs) ∷ []) w b
+    → FitsCheckpoint (state_reached from rs) → (state_reached from rs).next ≤ 4294967295
     → offset ≡ length (file_of from rs) → IsTrueIn from rs offset
 true_there stops right appended is_true later (Plain version) rs v w a b offset h k fits few is =
     subst (TrueAt (with_checkpoint version rs)) (sym is)
@@ -212,7 +218,7 @@ pub marks_so : FrontStops → FrameIsRight → AppendedIsFront → CheckpointIsT
     (offset : ℕ) → MarksState a m offset → Settles m b → MarksSafely a b offset
 marks_so stops right appended is_true later a m b offset marks s from rs h =
     let x = marks from rs h in
-    let safe = s from (rs ++ checkpoint_in (state_behind from rs) ∷ []) x.0 in (
+    let safe = s from (rs ++ checkpoint_in (state_reached from rs) ∷ []) x.0 in (
       safe.0,
       safe.1,
       x.2,
@@ -268,13 +274,13 @@ secures_so a b (Err why) used is room same unspent serves cut = tt
 pub aborts_so : (a : Stand) (k : Kernel) → KernelAborts a.kernel k → AbortsAll a (record a { kernel = k })
 aborts_so a k ended from rs m =
     let x = ended from rs m.bytes m.at m.room in
-    over_kernel a k from rs (rs ++ aborts (state_behind from rs)) m x.0 x.1
+    over_kernel a k from rs (rs ++ aborts (state_reached from rs)) m x.0 x.1
 
 -- and then all was settled
 pub aborts_settled : (a m b : Stand) (result : Result (Unit {0}) NotDone) → AbortsAll a m
     → OnOk result (Settles m b) → OnOk result (AbortsAll a b)
 aborts_settled a m b (Ok x) ended settled = λ from rs h.
-    (settled from (rs ++ aborts (state_behind from rs)) (ended from rs h)).0
+    (settled from (rs ++ aborts (state_reached from rs)) (ended from rs h)).0
 aborts_settled a m b (Err why) ended settled = tt
 
 -- a front that was made sure under a kernel that had aborted all open units, which was settled
@@ -283,7 +289,7 @@ pub resumes_so : (a m b : Stand) (k : Kernel) (result : Result (Unit {0}) NotDon
     → KernelAborts a.kernel k → m.kernel ≡ k → m.spent ≡ false → Serves m → m.written ≡ cut_known used a.written
     → OnOk result (Settles m b) → OnOk result (Resumes a b)
 resumes_so a m b k (Ok x) used is room ended same unspent serves cut settled = λ from rs rest h stored.
-    let all = rs ++ aborts (state_behind from rs) in
+    let all = rs ++ aborts (state_reached from rs) in
     let there = ended from rs (file_of from rs) h (room_for_ends a.kernel room from rs (file_of from rs) h) in
     settled from all (front_managed m a.written used from rs all rest unspent serves cut
     (is ∙ h.len) stored
@@ -347,7 +353,7 @@ pub none_free : EmptyIsWellFormed → RunsAreWellFormed → (m : Stand) (queue m
     → length m.kernel.machine.definitions ≤ queue → AreFirstFree m queue most []
 none_free start runs m queue most beyond from rs managed = (
   [],
-  no_listing (state_behind from rs) queue (well_behind start runs from rs managed.at.begun managed.at.may)
+  no_listing (state_reached from rs) queue (well_behind start runs from rs managed.at.begun managed.at.may)
       (subst (λ (s : State). length s.definitions ≤ queue) managed.at.state beyond),
   sym (take-nil most),
 )

@@ -12,7 +12,7 @@ use Rattle.rq_model.specs.Laws.{EmptyIsWellFormed, RunsAreWellFormed}
 use Rattle.rq_model.specs.Queues.{registrants_at}
 use Rattle.rq_model.specs.Machine.{best, is_free_at}
 use Rattle.rq_live.specs.declared.kernel.NotDone.{NotDone}
-use Rattle.rq_live.specs.Starts.{Start, state_behind}
+use Rattle.rq_live.specs.Starts.{Start, state_reached}
 use Rattle.rq_live.proofs.Begun.{well_behind}
 use Rattle.rq_live.specs.Managers.{Stand, IsManaged, IsDepth, AreRegistered, Dequeues, DequeuesIfFree}
 
@@ -43,18 +43,18 @@ nobody s queue (r ∷ rs) all beyond =
 
 -- the state in which a manager stands is well formed
 well_there : EmptyIsWellFormed → RunsAreWellFormed → (m : Stand) (from : Start) (rs : List Record)
-    → IsManaged from rs m → IsWellFormed (state_behind from rs)
+    → IsManaged from rs m → IsWellFormed (state_reached from rs)
 well_there start runs m from rs managed = well_behind start runs from rs managed.at.begun managed.at.may
 
 beyond_there : (m : Stand) (queue : ℕ) (from : Start) (rs : List Record) → IsManaged from rs m
-    → length m.kernel.machine.definitions ≤ queue → length (state_behind from rs).definitions ≤ queue
+    → length m.kernel.machine.definitions ≤ queue → length (state_reached from rs).definitions ≤ queue
 beyond_there m queue from rs managed beyond =
     subst (λ (s : State). length s.definitions ≤ queue) managed.at.state beyond
 
 pub no_depth : EmptyIsWellFormed → RunsAreWellFormed → (m : Stand) (queue : ℕ)
     → length m.kernel.machine.definitions ≤ queue → IsDepth m queue 0
 no_depth start runs m queue beyond from rs managed =
-    sym (ap length (no_free (state_behind from rs) queue (state_behind from rs).elements
+    sym (ap length (no_free (state_reached from rs) queue (state_reached from rs).elements
     (well_there start runs m from rs managed).elements
     (beyond_there m queue from rs managed beyond)))
 
@@ -64,7 +64,7 @@ pub none_registered : EmptyIsWellFormed → RunsAreWellFormed → (m : Stand) (q
 none_registered start runs m queue none is beyond from rs managed =
     rw (
       is,
-      nobody (state_behind from rs) queue (state_behind from rs).registrants
+      nobody (state_reached from rs) queue (state_reached from rs).registrants
           (well_there start runs m from rs managed).registrants
           (beyond_there m queue from rs managed beyond),
     ) (IsPermutation-refl [])
@@ -75,7 +75,7 @@ some_copied None h = h
 
 -- if an element is free, one is taken
 pub takes_one : (a b : Stand) (unit queue : ℕ) (by : Option By) (first : Option Element) → is_some first ≡ true
-    → ((from : Start) (rs : List Record) → IsManaged from rs a → first ≡ best queue (state_behind from rs).elements)
+    → ((from : Start) (rs : List Record) → IsManaged from rs a → first ≡ best queue (state_reached from rs).elements)
     → (e : Option Element) → Dequeues a b unit queue by e → DequeuesIfFree a b unit queue by e
 takes_one a b unit queue by first some is (Some e) d = d
 takes_one a b unit queue by first some is None d =
@@ -84,7 +84,7 @@ takes_one a b unit queue by first some is None d =
     (λ from rs m. absurd (never from rs m), λ from rs m. absurd (never from rs m))
 
 pub takes_one_so : (a b : Stand) (unit queue : ℕ) (by : Option By) (first : Option Element) → is_some first ≡ true
-    → ((from : Start) (rs : List Record) → IsManaged from rs a → first ≡ best queue (state_behind from rs).elements)
+    → ((from : Start) (rs : List Record) → IsManaged from rs a → first ≡ best queue (state_reached from rs).elements)
     → (result : Result (Option Element) NotDone) → IfOk result (Dequeues a b unit queue by)
     → IfOk result (DequeuesIfFree a b unit queue by)
 takes_one_so a b unit queue by first some is (Ok e) d = takes_one a b unit queue by first some is e d

@@ -32,8 +32,8 @@ use Rattle.rq_record.specs.declared.record.ElemId.{ElemId}
 use Rattle.rq_live.specs.Kernels.{HasDone, BreaksThere, IsKernelBehind, IsTaken, HasRoomForEnds, HasNoRoom, open_behind}
 use Rattle.rq_live.specs.Kernels.{length_with_ends}
 use Rattle.rq_live.specs.Kernels.{KernelTakes, KernelStays, KernelStops, KernelRefuses, KernelMarks, KernelStopsMark}
-use Rattle.rq_live.specs.Kernels.{KernelAborts, KernelTakesEach, Frames}
-use Rattle.rq_live.specs.Starts.{Start, Plain, rules_of, base_of, link_of, file_of, state_behind, last_behind}
+use Rattle.rq_live.specs.Kernels.{KernelAborts, KernelTakesEach, FramesBody}
+use Rattle.rq_live.specs.Starts.{Start, Plain, rules_of, base_of, link_of, file_of, state_reached, last_behind}
 use Rattle.rq_live.specs.Starts.{checkpoint_in}
 use Rattle.rq_live.proofs.Begun.{file_joins, one_longer, state_joins, begun_more}
 
@@ -148,7 +148,7 @@ abort_long unit = refl
 pub moves_on : (from : Start) (rs : List Record) (w : List ℕ) (r : Record) (a b : Kernel) (id : Option ElemId)
     → IsKernelBehind from rs w a → ((version : Version) → HasKind version r → Spells version r (body_of r))
     → IsDone (version_of a.version) a.machine r (Done id) → b.version ≡ a.version → b.machine ≡ step a.machine r
-    → Frames a b (body_of r)
+    → FramesBody a b (body_of r)
     → a.len + (36 + length (body_of r)) + 45 * open_behind (length a.machine.units) r ≤ log_limit
     → IsKernelBehind from (rs ++ r ∷ []) w b × IsTaken from rs r id
 moves_on from rs w r a b id h spelled done same_rules moved framed room =
@@ -159,10 +159,10 @@ moves_on from rs w r a b id h spelled done same_rules moved framed room =
     let longer = one_longer from rs r in
     let same : frame a.last (body_of r) ≡ f =
     ap (λ (q : List ℕ). frame q (body_of r)) h.last in
-    let lawful : is_lawful version (state_behind from rs) r ≡ true =
+    let lawful : is_lawful version (state_reached from rs) r ≡ true =
     sym (λ i. is_lawful (h.rules i) (h.state i) r) ∙ done.0 in
     let state = moved ∙ ap (λ (s : State). step s r) h.state ∙ sym (state_joins from rs (r ∷ [])) in
-    let units = units_behind version (state_behind from rs) r lawful in
+    let units = units_behind version (state_reached from rs) r lawful in
     let fits = subst (λ (s : State). a.len + (36 + length (body_of r)) + 45 * open_behind (length s.units) r
     ≤ log_limit)
     h.state room in (
@@ -171,7 +171,7 @@ moves_on from rs w r a b id h spelled done same_rules moved framed room =
         begun = begun_more from rs (r ∷ []) h.begun;
         may = record {
           records = each_append (IsRecord version) rs (r ∷ []) h.may.records
-              ((spelled version (has_kind version (state_behind from rs) r lawful)).0, tt);
+              ((spelled version (has_kind version (state_reached from rs) r lawful)).0, tt);
           lawful = lawful_join version base rs (r ∷ []) h.may.lawful (and_from _ _ lawful refl);
         };
         short = omega (arith, longer, h.len, room);
@@ -187,14 +187,14 @@ moves_on from rs w r a b id h spelled done same_rules moved framed room =
       record {
         lawful = lawful;
         element = done.1 ∙ ap (λ (s : State). taken s r) h.state;
-        room = has_room from rs r (length (step (state_behind from rs) r).units)
-            (open_behind (length (state_behind from rs).units) r) a.len
+        room = has_room from rs r (length (step (state_reached from rs) r).units)
+            (open_behind (length (state_reached from rs).units) r) a.len
             units (ap (λ (s : State). length s.units) (state_joins from rs (r ∷ []))) h.len fits;
       },
     )
   where
     has_room : (from : Start) (rs : List Record) (r : Record) (n count len : ℕ) → n ≤ count
-        → length (state_behind from (rs ++ r ∷ [])).units ≡ n → len ≡ length (file_of from rs)
+        → length (state_reached from (rs ++ r ∷ [])).units ≡ n → len ≡ length (file_of from rs)
         → len + (36 + length (body_of r)) + 45 * count ≤ log_limit → HasRoomForEnds from (rs ++ r ∷ [])
     has_room from rs r n count len few is long room = omega (
       arith,
@@ -202,7 +202,7 @@ moves_on from rs w r a b id h spelled done same_rules moved framed room =
       is,
       long,
       room,
-      long_with_ends from rs r (length (state_behind from (rs ++ r ∷ [])).units),
+      long_with_ends from rs r (length (state_reached from (rs ++ r ∷ [])).units),
     )
 
 -- a record that breaks a rule for the machine breaks it there
@@ -212,7 +212,7 @@ pub breaks_at : (from : Start) (rs : List Record) (w : List ℕ) (r : Record) (a
     → BreaksThere from rs r rule
 breaks_at from rs w r a rule h broken = record {
   unlawful = sym (λ i. is_lawful (h.rules i) (h.state i) r) ∙ broken.0;
-  breaks = subst (λ (v : Version). Breaks v (state_behind from rs) r rule) h.rules
+  breaks = subst (λ (v : Version). Breaks v (state_reached from rs) r rule) h.rules
       (subst (λ (s : State). Breaks (version_of a.version) s r rule) h.state broken.1);
 }
 
@@ -232,7 +232,7 @@ no_room from rs w r a body h is lawful long =
         there,
         h.len,
         ap length is,
-        long_with_ends from rs r (open_behind (length (state_behind from rs).units) r),
+        long_with_ends from rs r (open_behind (length (state_reached from rs).units) r),
       );
     }
 
@@ -267,7 +267,7 @@ takes_ends a b units (Err why) are each = tt
 pub marks_on : (a b : Kernel) (r : Record) (id : Option ElemId) → KernelTakes a b r id → r ≡ checkpoint_in a.machine
     → FitsCheckpoint a.machine → a.machine.next ≤ 4294967295 → KernelMarks a b
 marks_on a b r id takes is fits few from rs w h =
-    let same : r ≡ checkpoint_in (state_behind from rs) = is ∙ ap checkpoint_in h.state in
+    let same : r ≡ checkpoint_in (state_reached from rs) = is ∙ ap checkpoint_in h.state in
     let x = subst (λ (q : Record). IsKernelBehind from (rs ++ q ∷ []) w b × IsTaken from rs q id) same
     (takes from rs w h) in (
       x.0,

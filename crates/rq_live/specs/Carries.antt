@@ -9,7 +9,7 @@ use Rattle.rq_record.specs.Views.{version_of}
 use Rattle.rq_live.specs.declared.kernel.Kernel.{Kernel}
 use Rattle.rq_live.specs.declared.carries.NotCarried.{NotCarried}
 use Rattle.rq_live.specs.declared.carries.NotCarried.TheVariants.{Large, Ended, Unmade, Resources, Spent}
-use Rattle.rq_live.specs.Starts.{Start, state_behind, checkpoint_in, carried_behind, begun_behind}
+use Rattle.rq_live.specs.Starts.{Start, state_reached, checkpoint_in, carried_behind, begun_behind}
 use Rattle.rq_live.specs.Kernels.{IsKernelBehind, HasRoomForEnds}
 use Rattle.rq_live.specs.Managers.{Stand, IsManaged, IsSafe}
 
@@ -23,8 +23,8 @@ pub record BeginsBehind (k : Kernel) (first end : List ℕ) : Type 0 where
 
 -- why no file goes on from these records
 abbrev pub IsWhyNotCarried : Start → List Record → NotCarried → Type 0
-IsWhyNotCarried from rs Large = FitsCheckpoint (state_behind from rs) → ⊥
-IsWhyNotCarried from rs Ended = 4294967295 < (state_behind from rs).next
+IsWhyNotCarried from rs Large = FitsCheckpoint (state_reached from rs) → ⊥
+IsWhyNotCarried from rs Ended = 4294967295 < (state_reached from rs).next
 IsWhyNotCarried from rs Unmade = ⊤
 IsWhyNotCarried from rs Resources = ⊤
 IsWhyNotCarried from rs Spent = ⊤
@@ -42,8 +42,8 @@ KernelGoesOver a b bytes = (from : Start) (rs : List Record) (w : List ℕ) → 
 
 -- what follows in the other file leads to the state to which it would have led in this one
 abbrev pub GoesOnAsOne : Start → List Record → Type 0
-GoesOnAsOne from rs = (xs : List Record) → state_behind (carried_behind from rs) (begun_behind from rs ++ xs)
-    ≡ state_behind from (rs ++ (begun_behind from rs ++ xs))
+GoesOnAsOne from rs = (xs : List Record) → state_reached (carried_behind from rs) (begun_behind from rs ++ xs)
+    ≡ state_reached from (rs ++ (begun_behind from rs ++ xs))
 
 -- wherever a stood, b stands behind a checkpoint of the state there, in a carried file that goes on
 -- from these records, and all is safe
@@ -53,16 +53,16 @@ StandsOver a b = (from : Start) (rs : List Record) → IsManaged from rs a
     × IsSafe (carried_behind from rs) (begun_behind from rs) b
 
 -- and what follows goes on as one, and so many records were done
-abbrev pub CarriesOn : Stand → Stand → ℕ → Type 0
-CarriesOn a b count = (from : Start) (rs : List Record) → IsManaged from rs a
+abbrev pub GoesOver : Stand → Stand → ℕ → Type 0
+GoesOver a b count = (from : Start) (rs : List Record) → IsManaged from rs a
     → IsManaged (carried_behind from rs) (begun_behind from rs) b
     × IsSafe (carried_behind from rs) (begun_behind from rs) b
-    × GoesOnAsOne from rs × (count ≡ (state_behind from rs).next)
+    × GoesOnAsOne from rs × (count ≡ (state_reached from rs).next)
 
 -- why a log in which all is safe is not carried on: b is spent; or it stands where a stood
-abbrev pub StaysThere : Stand → Stand → NotCarried → Type 0
-StaysThere a b Spent = b.spent ≡ true
-StaysThere a b why = (from : Start) (rs : List Record) → IsManaged from rs a → IsSafe from rs a
+abbrev pub StaysSafe : Stand → Stand → NotCarried → Type 0
+StaysSafe a b Spent = b.spent ≡ true
+StaysSafe a b why = (from : Start) (rs : List Record) → IsManaged from rs a → IsSafe from rs a
     → IsManaged from rs b × IsSafe from rs b × IsWhyNotCarried from rs why
 
 -- why a log is not carried on: b is spent; or it stands where a stood, and all is safe

@@ -13,7 +13,7 @@ use Rattle.rq_state.specs.Views.{id_of}
 use Rattle.rq_lawful.specs.Breaks.{Breaks}
 use Rattle.rq_lawful.specs.declared.rules.Rule.{Rule}
 use Rattle.rq_standing.specs.Stands.{taken}
-use Rattle.rq_live.specs.Starts.{Start, rules_of, base_of, file_of, state_behind, last_behind, AreBegun}
+use Rattle.rq_live.specs.Starts.{Start, rules_of, base_of, file_of, state_reached, last_behind, AreBegun}
 use Rattle.rq_live.specs.Starts.{checkpoint_in}
 use Rattle.rq_live.specs.declared.kernel.Kernel.{Kernel}
 use Rattle.rq_live.specs.declared.kernel.NotDone.{NotDone}
@@ -27,7 +27,7 @@ pub record HasDone (from : Start) (rs : List Record) (w : List ℕ) (own : Versi
   pub begun : AreBegun from rs
   pub may : MayFollow (rules_of from) (base_of from) rs
   pub short : length (file_of from rs) ≤ log_limit
-  pub state : s ≡ state_behind from rs
+  pub state : s ≡ state_reached from rs
   pub last : end ≡ last_behind from rs
   pub len : size ≡ length (file_of from rs)
   pub bytes : file_of from rs ≡ w ++ pending
@@ -49,7 +49,7 @@ pub record IsBodyOf (r : Record) (body : List ℕ) : Type 0 where
   pub spells : (version : Version) → HasKind version r → Spells version r (body_of r)
 
 -- the frame of the body was added to those of a that are pending
-pub record Frames (a b : Kernel) (body : List ℕ) : Type 0 where
+pub record FramesBody (a b : Kernel) (body : List ℕ) : Type 0 where
   pub last : b.last ≡ digest a.last body
   pub len : b.len ≡ a.len + (36 + length body)
   pub bytes : b.pending.items ≡ a.pending.items ++ frame a.last body
@@ -67,23 +67,23 @@ length_with_ends from rs count = length (file_of from rs) + 45 * count
 
 -- There is room for the end of each unit that is open behind the records
 abbrev pub HasRoomForEnds : Start → List Record → Type 0
-HasRoomForEnds from rs = length_with_ends from rs (length (state_behind from rs).units) ≤ log_limit
+HasRoomForEnds from rs = length_with_ends from rs (length (state_reached from rs).units) ≤ log_limit
 
 -- behind these records it is lawful, but there is no room for it and for the end of each unit that is
 -- open then
 pub record HasNoRoom (from : Start) (rs : List Record) (r : Record) : Type 0 where
-  pub lawful : is_lawful (rules_of from) (state_behind from rs) r ≡ true
-  pub long : log_limit < length_with_ends from (rs ++ r ∷ []) (open_behind (length (state_behind from rs).units) r)
+  pub lawful : is_lawful (rules_of from) (state_reached from rs) r ≡ true
+  pub long : log_limit < length_with_ends from (rs ++ r ∷ []) (open_behind (length (state_reached from rs).units) r)
 
 -- behind these records it is not lawful, and breaks this rule
 pub record BreaksThere (from : Start) (rs : List Record) (r : Record) (rule : Rule) : Type 0 where
-  pub unlawful : is_lawful (rules_of from) (state_behind from rs) r ≡ false
-  pub breaks : Breaks (rules_of from) (state_behind from rs) r rule
+  pub unlawful : is_lawful (rules_of from) (state_reached from rs) r ≡ false
+  pub breaks : Breaks (rules_of from) (state_reached from rs) r rule
 
 -- behind these records it is lawful, takes this element, and leaves room
 pub record IsTaken (from : Start) (rs : List Record) (r : Record) (id : Option ElemId) : Type 0 where
-  pub lawful : is_lawful (rules_of from) (state_behind from rs) r ≡ true
-  pub element : id_of id ≡ taken (state_behind from rs) r
+  pub lawful : is_lawful (rules_of from) (state_reached from rs) r ≡ true
+  pub element : id_of id ≡ taken (state_reached from rs) r
   pub room : HasRoomForEnds from (rs ++ r ∷ [])
 
 -- wherever a stood, the record is taken, and b stands behind it
@@ -100,8 +100,8 @@ KernelTakesEach a b xs = (from : Start) (rs : List Record) (w : List ℕ) → Is
 -- and these are the ABORTs of the units that were open there
 abbrev pub KernelAborts : Kernel → Kernel → Type 0
 KernelAborts a b = (from : Start) (rs : List Record) (w : List ℕ) → IsKernelBehind from rs w a
-    → HasRoomForEnds from rs → IsKernelBehind from (rs ++ aborts (state_behind from rs)) w b
-    × HasRoomForEnds from (rs ++ aborts (state_behind from rs))
+    → HasRoomForEnds from rs → IsKernelBehind from (rs ++ aborts (state_reached from rs)) w b
+    × HasRoomForEnds from (rs ++ aborts (state_reached from rs))
 
 -- wherever a stood, b stands
 abbrev pub KernelStays : Kernel → Kernel → Type 0
@@ -112,8 +112,8 @@ KernelStays a b = (from : Start) (rs : List Record) (w : List ℕ) → IsKernelB
 abbrev pub IsWhyNotTaken : Start → List Record → Record → NotDone → Type 0
 IsWhyNotTaken from rs r (Unlawful rule) = BreaksThere from rs r rule
 IsWhyNotTaken from rs r Full = HasNoRoom from rs r
-IsWhyNotTaken from rs r Large = FitsCheckpoint (state_behind from rs) → ⊥
-IsWhyNotTaken from rs r Ended = 4294967295 < (state_behind from rs).next
+IsWhyNotTaken from rs r Large = FitsCheckpoint (state_reached from rs) → ⊥
+IsWhyNotTaken from rs r Ended = 4294967295 < (state_reached from rs).next
 IsWhyNotTaken from rs r Spent = ⊤
 
 -- wherever it stood, this is why it does not take the record
@@ -131,9 +131,9 @@ KernelStops a b r why = KernelStays a b × KernelRefuses a r why
 -- wherever a stood, a checkpoint of the state there is taken, and b stands behind it
 abbrev pub KernelMarks : Kernel → Kernel → Type 0
 KernelMarks a b = (from : Start) (rs : List Record) (w : List ℕ) → IsKernelBehind from rs w a
-    → IsKernelBehind from (rs ++ checkpoint_in (state_behind from rs) ∷ []) w b
-    × FitsCheckpoint (state_behind from rs) × HasRoomForEnds from (rs ++ checkpoint_in (state_behind from rs) ∷ [])
-    × ((state_behind from rs).next ≤ 4294967295)
+    → IsKernelBehind from (rs ++ checkpoint_in (state_reached from rs) ∷ []) w b
+    × FitsCheckpoint (state_reached from rs) × HasRoomForEnds from (rs ++ checkpoint_in (state_reached from rs) ∷ [])
+    × ((state_reached from rs).next ≤ 4294967295)
 
 -- why no checkpoint is taken, and what b is then
 abbrev pub KernelStopsMark : Kernel → Kernel → NotDone → Type 0

@@ -20,7 +20,7 @@ use Rattle.rq_live.specs.declared.kernel.Kernel.{Kernel}
 use Rattle.rq_live.specs.declared.kernel.NotDone.{NotDone}
 use Rattle.rq_live.specs.declared.kernel.NotDone.TheVariants.{Unlawful, Full, Large, Ended, Spent}
 use Rattle.rq_live.specs.declared.manager.Manager.{Manager}
-use Rattle.rq_live.specs.Starts.{Start, Plain, Carried, rules_of, file_of, state_behind, checkpoint_in}
+use Rattle.rq_live.specs.Starts.{Start, Plain, Carried, rules_of, file_of, state_reached, checkpoint_in}
 use Rattle.rq_live.specs.Kernels.{IsKernelBehind, HasRoomForEnds, HasNoRoom, IsWhyNotTaken}
 
 -- a manager, and what is known of its device
@@ -68,27 +68,27 @@ IsInOrder m = KeepsWindow m × (m.spent ≡ false → length m.kernel.pending.it
 -- wherever a stood, the record is lawful there, and b stands behind it
 abbrev pub Does : Stand → Stand → Record → Type 0
 Does a b r = (from : Start) (rs : List Record) → IsManaged from rs a
-    → IsManaged from (rs ++ r ∷ []) b × (is_lawful (rules_of from) (state_behind from rs) r ≡ true)
+    → IsManaged from (rs ++ r ∷ []) b × (is_lawful (rules_of from) (state_reached from rs) r ≡ true)
 
 -- and it takes this element there
 abbrev pub DoesTaking : Stand → Stand → Record → Option ElemId → Type 0
 DoesTaking a b r id = (from : Start) (rs : List Record) → IsManaged from rs a
-    → IsManaged from (rs ++ r ∷ []) b × (is_lawful (rules_of from) (state_behind from rs) r ≡ true)
-    × (id_of id ≡ taken (state_behind from rs) r)
+    → IsManaged from (rs ++ r ∷ []) b × (is_lawful (rules_of from) (state_reached from rs) r ≡ true)
+    × (id_of id ≡ taken (state_reached from rs) r)
 
 -- and this is the number of its element there
 abbrev pub Enqueues : Stand → Stand → Record → ℕ → Type 0
 Enqueues a b r id = (from : Start) (rs : List Record) → IsManaged from rs a
-    → IsManaged from (rs ++ r ∷ []) b × (is_lawful (rules_of from) (state_behind from rs) r ≡ true)
-    × (id ≡ (state_behind from rs).next)
+    → IsManaged from (rs ++ r ∷ []) b × (is_lawful (rules_of from) (state_reached from rs) r ≡ true)
+    × (id ≡ (state_reached from rs).next)
 
 -- wherever a stood, the DEQUEUE is lawful there, b stands behind it, and this is the element that it
 -- takes, as it was
 abbrev pub Dequeues : Stand → Stand → ℕ → ℕ → Option By → Option Element → Type 0
 Dequeues a b unit queue by e = (from : Start) (rs : List Record) → IsManaged from rs a
     → IsManaged from (rs ++ Dequeue unit queue by ∷ []) b
-    × (is_lawful (rules_of from) (state_behind from rs) (Dequeue unit queue by) ≡ true)
-    × (e ≡ best queue (state_behind from rs).elements)
+    × (is_lawful (rules_of from) (state_reached from rs) (Dequeue unit queue by) ≡ true)
+    × (e ≡ best queue (state_reached from rs).elements)
 
 -- wherever a stood, b stands
 abbrev pub StandsStill : Stand → Stand → Type 0
@@ -97,13 +97,13 @@ StandsStill a b = (from : Start) (rs : List Record) → IsManaged from rs a → 
 -- wherever a stood, the record is lawful, and b stands there
 abbrev pub StandsLawful : Stand → Stand → Record → Type 0
 StandsLawful a b r = (from : Start) (rs : List Record) → IsManaged from rs a
-    → IsManaged from rs b × (is_lawful (rules_of from) (state_behind from rs) r ≡ true)
+    → IsManaged from rs b × (is_lawful (rules_of from) (state_reached from rs) r ≡ true)
 
 -- the best free element is taken; or the DEQUEUE is lawful, no element is free, and nothing is done
 abbrev pub DequeuesIfFree : Stand → Stand → ℕ → ℕ → Option By → Option Element → Type 0
 DequeuesIfFree a b unit queue by (Some e) = Dequeues a b unit queue by (Some e)
 DequeuesIfFree a b unit queue by None = StandsLawful a b (Dequeue unit queue by)
-    × ((from : Start) (rs : List Record) → IsManaged from rs a → best queue (state_behind from rs).elements ≡ None)
+    × ((from : Start) (rs : List Record) → IsManaged from rs a → best queue (state_reached from rs).elements ≡ None)
 
 -- the queue has this element there, and it is free
 abbrev pub is_free_in : State → ℕ → ℕ → Bool
@@ -112,9 +112,9 @@ is_free_in s queue element = list_any (λ e. is_free_at queue e && (e.id == elem
 -- the element is free there, and is killed; or the KILL is lawful, it is not free, and nothing is done
 abbrev pub KillsIfFree : Stand → Stand → ℕ → ℕ → Bool → Type 0
 KillsIfFree a b queue element true = Does a b (Kill queue element)
-    × ((from : Start) (rs : List Record) → IsManaged from rs a → is_free_in (state_behind from rs) queue element ≡ true)
+    × ((from : Start) (rs : List Record) → IsManaged from rs a → is_free_in (state_reached from rs) queue element ≡ true)
 KillsIfFree a b queue element false = StandsLawful a b (Kill queue element)
-    × ((from : Start) (rs : List Record) → IsManaged from rs a → is_free_in (state_behind from rs) queue element ≡ false)
+    × ((from : Start) (rs : List Record) → IsManaged from rs a → is_free_in (state_reached from rs) queue element ≡ false)
 
 -- why the record is not taken: b is spent, or it stands where a stood
 abbrev pub ManagerStops : Stand → Stand → Record → NotDone → Type 0
@@ -132,7 +132,7 @@ StopsEnd a b r why = ManagerStops a b r why
 -- the unit is the next one, and its BEGIN is done
 abbrev pub BeginsUnit : Stand → Stand → ℕ → Type 0
 BeginsUnit a b unit = (from : Start) (rs : List Record) → IsManaged from rs a
-    → IsManaged from (rs ++ Begin unit ∷ []) b × (unit ≡ (state_behind from rs).greatest + 1)
+    → IsManaged from (rs ++ Begin unit ∷ []) b × (unit ≡ (state_reached from rs).greatest + 1)
 
 -- why no unit begins: all numbers were used, or there is no room
 abbrev pub StopsBegin : Stand → Stand → NotDone → Type 0
@@ -140,9 +140,9 @@ StopsBegin a b Spent = b.spent ≡ true
 StopsBegin a b Large = ⊥
 StopsBegin a b (Unlawful rule) = (from : Start) (rs : List Record) → IsManaged from rs a → ⊥
 StopsBegin a b Ended = (from : Start) (rs : List Record) → IsManaged from rs a
-    → IsManaged from rs b × ((state_behind from rs).greatest ≡ 18446744073709551615)
+    → IsManaged from rs b × ((state_reached from rs).greatest ≡ 18446744073709551615)
 StopsBegin a b Full = (from : Start) (rs : List Record) → IsManaged from rs a
-    → IsManaged from rs b × HasNoRoom from rs (Begin ((state_behind from rs).greatest + 1))
+    → IsManaged from rs b × HasNoRoom from rs (Begin ((state_reached from rs).greatest + 1))
 
 -- all of the log was written and synced
 pub record IsSafe (from : Start) (rs : List Record) (m : Stand) : Type 0 where
@@ -154,6 +154,10 @@ abbrev pub Settles : Stand → Stand → Type 0
 Settles a b = (from : Start) (rs : List Record) → IsManaged from rs a
     → IsManaged from rs b × IsSafe from rs b
 
+-- wherever it stands, all is safe
+abbrev pub AllIsSafe : Stand → Type 0
+AllIsSafe m = (from : Start) (rs : List Record) → IsManaged from rs m → IsSafe from rs m
+
 -- whatever a crash may leave of b, it could have left of a
 abbrev pub KeepsSafe : Stand → Stand → Type 0
 KeepsSafe a b = KeepsSynced a.written a.synced b.written b.synced
@@ -162,13 +166,13 @@ KeepsSafe a b = KeepsSynced a.written a.synced b.written b.synced
 abbrev pub Commits : Stand → Stand → ℕ → Type 0
 Commits a b unit = (from : Start) (rs : List Record) → IsManaged from rs a
     → IsManaged from (rs ++ Commit unit ∷ []) b × IsSafe from (rs ++ Commit unit ∷ []) b
-    × (is_lawful (rules_of from) (state_behind from rs) (Commit unit) ≡ true)
+    × (is_lawful (rules_of from) (state_reached from rs) (Commit unit) ≡ true)
 
 -- wherever a stood, b stands behind a checkpoint of the state there, at this offset
 abbrev pub MarksState : Stand → Stand → ℕ → Type 0
 MarksState a b offset = (from : Start) (rs : List Record) → IsManaged from rs a
-    → IsManaged from (rs ++ checkpoint_in (state_behind from rs) ∷ []) b × FitsCheckpoint (state_behind from rs)
-    × (offset ≡ length (file_of from rs)) × ((state_behind from rs).next ≤ 4294967295)
+    → IsManaged from (rs ++ checkpoint_in (state_reached from rs) ∷ []) b × FitsCheckpoint (state_reached from rs)
+    × (offset ≡ length (file_of from rs)) × ((state_reached from rs).next ≤ 4294967295)
 
 -- it says what the records before it came to: in a log it is true; in a carried file, as that is read,
 -- a restart from it is one from the file's first frame
@@ -181,8 +185,8 @@ IsTrueIn (Carried version link s) rs offset = (r : Restarted) →
 -- and all is safe, and the checkpoint true
 abbrev pub MarksSafely : Stand → Stand → ℕ → Type 0
 MarksSafely a b offset = (from : Start) (rs : List Record) → IsManaged from rs a
-    → IsManaged from (rs ++ checkpoint_in (state_behind from rs) ∷ []) b
-    × IsSafe from (rs ++ checkpoint_in (state_behind from rs) ∷ []) b
+    → IsManaged from (rs ++ checkpoint_in (state_reached from rs) ∷ []) b
+    × IsSafe from (rs ++ checkpoint_in (state_reached from rs) ∷ []) b
     × (offset ≡ length (file_of from rs)) × IsTrueIn from rs offset
 
 -- why there is no checkpoint
@@ -190,12 +194,12 @@ abbrev pub StopsMark : Stand → Stand → NotDone → Type 0
 StopsMark a b Spent = b.spent ≡ true
 StopsMark a b (Unlawful rule) = (from : Start) (rs : List Record) → IsManaged from rs a → ⊥
 StopsMark a b why = (from : Start) (rs : List Record) → IsManaged from rs a
-    → IsManaged from rs b × IsWhyNotTaken from rs (checkpoint_in (state_behind from rs)) why
+    → IsManaged from rs b × IsWhyNotTaken from rs (checkpoint_in (state_reached from rs)) why
 
 -- wherever a stood, b stands behind the ABORTs of the units that were open there
 abbrev pub AbortsAll : Stand → Stand → Type 0
 AbortsAll a b = (from : Start) (rs : List Record) → IsManaged from rs a
-    → IsManaged from (rs ++ aborts (state_behind from rs)) b
+    → IsManaged from (rs ++ aborts (state_reached from rs)) b
 
 -- Whatever bytes stood on the device of a, if they begin with the log behind which its kernel stood, b
 -- stands behind that
@@ -209,7 +213,7 @@ Secures a b = (from : Start) (rs : List Record) (rest : List ℕ) →
 abbrev pub Resumes : Stand → Stand → Type 0
 Resumes a b = (from : Start) (rs : List Record) (rest : List ℕ) →
     IsKernelBehind from rs (file_of from rs) a.kernel → AreStored a.written (file_of from rs ++ rest)
-    → IsManaged from (rs ++ aborts (state_behind from rs)) b × IsSafe from (rs ++ aborts (state_behind from rs)) b
+    → IsManaged from (rs ++ aborts (state_reached from rs)) b × IsSafe from (rs ++ aborts (state_reached from rs)) b
 
 -- why it does not go on: it is spent, or there is no room for the ABORTs, and the device is as it was
 abbrev pub StopsResume : Stand → Stand → NotDone → Type 0
@@ -226,42 +230,42 @@ IsLength m len = (from : Start) (rs : List Record) → IsManaged from rs m → l
 -- wherever it stands, this is the last operation of who is registered with the queue by the name
 abbrev pub IsLastOf : Stand → ℕ → List ℕ → Option (Option Last) → Type 0
 IsLastOf m queue name l = (from : Start) (rs : List Record) → IsManaged from rs m
-    → l ≡ option_map (λ r. r.last) (find (is_registrant queue name) (state_behind from rs).registrants)
+    → l ≡ option_map (λ r. r.last) (find (is_registrant queue name) (state_reached from rs).registrants)
 
 -- wherever it stands, these are the open units
 abbrev pub AreOpen : Stand → List ℕ → Type 0
 AreOpen m units = (from : Start) (rs : List Record) → IsManaged from rs m
-    → units ≡ (state_behind from rs).units
+    → units ≡ (state_reached from rs).units
 
 -- wherever it stands, these are the queues
 abbrev pub AreDefined : Stand → List Definition → Type 0
 AreDefined m definitions = (from : Start) (rs : List Record) → IsManaged from rs m
-    → definitions ≡ (state_behind from rs).definitions
+    → definitions ≡ (state_reached from rs).definitions
 
 -- wherever it stands, these are the first free elements of the queue, as they would be taken, as many
 -- as there are and no more than so many
 abbrev pub AreFirstFree : Stand → ℕ → ℕ → List Element → Type 0
 AreFirstFree m queue most es = (from : Start) (rs : List Record) → IsManaged from rs m
-    → AreFirst most queue (state_behind from rs).elements es
+    → AreFirst most queue (state_reached from rs).elements es
 
 -- wherever it stands, this is the greatest unit that ever began
 abbrev pub IsGreatest : Stand → ℕ → Type 0
-IsGreatest m unit = (from : Start) (rs : List Record) → IsManaged from rs m → unit ≡ (state_behind from rs).greatest
+IsGreatest m unit = (from : Start) (rs : List Record) → IsManaged from rs m → unit ≡ (state_reached from rs).greatest
 
 -- wherever it stands, so many records are done
 abbrev pub IsCount : Stand → ℕ → Type 0
-IsCount m count = (from : Start) (rs : List Record) → IsManaged from rs m → count ≡ (state_behind from rs).next
+IsCount m count = (from : Start) (rs : List Record) → IsManaged from rs m → count ≡ (state_reached from rs).next
 
 -- wherever it stands, this tells whether the unit is open
 abbrev pub IsOpenThere : Stand → ℕ → Bool → Type 0
-IsOpenThere m unit b = (from : Start) (rs : List Record) → IsManaged from rs m → b ≡ is_open (state_behind from rs) unit
+IsOpenThere m unit b = (from : Start) (rs : List Record) → IsManaged from rs m → b ≡ is_open (state_reached from rs) unit
 
 -- wherever it stands, so many elements of the queue are free
 abbrev pub IsDepth : Stand → ℕ → ℕ → Type 0
 IsDepth m queue count = (from : Start) (rs : List Record) → IsManaged from rs m
-    → count ≡ length (filter (is_free_at queue) (state_behind from rs).elements)
+    → count ≡ length (filter (is_free_at queue) (state_reached from rs).elements)
 
 -- wherever it stands, these are registered with the queue, in some order
 abbrev pub AreRegistered : Stand → ℕ → List Registrant → Type 0
 AreRegistered m queue rs = (from : Start) (done : List Record) → IsManaged from done m
-    → IsPermutation (registrants_at queue (state_behind from done).registrants) rs
+    → IsPermutation (registrants_at queue (state_reached from done).registrants) rs

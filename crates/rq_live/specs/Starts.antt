@@ -29,17 +29,17 @@ link_of (Plain version) = start version
 link_of (Carried version link s) = link
 
 -- all bytes before that
-abbrev pub head_of : Start → List ℕ
-head_of (Plain version) = header version
-head_of (Carried version link s) = carried_header version ++ link
+abbrev pub bytes_ahead : Start → List ℕ
+bytes_ahead (Plain version) = header version
+bytes_ahead (Carried version link s) = carried_header version ++ link
 
 -- the file of some records: of a log, `log_of`
 abbrev pub file_of : Start → List Record → List ℕ
-file_of from rs = head_of from ++ frames_of (link_of from) rs
+file_of from rs = bytes_ahead from ++ frames_of (link_of from) rs
 
 -- the state behind them, and the last 32 bytes
-abbrev pub state_behind : Start → List Record → State
-state_behind from rs = run (base_of from) rs
+abbrev pub state_reached : Start → List Record → State
+state_reached from rs = run (base_of from) rs
 
 abbrev pub last_behind : Start → List Record → List ℕ
 last_behind from rs = last_of (link_of from) rs
@@ -56,7 +56,7 @@ AreBegun (Carried version link s) rs = (length link ≡ 32) × SpellsState versi
 
 -- the carried file that goes on behind these records, and its only record
 abbrev pub carried_behind : Start → List Record → Start
-carried_behind from rs = Carried (rules_of from) (last_behind from rs) (state_behind from rs)
+carried_behind from rs = Carried (rules_of from) (last_behind from rs) (state_reached from rs)
 
 abbrev pub begun_behind : Start → List Record → List Record
-begun_behind from rs = checkpoint_in (state_behind from rs) ∷ []
+begun_behind from rs = checkpoint_in (state_reached from rs) ∷ []

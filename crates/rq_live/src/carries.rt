@@ -7,9 +7,10 @@ ghost use Rattle.rq_record.specs.Views.{version_of};
 ghost use Rattle.rq_record.specs.declared.fault.Fault.TheVariants.{Resources};
 ghost use Rattle.rq_device.specs.Devices.{AreStored, IsAllSynced};
 ghost use Rattle.rq_live.specs.Kernels.{KernelStays};
-ghost use Rattle.rq_live.specs.Managers.{IsInOrder, KeepsSafe, KeepsWindow, stand_of};
-ghost use Rattle.rq_live.specs.Carries.{BeginsBehind, CarriesOn, KernelGoesOver, KernelIsKept};
-ghost use Rattle.rq_live.specs.Carries.{StandsOver, StaysThere, StopsCarry};
+ghost use Rattle.rq_live.specs.Managers.{AllIsSafe, IsInOrder, KeepsSafe, KeepsWindow};
+ghost use Rattle.rq_live.specs.Managers.{stand_of};
+ghost use Rattle.rq_live.specs.Carries.{BeginsBehind, GoesOver, KernelGoesOver, KernelIsKept};
+ghost use Rattle.rq_live.specs.Carries.{StandsOver, StaysSafe, StopsCarry};
 
 use crate::kernel::{Kernel, NotDone};
 use crate::manager::Manager;
@@ -38,7 +39,7 @@ pub enum NotCarried {
 
 /// What begins the file in which a log goes on.
 #[derive(Drop)]
-pub(crate) struct Begun {
+pub(crate) struct NextFile {
     // Its bytes: the header of a carried file, the last 32 bytes of the log, and the frame of a checkpoint.
     bytes: Vec<u8>,
     // The last 32 of these.
@@ -47,7 +48,7 @@ pub(crate) struct Begun {
 
 impl Kernel {
     // The file whose first frame is that of the body that was spelled.
-    fn begun_by(&self, alloc: Global) -> Result<Begun, Fault>
+    fn begun_by(&self, alloc: Global) -> Result<NextFile, Fault>
         requires { IsBodyLength (length self.now.body.items) }
         ensures bytes { IfOk result (λ b. b.bytes.items ≡ carried_file (version_of self.now.version)
             self.now.last (frame self.now.last self.now.body.items)) }
@@ -58,11 +59,11 @@ impl Kernel {
         carried_header_of(self.version, &mut bytes)?;
         bytes.extend_from_slice(&self.last)?;
         let last = append_frame(&self.last, &self.body, &mut bytes)?;
-        Ok(Begun { bytes, last })
+        Ok(NextFile { bytes, last })
     }
 
     // The first bytes of the file in which the log goes on from here. It stands where it stood.
-    fn begun(&mut self, alloc: Global) -> Result<Begun, NotCarried>
+    fn begun(&mut self, alloc: Global) -> Result<NextFile, NotCarried>
         ensures begun { IfOk result (λ b. BeginsBehind self.new b.bytes.items b.last) }
         ensures stays { KernelStays self.old self.new }
         ensures pending { self.new.pending ≡ self.old.pending }
@@ -70,7 +71,7 @@ impl Kernel {
         ensures unspent { IfErr result (λ why. why ≡ NotCarried.Spent → ⊥) }
     {
         rq_model::one_spelling();
-        let bytes = match self.spelled(alloc) {
+        let bytes = match self.state_spelled(alloc) {
             Ok(bytes) => bytes,
             Err(NotDone::Large) => return Err(NotCarried::Large),
             Err(NotDone::Ended) => return Err(NotCarried::Ended),
@@ -88,7 +89,7 @@ impl Kernel {
 
     // Stands behind these first bytes. What a checkpoint says is nothing to the machine, so it counts one
     // of no bytes.
-    fn go_over(&mut self, alloc: Global, begun: &Begun) -> Result<(), NotCarried>
+    fn go_over(&mut self, alloc: Global, begun: &NextFile) -> Result<(), NotCarried>
         requires begun { BeginsBehind self.old begun.now.bytes.items begun.now.last }
         requires none { self.old.pending.items ≡ [] }
         ensures over { OnOk result (KernelGoesOver self.old self.new begun.now.bytes.items) }
@@ -113,7 +114,7 @@ impl Kernel {
 
 impl<D: Device + Drop> Manager<D> {
     // Stands behind these first bytes on the device on which they stand.
-    fn stand_over(&mut self, alloc: Global, device: D, begun: &Begun) -> Result<(), NotCarried>
+    fn stand_over(&mut self, alloc: Global, device: D, begun: &NextFile) -> Result<(), NotCarried>
         requires window { KeepsWindow (stand_of D.written D.synced D.doubted D.failed self.old) }
         requires begun { BeginsBehind self.old.kernel begun.now.bytes.items begun.now.last }
         requires none { self.old.kernel.pending.items ≡ [] }
@@ -145,7 +146,7 @@ impl<D: Device + Drop> Manager<D> {
     fn go_on<S: Successor<D>>(
         &mut self,
         alloc: Global,
-        begun: &Begun,
+        begun: &NextFile,
         next: &mut S,
     ) -> Result<u64, NotCarried>
         requires window { KeepsWindow (stand_of D.written D.synced D.doubted D.failed self.old) }
@@ -153,10 +154,10 @@ impl<D: Device + Drop> Manager<D> {
         requires none { self.old.kernel.pending.items ≡ [] }
         ensures window { KeepsWindow (stand_of D.written D.synced D.doubted D.failed self.new) }
         ensures none { self.new.spent ≡ false → self.new.kernel.pending.items ≡ [] }
-        ensures carried { IfOk result (CarriesOn
+        ensures carried { IfOk result (GoesOver
             (stand_of D.written D.synced D.doubted D.failed self.old)
             (stand_of D.written D.synced D.doubted D.failed self.new)) }
-        ensures refused { IfErr result (StaysThere
+        ensures refused { IfErr result (StaysSafe
             (stand_of D.written D.synced D.doubted D.failed self.old)
             (stand_of D.written D.synced D.doubted D.failed self.new)) }
         ensures keeps { IfErr result (λ why. self.new.device ≡ self.old.device) }
@@ -185,10 +186,10 @@ impl<D: Device + Drop> Manager<D> {
         requires none { self.old.kernel.pending.items ≡ [] }
         ensures window { KeepsWindow (stand_of D.written D.synced D.doubted D.failed self.new) }
         ensures none { self.new.spent ≡ false → self.new.kernel.pending.items ≡ [] }
-        ensures carried { IfOk result (CarriesOn
+        ensures carried { IfOk result (GoesOver
             (stand_of D.written D.synced D.doubted D.failed self.old)
             (stand_of D.written D.synced D.doubted D.failed self.new)) }
-        ensures refused { IfErr result (StaysThere
+        ensures refused { IfErr result (StaysSafe
             (stand_of D.written D.synced D.doubted D.failed self.old)
             (stand_of D.written D.synced D.doubted D.failed self.new)) }
         ensures keeps { IfErr result (λ why. self.new.device ≡ self.old.device) }
@@ -206,12 +207,13 @@ impl<D: Device + Drop> Manager<D> {
         ensures order { IsInOrder (stand_of D.written D.synced D.doubted D.failed self.new) }
         ensures spent { self.old.spent ≡ true
             → (self.new ≡ self.old) × (result ≡ Err NotCarried.Spent) }
-        ensures carried { IfOk result (CarriesOn
+        ensures carried { IfOk result (GoesOver
             (stand_of D.written D.synced D.doubted D.failed self.old)
             (stand_of D.written D.synced D.doubted D.failed self.new)) }
         ensures refused { IfErr result (StopsCarry
             (stand_of D.written D.synced D.doubted D.failed self.old)
             (stand_of D.written D.synced D.doubted D.failed self.new)) }
+        ensures all { AllIsSafe (stand_of D.written D.synced D.doubted D.failed self.new) }
         ensures keeps { IfErr result (λ why. KeepsSafe
             (stand_of D.written D.synced D.doubted D.failed self.old)
             (stand_of D.written D.synced D.doubted D.failed self.new)) }

@@ -11,10 +11,10 @@ ghost use Rattle.rq_record.specs.Views.{record_of, version_of};
 ghost use Rattle.rq_record.specs.declared.fault.Fault.TheVariants.{Resources};
 ghost use Rattle.rq_state.specs.Views.{unit_of};
 ghost use Rattle.rq_live.specs.Starts.{Start, Plain, AreBegun, rules_of, base_of, file_of};
-ghost use Rattle.rq_live.specs.Starts.{state_behind, last_behind};
+ghost use Rattle.rq_live.specs.Starts.{state_reached, last_behind};
 ghost use Rattle.rq_live.specs.Kernels.{IsKernelBehind, IsBodyOf, KernelTakes, KernelStops};
 ghost use Rattle.rq_live.specs.Kernels.{KernelAborts, KernelMarks, KernelStopsMark, KernelTakesEach};
-ghost use Rattle.rq_live.specs.Kernels.{Frames, open_behind};
+ghost use Rattle.rq_live.specs.Kernels.{FramesBody, open_behind};
 
 use rq_front::{FRAME_LEN, HEADER_LEN, LOG_LIMIT, append_frame, header_of};
 use rq_lawful::Rule;
@@ -110,7 +110,7 @@ impl Kernel {
     ) -> Kernel
         ensures stands { (from : Start) (rs : List model.Record) → version_of version ≡ rules_of from
             → AreBegun from rs → MayFollow (rules_of from) (base_of from) rs
-            → length (file_of from rs) ≤ log_limit → machine ≡ state_behind from rs
+            → length (file_of from rs) ≤ log_limit → machine ≡ state_reached from rs
             → last ≡ last_behind from rs → len ≡ length (file_of from rs)
             → IsKernelBehind from rs (file_of from rs) result }
         ensures len { result.len ≡ len }
@@ -179,7 +179,7 @@ impl Kernel {
     fn put_frame(&mut self) -> Result<(), Fault>
         requires body { IsBodyLength (length self.old.body.items) }
         requires room { self.old.len + (36 + length self.old.body.items) ≤ log_limit }
-        ensures framed { OnOk result (Frames self.old self.new self.old.body.items) }
+        ensures framed { OnOk result (FramesBody self.old self.new self.old.body.items) }
         ensures rules { self.new.version ≡ self.old.version }
         ensures machine { self.new.machine ≡ self.old.machine }
     {
@@ -244,7 +244,7 @@ impl Kernel {
     }
 
     /// The bytes that spell the state.
-    pub(crate) fn spelled(&self, alloc: Global) -> Result<CheckBytes, NotDone>
+    pub(crate) fn state_spelled(&self, alloc: Global) -> Result<CheckBytes, NotDone>
         ensures spelled { IfOk result (λ bytes. bytes ≡ state_bytes self.now.machine) }
         ensures fits { OnOk result (FitsCheckpoint self.now.machine) }
         ensures few { OnOk result (self.now.machine.next ≤ 4294967295) }
@@ -269,7 +269,7 @@ impl Kernel {
         ensures few { IfErr result
             (λ why. why ≢ NotDone.Spent → self.new.pending ≡ self.old.pending) }
     {
-        let bytes = self.spelled(alloc)?;
+        let bytes = self.state_spelled(alloc)?;
         match self.take(alloc, &Record::Checkpoint { bytes }) {
             Ok(_) => Ok(()),
             Err(why) => Err(why),

@@ -9,7 +9,7 @@ ghost use Rattle.rq_device.specs.Devices.{AreStored, IsAllSynced};
 ghost use Rattle.rq_live.specs.Starts.{Plain};
 ghost use Rattle.rq_live.specs.Managers.{IsManaged, IsInOrder, KeepsWindow, stand_of, DoesTaking};
 ghost use Rattle.rq_live.specs.Managers.{ManagerStops, StandsStill};
-ghost use Rattle.rq_live.specs.Managers.{Settles, KeepsSafe, IsLength, IsLastOf, AreOpen};
+ghost use Rattle.rq_live.specs.Managers.{Settles, AllIsSafe, KeepsSafe, IsLength, IsLastOf, AreOpen};
 ghost use Rattle.rq_live.specs.Managers.{AreDefined, AreFirstFree};
 
 use crate::kernel::{Kernel, NotDone};
@@ -156,6 +156,8 @@ impl<D: Device + Drop> Manager<D> {
         ensures safe { OnOk result (Settles
             (stand_of D.written D.synced D.doubted D.failed self.old)
             (stand_of D.written D.synced D.doubted D.failed self.new)) }
+        ensures all { OnOk result (AllIsSafe
+            (stand_of D.written D.synced D.doubted D.failed self.new)) }
         ensures keeps { KeepsSafe (stand_of D.written D.synced D.doubted D.failed self.old)
             (stand_of D.written D.synced D.doubted D.failed self.new) }
         ensures refused { IfErr result (λ why. (why ≡ NotDone.Spent) × (self.new.spent ≡ true)) }
@@ -186,6 +188,8 @@ impl<D: Device + Drop> Manager<D> {
             → (self.new ≡ self.old) × (result ≡ Err NotDone.Spent) }
         ensures safe { OnOk result (Settles
             (stand_of D.written D.synced D.doubted D.failed self.old)
+            (stand_of D.written D.synced D.doubted D.failed self.new)) }
+        ensures all { OnOk result (AllIsSafe
             (stand_of D.written D.synced D.doubted D.failed self.new)) }
         ensures keeps { KeepsSafe (stand_of D.written D.synced D.doubted D.failed self.old)
             (stand_of D.written D.synced D.doubted D.failed self.new) }

@@ -2,7 +2,9 @@ pub mod Behind
 pub mod Dumped
 pub mod FrontEnds
 pub mod Gathered
+pub mod Members
 pub mod Puts
 pub mod Scripts
 pub mod ShownFronts
+pub mod Spelled
 pub mod Words

@@ -4,4 +4,5 @@ pub mod Findings
 pub mod Lines
 pub mod Looks
 pub mod Mendings
+pub mod Objects
 pub mod Scripts

@@ -9,6 +9,7 @@ use Rattle.rq_report.specs.Pieces.{AreLinesOf}
 use Rattle.rq_front.specs.Chains.{IsLog}
 use Rattle.rq_found.specs.Ends.{IsRestartFrom, beginning_text, end_line}
 use Rattle.rq_found.specs.Refusals.{IsBroken, IsRefusal, StaysUnshown}
+use Rattle.rq_look.specs.Objects.{closing_members, object_line}
 use Rattle.rq_look.specs.Scripts.{LeavesOut}
 use Rattle.rq_found.specs.declared.trouble.Subject.{Subject}
 use Rattle.rq_found.specs.declared.trouble.Trouble.{Trouble}
@@ -28,9 +29,11 @@ Gathers put text old left new = (written : List ℕ) × Appends old new written
 abbrev pub AppendsLine : Option (List ℕ) → Option (List ℕ) → Type 0
 AppendsLine old new = (text : List ℕ) × Appends old new (text ++ codes "\n")
 
--- the last line of a dump of b: an object of JSON, or that of where its front ends, with some reason
+-- the last line of a dump of b, of where its front ends, with some reason: as an object, which says where
+-- b begins if it was carried on, or as a line
 abbrev pub IsClosing : Option ℕ → List ℕ → Bool → List ℕ → Type 0
-IsClosing at b true text = (object : List ℕ) × (text ≡ object ++ codes "\n")
+IsClosing at b true text = (r : Restarted) × (reason : List ℕ) × IsRestartFrom at b r
+    × (text ≡ object_line (closing_members at r reason))
 IsClosing at b false text = (r : Restarted) × (reason : List ℕ) × IsRestartFrom at b r
     × (text ≡ end_line r reason)
 

@@ -1,37 +1,31 @@
-//! What is written as JSON.
+//! What a dump shows as JSON: a record, a frame without one, what stands behind a front, and its end.
 
-ghost use Rattle.std.specs.Prelude.{◌≡◌, ◌++◌, ℕ, List, codes, OnOk, string_bytes};
+ghost use Rattle.std.specs.Prelude.{◌≡◌, ◌++◌, IfOk, OnOk, codes, string_bytes};
+ghost use Rattle.serde_json.specs.Data.{object};
+ghost use Rattle.rq_judged.specs.Views.{why_of};
+ghost use Rattle.rq_model.specs.Reports.{why_text};
+ghost use Rattle.rq_record.specs.Views.{record_of};
+ghost use Rattle.rq_look.specs.Entries.{shown_entry};
+ghost use Rattle.rq_look.specs.Objects as spec;
+ghost use Rattle.rq_look.specs.Objects.{behind_mark, behind_members, by_members, end_members};
+ghost use Rattle.rq_look.specs.Objects.{error_known, first_place, formless_members, found_members};
+ghost use Rattle.rq_look.specs.Objects.{front_members, load_members, members_shown, object_line};
+ghost use Rattle.rq_look.specs.Objects.{own_members, place_members, record_members};
 
-use crate::bytes::is_plain;
+use crate::objects::{
+    Members, Shown, grouped, put, put_bytes, put_digits, put_number, put_object, put_word,
+};
 use crate::shown_records::{ShownRecord, by_of, registrant_of, unit_number};
 use rq_behind::Found;
-use rq_found::{End, FrontShown, Put, Seen, kind_of};
+use rq_found::{End, Put, kind_of};
+use rq_front::Span;
 use rq_record::{KeptRecord, QueueNo};
-use serde::Serialize;
 use std::alloc::{AllocError, Global};
-use std::fmt::Write;
-use std::str::from_utf8;
-
-/// Bytes as digits, and as text if they are one and it is asked for.
-#[derive(Drop, Serialize)]
-pub(crate) struct BytesShown<'a> {
-    hex: String,
-    #[serde(skip_serializing_if = "Option::is_none")]
-    text: Option<&'a str>,
-}
-
-impl<'a> BytesShown<'a> {
-    /// Those of a payload.
-    pub(crate) fn of(alloc: Global, bytes: &'a [u8]) -> Result<BytesShown<'a>, AllocError> {
-        Ok(BytesShown {
-            hex: hex::encode(alloc, bytes)?,
-            text: from_utf8(bytes).ok(),
-        })
-    }
-}
 
 /// The queue of a number, unless the number stands for none.
-pub(crate) fn queue_number(queue: QueueNo) -> Option<u32> {
+pub(crate) fn queue_number(queue: QueueNo) -> Option<u32>
+    ensures { result ≡ error_known queue.0 }
+{
     if queue == QueueNo::NONE {
         None
     } else {
@@ -39,211 +33,202 @@ pub(crate) fn queue_number(queue: QueueNo) -> Option<u32> {
     }
 }
 
-// A record with those fields that its kind has.
-#[derive(Drop, Serialize)]
-struct RecordObject<'a> {
-    offset: u64,
-    #[serde(skip_serializing_if = "Option::is_none")]
-    record: Option<u64>,
-    #[serde(skip_serializing_if = "Option::is_none")]
-    behind: Option<bool>,
-    kind: &'a str,
-    #[serde(skip_serializing_if = "Option::is_none")]
-    unit: Option<u64>,
-    #[serde(skip_serializing_if = "Option::is_none")]
-    queue: Option<u32>,
-    #[serde(skip_serializing_if = "Option::is_none")]
-    element: Option<u64>,
-    #[serde(skip_serializing_if = "Option::is_none")]
-    name: Option<&'a str>,
-    #[serde(skip_serializing_if = "Option::is_none")]
-    limit: Option<u16>,
-    #[serde(skip_serializing_if = "Option::is_none")]
-    error: Option<u32>,
-    #[serde(skip_serializing_if = "Option::is_none")]
-    priority: Option<u8>,
-    #[serde(skip_serializing_if = "Option::is_none")]
-    registrant: Option<&'a str>,
-    #[serde(skip_serializing_if = "Option::is_none")]
-    tag: Option<u64>,
-    #[serde(skip_serializing_if = "Option::is_none")]
-    payload: Option<BytesShown<'a>>,
-    #[serde(skip_serializing_if = "Option::is_none")]
-    bytes: Option<BytesShown<'a>>,
-}
-
-impl<'a> RecordObject<'a> {
-    // With the fields that records of several kinds have.
-    fn of(it: &ShownRecord<'a>) -> RecordObject<'a> {
-        RecordObject {
-            offset: it.offset,
-            record: it.number,
-            behind: if it.number.is_none() {
-                Some(true)
-            } else {
-                None
-            },
-            kind: kind_of(it.record),
-            unit: unit_number(it.record),
-            queue: it.queue.map(|queue| queue.0),
-            element: None,
-            name: None,
-            limit: None,
-            error: None,
-            priority: None,
-            registrant: registrant_of(it.record),
-            tag: by_of(it.record).map(|by| by.tag),
-            payload: None,
-            bytes: None,
-        }
-    }
-
-    // Takes those that no other kind has. The bytes of a checkpoint, which are as many as a state has,
-    // are shown as digits alone.
-    fn take_fields(&mut self, alloc: Global, record: &'a KeptRecord) -> Put {
-        match record {
-            KeptRecord::Define { limit, error, name } => {
-                self.name = Some(name.text());
-                self.limit = Some(*limit);
-                self.error = queue_number(*error);
-            }
-            KeptRecord::Enqueue {
-                priority,
-                payload,
-                ..
-            } => {
-                self.priority = Some(*priority);
-                self.payload = Some(BytesShown::of(alloc, payload.bytes())?);
-            }
-            KeptRecord::Checkpoint { bytes } => {
-                let hex = hex::encode(alloc, bytes.bytes())?;
-                self.bytes = Some(BytesShown { hex, text: None });
-            }
-            KeptRecord::Kill { element, .. } => self.element = Some(element.0),
-            _ => {}
-        }
-        Ok(())
-    }
-}
-
-/// What serde answers, where it writes into memory: that fails for want of memory alone.
-pub(crate) fn written(json: Result<String, serde_json::Error>) -> Result<String, AllocError> {
-    match json {
-        Ok(json) => Ok(json),
-        Err(_) => Err(AllocError),
-    }
-}
-
-/// Puts the value as JSON in a line of its own, with each hidden character spelled by its numbers.
-pub(crate) fn put_json<T: Serialize>(alloc: Global, text: &mut String, value: &T) -> Put
-    ensures { OnOk result ((json : List ℕ)
-        × (string_bytes text.new ≡ string_bytes text.old ++ (json ++ codes "\n"))) }
+// Marks a record whose number is not known.
+fn put_mark(members: &mut Members<'_>, number: Option<u64>) -> Put
+    ensures { OnOk result (members_shown members.new.items
+        ≡ members_shown members.old.items ++ behind_mark number) }
 {
-    let json = written(serde_json::to_string(alloc, value))?;
-    let json = spelled_out(alloc, json)?;
-    text.push_str(json.as_str())?;
-    text.push_str("\n")
+    match number {
+        Some(_) => Ok(()),
+        None => put(members, "behind", Shown::Flag(true)),
+    }
 }
 
-/// Puts a record as an object in a line, with those fields that its kind has.
-pub(crate) fn put_object(alloc: Global, text: &mut String, it: &ShownRecord<'_>) -> Put
-    ensures { OnOk result ((json : List ℕ)
-        × (string_bytes text.new ≡ string_bytes text.old ++ (json ++ codes "\n"))) }
+// Puts where a record stands, and what most kinds name.
+fn put_place(members: &mut Members<'_>, it: &ShownRecord<'_>) -> Put
+    ensures { OnOk result (members_shown members.new.items
+        ≡ members_shown members.old.items ++ place_members (shown_entry it.now)) }
 {
-    let mut object = RecordObject::of(it);
-    object.take_fields(alloc, it.record)?;
-    put_json(alloc, text, &object)
+    put(members, "offset", Shown::Number(it.offset))?;
+    put_number(members, "record", it.number)?;
+    put_mark(members, it.number)?;
+    put(members, "kind", Shown::Word(kind_of(it.record)))?;
+    put_number(members, "unit", unit_number(it.record))?;
+    put_number(members, "queue", it.queue.map(|queue| u64::from(queue.0)))
 }
 
-// A frame behind the front whose body spells no record, and why.
-#[derive(Clone, Copy, Serialize)]
-struct Unspelled<'a> {
-    offset: u64,
-    behind: bool,
-    reason: &'a str,
+// Puts what no other kind has.
+fn put_own<'a>(members: &mut Members<'a>, record: &'a KeptRecord) -> Put
+    ensures { OnOk result (members_shown members.new.items
+        ≡ members_shown members.old.items ++ own_members (record_of «record».now)) }
+{
+    match record {
+        KeptRecord::Define { limit, error, name } => {
+            put(members, "name", Shown::Word(name.text()))?;
+            put(members, "limit", Shown::Number(u64::from(*limit)))?;
+            put_number(
+                members,
+                "error",
+                queue_number(*error).map(|queue| u64::from(queue)),
+            )
+        }
+        KeptRecord::Enqueue { priority, .. } => {
+            put(members, "priority", Shown::Number(u64::from(*priority)))
+        }
+        KeptRecord::Kill { element, .. } => put(members, "element", Shown::Number(element.0)),
+        _ => Ok(()),
+    }
+}
+
+// Puts the registrant that a record names, and the tag of an operation.
+fn put_by<'a>(members: &mut Members<'a>, record: &'a KeptRecord) -> Put
+    ensures { OnOk result (members_shown members.new.items
+        ≡ members_shown members.old.items ++ by_members (record_of «record».now)) }
+{
+    put_word(members, "registrant", registrant_of(record))?;
+    put_number(members, "tag", by_of(record).map(|by| by.tag))
+}
+
+// The bytes of a payload as an object.
+fn payload_shown<'a>(alloc: Global, bytes: &'a [u8]) -> Result<Shown<'a>, AllocError>
+    ensures { IfOk result
+        (λ v. spec.value_shown v ≡ object (spec.members_of (spec.bytes_members bytes.now))) }
+{
+    let mut members = Vec::new(alloc);
+    put_bytes(alloc, &mut members, bytes)?;
+    Ok(grouped(members))
+}
+
+// The bytes of a checkpoint, which are as many as a state has, as an object of digits alone.
+fn checkpoint_shown<'a>(alloc: Global, bytes: &[u8]) -> Result<Shown<'a>, AllocError>
+    ensures { IfOk result (λ v. spec.value_shown v
+        ≡ object (spec.members_of (spec.named (codes "hex") (spec.digits bytes.now)))) }
+{
+    let mut members = Vec::new(alloc);
+    put_digits(alloc, &mut members, bytes)?;
+    Ok(grouped(members))
+}
+
+// Puts the bytes that a record has.
+fn put_load<'a>(alloc: Global, members: &mut Members<'a>, record: &'a KeptRecord) -> Put
+    ensures { OnOk result (members_shown members.new.items
+        ≡ members_shown members.old.items ++ load_members (record_of «record».now)) }
+{
+    match record {
+        KeptRecord::Enqueue { payload, .. } => {
+            let bytes = payload_shown(alloc, payload.bytes())?;
+            put(members, "payload", bytes)
+        }
+        KeptRecord::Checkpoint { bytes } => {
+            let bytes = checkpoint_shown(alloc, bytes.bytes())?;
+            put(members, "bytes", bytes)
+        }
+        _ => Ok(()),
+    }
+}
+
+// Puts the members of a record, with those that its kind has.
+fn put_members<'a>(alloc: Global, members: &mut Members<'a>, it: &ShownRecord<'a>) -> Put
+    ensures { OnOk result (members_shown members.new.items
+        ≡ members_shown members.old.items ++ record_members (shown_entry it.now)) }
+{
+    put_place(members, it)?;
+    put_own(members, it.record)?;
+    put_by(members, it.record)?;
+    put_load(alloc, members, it.record)
+}
+
+/// Puts a record as an object in a line, with those members that its kind has.
+pub(crate) fn put_record_object(alloc: Global, text: &mut String, it: &ShownRecord<'_>) -> Put
+    ensures { OnOk result (string_bytes text.new
+        ≡ string_bytes text.old ++ object_line (record_members (shown_entry it.now))) }
+{
+    let mut members = Vec::new(alloc);
+    put_members(alloc, &mut members, it)?;
+    put_object(alloc, text, members)
 }
 
 /// Puts a frame behind the front whose body spells no record, and why, as an object in a line.
 pub(crate) fn put_unspelled(alloc: Global, text: &mut String, offset: u64, reason: &str) -> Put
-    ensures { OnOk result ((json : List ℕ)
-        × (string_bytes text.new ≡ string_bytes text.old ++ (json ++ codes "\n"))) }
+    ensures { OnOk result (string_bytes text.new
+        ≡ string_bytes text.old ++ object_line (formless_members offset reason.now)) }
 {
-    let behind = true;
-    let object = Unspelled {
-        offset,
-        behind,
-        reason,
-    };
-    put_json(alloc, text, &object)
+    let mut members = Vec::new(alloc);
+    put(&mut members, "offset", Shown::Number(offset))?;
+    put(&mut members, "behind", Shown::Flag(true))?;
+    put(&mut members, "reason", Shown::Word(reason))?;
+    put_object(alloc, text, members)
 }
 
-// How many right frames stand behind the front, where the first begins, how many bytes fit nothing,
+// Where the first of the frames begins.
+fn first_of(spans: &[Span]) -> Option<u64>
+    ensures { result ≡ first_place spans.now }
+{
+    match spans.first() {
+        Some(span) => Some(span.offset() as u64),
+        None => None,
+    }
+}
+
+// Puts how many right frames stand behind a front, where the first begins, how many bytes fit nothing,
 // and where the search gave up.
-#[derive(Clone, Copy, Serialize)]
-struct FoundShown {
-    frames: usize,
-    #[serde(skip_serializing_if = "Option::is_none")]
-    first: Option<usize>,
-    unfit: usize,
-    #[serde(skip_serializing_if = "Option::is_none")]
-    gave_up: Option<usize>,
+fn put_found(members: &mut Members<'_>, found: &Found) -> Put
+    ensures { OnOk result (members_shown members.new.items
+        ≡ members_shown members.old.items ++ found_members found.now) }
+{
+    put(members, "frames", Shown::Number(found.spans.len() as u64))?;
+    put_number(members, "first", first_of(&found.spans))?;
+    put(members, "unfit", Shown::Number(found.unfit as u64))?;
+    put_number(members, "gave_up", found.gave_up.map(|place| place as u64))
 }
 
-#[derive(Clone, Copy, Serialize)]
-struct BehindShown {
-    behind: FoundShown,
+// Puts an object of one member, which is an object, in a line.
+fn put_only<'a>(alloc: Global, text: &mut String, name: &'a str, inner: Members<'a>) -> Put
+    ensures { OnOk result (string_bytes text.new ≡ string_bytes text.old
+        ++ object_line (spec.named name.now (object (spec.members_of (members_shown inner.entry.items))))) }
+{
+    let mut members = Vec::new(alloc);
+    put(&mut members, name, grouped(inner))?;
+    put_object(alloc, text, members)
 }
 
 /// Puts what stands behind the front as an object in a line.
 pub(crate) fn put_behind_object(alloc: Global, text: &mut String, found: &Found) -> Put
-    ensures { OnOk result ((json : List ℕ)
-        × (string_bytes text.new ≡ string_bytes text.old ++ (json ++ codes "\n"))) }
+    ensures { OnOk result (string_bytes text.new
+        ≡ string_bytes text.old ++ object_line (behind_members found.now)) }
 {
-    let behind = FoundShown {
-        frames: found.spans.len(),
-        first: found.spans.first().map(|span| span.offset()),
-        unfit: found.unfit,
-        gave_up: found.gave_up,
-    };
-    put_json(alloc, text, &BehindShown { behind })
+    let mut members = Vec::new(alloc);
+    put_found(&mut members, found)?;
+    put_only(alloc, text, "behind", members)
 }
 
-// The last line of a dump.
-#[derive(Clone, Copy, Serialize)]
-struct ClosingShown<'a> {
-    front: FrontShown<'a>,
-}
-
-/// Puts the last line of a dump, of where the front ends, as an object.
-pub(crate) fn put_closing_object(alloc: Global, text: &mut String, end: &End) -> Put
-    ensures { OnOk result ((json : List ℕ)
-        × (string_bytes text.new ≡ string_bytes text.old ++ (json ++ codes "\n"))) }
+// Puts where a front ends.
+fn put_front<'a>(members: &mut Members<'a>, at: Option<u64>, end: &'a End) -> Put
+    ensures { OnOk result (members_shown members.new.items ≡ members_shown members.old.items
+        ++ front_members at end.now.front.next end.now.front.used end.now.front.total
+        (why_text (why_of end.now.front.why)) (string_bytes end.now.reason)) }
 {
-    let front = FrontShown::of(end);
-    put_json(alloc, text, &ClosingShown { front })
+    put_number(members, "carried_at", at)?;
+    put(members, "records", Shown::Number(end.front.next))?;
+    put(members, "used", Shown::Number(end.front.used))?;
+    put(members, "total", Shown::Number(end.front.total))?;
+    put(members, "why", Shown::Word(end.front.why.word()))?;
+    put(members, "reason", Shown::Word(end.reason.as_str()))
 }
 
-// Puts a character of JSON; one that is hidden by its numbers.
-fn put_spelled(text: &mut String, c: char) -> Put {
-    if c == '\n' || !Seen::is_hidden(c) {
-        return text.push(c);
-    }
-    let mut units = [0; 2];
-    for unit in c.encode_utf16(&mut units).iter() {
-        write!(text, "\\u{:04x}", *unit)?;
-    }
-    Ok(())
-}
-
-/// The same value of JSON with each hidden character spelled by its numbers: such ones stand in its
-/// strings alone, but for the ends of its lines.
-pub(crate) fn spelled_out(alloc: Global, json: String) -> Result<String, AllocError> {
-    if json.as_bytes().iter().all(|b| is_plain(*b) || *b == b'\n') {
-        return Ok(json);
-    }
-    let mut text = String::with_capacity(alloc, json.len())?;
-    for c in json.chars() {
-        put_spelled(&mut text, c)?;
-    }
-    Ok(text)
+/// Puts the last line of a dump, of where the front ends and with which checkpoint the log begins, as an
+/// object.
+pub(crate) fn put_closing_object(
+    alloc: Global,
+    text: &mut String,
+    at: Option<u64>,
+    end: &End,
+) -> Put
+    ensures { OnOk result (string_bytes text.new ≡ string_bytes text.old ++ object_line (end_members
+        at end.now.front.next end.now.front.used end.now.front.total
+        (why_text (why_of end.now.front.why)) (string_bytes end.now.reason))) }
+{
+    let mut members = Vec::new(alloc);
+    put_front(&mut members, at, end)?;
+    put_only(alloc, text, "front", members)
 }

@@ -13,10 +13,12 @@ mod json;
 mod lines;
 mod log_script;
 mod mendings;
+mod objects;
 mod reports;
 mod salvages;
 mod sheet;
 mod shown_records;
+mod spelling;
 mod stories;
 mod wanted;
 

@@ -11,7 +11,9 @@ ghost use Rattle.rq_found.specs.declared.trouble.Trouble.TheVariants.{Log};
 ghost use Rattle.rq_look.specs.Looks.{AppendsLine, BreaksReport, HasQueue, LacksReport, PutsQueue, PutsReport};
 ghost use Rattle.rq_look.specs.Looks.{PutsReportAs, StaysUnreported};
 
-use crate::json::{BytesShown, queue_number, spelled_out, written};
+use crate::json::queue_number;
+use crate::objects::written;
+use crate::spelling::spelled_out;
 use rq_found::{
     End, FrontShown, Output, OverWrite, RegistrantShown, ShownLog, Trouble, write_bytes,
 };
@@ -21,7 +23,26 @@ use rq_restart::{Fault, Plan, Restarted};
 use rq_state::{Definition, KeptElement as Element, State};
 use serde::Serialize;
 use std::alloc::{AllocError, Global};
+use std::str::from_utf8;
 use std::thread::Threads;
+
+// Bytes as digits, and as text if they are one.
+#[derive(Drop, Serialize)]
+struct BytesShown<'a> {
+    hex: String,
+    #[serde(skip_serializing_if = "Option::is_none")]
+    text: Option<&'a str>,
+}
+
+impl<'a> BytesShown<'a> {
+    // Those of a payload.
+    fn of(alloc: Global, bytes: &'a [u8]) -> Result<BytesShown<'a>, AllocError> {
+        Ok(BytesShown {
+            hex: hex::encode(alloc, bytes)?,
+            text: from_utf8(bytes).ok(),
+        })
+    }
+}
 
 #[derive(Drop, Serialize)]
 struct ElementShown<'a> {

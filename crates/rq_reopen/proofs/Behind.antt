@@ -16,7 +16,7 @@ use Rattle.rq_restart.specs.RedoneFronts.{IsRedoneFront}
 use Rattle.rq_left.specs.Left.{SyncedStays, SyncedIsHeaded, CommitStays, BeginningIsExact}
 use Rattle.rq_live.specs.declared.kernel.Kernel.{Kernel}
 use Rattle.rq_live.specs.Kernels.{IsKernelBehind, StandsWithin}
-use Rattle.rq_live.specs.Starts.{Start, Plain, AreBegun, rules_of, base_of, file_of, state_behind, last_behind}
+use Rattle.rq_live.specs.Starts.{Start, Plain, AreBegun, rules_of, base_of, file_of, state_reached, last_behind}
 use Rattle.rq_reopen.specs.declared.found_log.FoundLog.{FoundLog}
 use Rattle.std.specs.Prelude.{Result, Ok, Err, IfOk, IfErr}
 use Rattle.rq_record.specs.declared.fault.Fault.{Fault}
@@ -30,7 +30,7 @@ use Rattle.rq_reopen.proofs.Found.{begins_with_safe, committed_there, mishap}
 pub is_found : (c : List ℕ) (f : RedoneFront) (machine : State) (k : Kernel) → IsRedoneFront c f → machine ≡ f.state
     → ((from : Start) (rs : List Record) → version_of f.version ≡ rules_of from → AreBegun from rs
     → MayFollow (rules_of from) (base_of from) rs → length (file_of from rs) ≤ log_limit
-    → machine ≡ state_behind from rs → f.last ≡ last_behind from rs → f.end.used ≡ length (file_of from rs)
+    → machine ≡ state_reached from rs → f.last ≡ last_behind from rs → f.end.used ≡ length (file_of from rs)
     → IsKernelBehind from rs (file_of from rs) k)
     → IsFound c (record { version = f.version; end = f.end; kernel = k })
 is_found c f machine k is same behind = record {

@@ -1,5 +1,5 @@
 -- A unit that committed in a file is committed there, whatever follows.
-use Rattle.std.proofs.Common.{◌≡◌, ℕ, suc, ◌+◌, ◌≤◌, true, false, List, [], ◌∷◌, ◌++◌, length, refl, sym, ap, subst, ◌∙◌}
+use Rattle.std.proofs.Common.{◌≡◌, ℕ, suc, ◌+◌, true, false, List, [], ◌∷◌, ◌++◌, length, refl, ap, subst, ◌∙◌}
 use Rattle.std.proofs.Common.{arith, Bool, ◌||◌}
 use Rattle.std.specs.Prelude.{if◌then◌else◌, ◌==◌}
 use Rattle.std.specs.List.{list_any, filter}
@@ -8,7 +8,7 @@ use Rattle.rq_model.specs.Records.{Record, Define, Register, Deregister, Begin, 
 use Rattle.rq_model.specs.Records.{Checkpoint, Kill, Version}
 use Rattle.rq_model.specs.States.{State}
 use Rattle.rq_model.specs.WellFormed.{IsWellFormed}
-use Rattle.rq_model.specs.Machine.{all_lawful, run, outcome_from, Committed, Aborted}
+use Rattle.rq_model.specs.Machine.{all_lawful, outcome_from, Committed, Aborted}
 use Rattle.rq_model.specs.Laws.{NumbersAfter, is_still_open, begun}
 use Rattle.rq_model.proofs.Lists.{by_cases}
 use Rattle.rq_model.proofs.Restarts.{lawful_cut}
@@ -47,12 +47,12 @@ passes test u (v ∷ us) h =
     → test u ≡ true)
     (λ _ yes k. by_cases (v == u) (λ b. (v == u) ≡ b → test u ≡ true)
     (λ _ same. subst (λ (z : ℕ). test z ≡ true) (eqb-true v u same) yes)
-    (λ _ no. passes test u us (later v u (filter test us) no k)) refl)
-    (λ _ no k. passes test u us k) refl h
+    (λ _ other. passes test u us (later v u (filter test us) other k)) refl)
+    (λ _ other k. passes test u us k) refl h
   where
     later : (v u : ℕ) (ws : List ℕ) → (v == u) ≡ false → list_any (λ w. w == u) (v ∷ ws) ≡ true
         → list_any (λ w. w == u) ws ≡ true
-    later v u ws no h = subst (λ (b : Bool). b || list_any (λ w. w == u) ws ≡ true) no h
+    later v u ws other h = subst (λ (b : Bool). b || list_any (λ w. w == u) ws ≡ true) other h
 
 -- the first COMMIT of the unit
 commits_first : (n u : ℕ) (xs : List Record) → outcome_from n u (Commit u ∷ xs) ≡ Committed n

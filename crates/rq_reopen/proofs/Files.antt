@@ -1,6 +1,6 @@
 -- A kernel that stands behind what a crash left of a log or of a carried file.
-use Rattle.std.proofs.Common.{◌≡◌, ℕ, ◌+◌, ◌≤◌, true, Bool, List, [], ◌∷◌, ◌++◌, length, take, drop, Some, Option, inl, inr}
-use Rattle.std.proofs.Common.{refl, sym, ap, subst, ◌∙◌, arith, append_assoc, ⊎_elim}
+use Rattle.std.proofs.Common.{◌≡◌, ℕ, ◌+◌, ◌≤◌, Bool, List, [], ◌∷◌, ◌++◌, length, take, drop, Some, Option, inl, inr}
+use Rattle.std.proofs.Common.{refl, sym, ap, subst, ◌∙◌, arith, append_assoc}
 use Rattle.std.specs.List.{AllByRecursion}
 use Rattle.std.specs.Prelude.{Result, Ok, Err, IfOk, IfErr, IfSome, IfNone, None}
 use Rattle.rq_front.specs.Chains.{IsHeaded}
@@ -9,15 +9,15 @@ use Rattle.std.proofs.lemmas.List.{append_cancel_left, drop_at, take_at, length-
 use Rattle.rq_model.specs.Records.{Record, Checkpoint, Commit, Version}
 use Rattle.rq_model.specs.Spelling.{body_of, IsRecord}
 use Rattle.rq_model.specs.Frames.{log_limit, digest, header, before, frames_of, HasHeader, start}
-use Rattle.rq_model.specs.States.{State, empty}
-use Rattle.rq_model.specs.Machine.{run, all_lawful, outcome_from, Committed}
+use Rattle.rq_model.specs.States.{State}
+use Rattle.rq_model.specs.Machine.{all_lawful, outcome_from, Committed}
 use Rattle.rq_model.specs.StateSpelling.{state_bytes, SpellsState}
 use Rattle.rq_model.specs.Laws.{EmptyIsWellFormed, NumbersAfter}
-use Rattle.rq_model.specs.LogLaws.{BytesSpellOneState, OneFront, FrontStops}
-use Rattle.rq_model.specs.Fronts.{IsFront, IsLongest}
+use Rattle.rq_model.specs.LogLaws.{BytesSpellOneState, OneFront}
+use Rattle.rq_model.specs.Fronts.{IsLongest}
 use Rattle.rq_model.specs.Appending.{MayFollow, AreWhole, CrashInFrames}
-use Rattle.rq_model.specs.Carrying.{IsFrontAt, IsNoLog, ReadsAsLog, HasCarriedHeader, carried_header, carried_at, as_log}
-use Rattle.rq_model.proofs.Longest.{same_first, one_header, one_longest, front_whole}
+use Rattle.rq_model.specs.Carrying.{IsNoLog, ReadsAsLog, HasCarriedHeader, carried_header, carried_at, as_log}
+use Rattle.rq_model.proofs.Longest.{same_first, one_header, one_longest}
 use Rattle.rq_model.proofs.Restarts.{header_long, follows}
 use Rattle.rq_record.specs.Views.{version_of}
 use Rattle.rq_left.specs.Left.{SyncedStays, CommitStays, BeginningIsExact}
@@ -25,12 +25,12 @@ use Rattle.rq_device.specs.Devices.{CrashLeaves, AreStored, IsAllSynced}
 use Rattle.rq_restart.specs.declared.redone.RedoneFront.{RedoneFront}
 use Rattle.rq_restart.specs.RedoneFronts.{IsRedoneAt}
 use Rattle.rq_live.specs.declared.kernel.Kernel.{Kernel}
-use Rattle.rq_live.specs.Starts.{Start, Plain, Carried, AreBegun, rules_of, base_of, link_of, head_of, file_of}
-use Rattle.rq_live.specs.Starts.{state_behind, last_behind, checkpoint_in}
+use Rattle.rq_live.specs.Starts.{Start, Plain, Carried, AreBegun, rules_of, base_of, file_of}
+use Rattle.rq_live.specs.Starts.{state_reached, last_behind, checkpoint_in}
 use Rattle.rq_live.specs.Kernels.{IsKernelBehind, StandsWithin}
 use Rattle.rq_live.specs.Managers.{Stand, IsManaged, IsSafe}
 use Rattle.rq_live.proofs.Begun.{well_based}
-use Rattle.rq_live.proofs.CarriedFiles.{carried_header_long, reads_as, reads_linked, reads_behind, reads_headed, reads_long}
+use Rattle.rq_live.proofs.CarriedFiles.{carried_header_long, reads_as, reads_linked, reads_behind}
 use Rattle.rq_live.proofs.CarriedFiles.{file_long}
 use Rattle.rq_record.specs.declared.fault.Fault.{Fault}
 use Rattle.rq_record.specs.declared.fault.Fault.TheVariants.{Resources}
@@ -41,9 +41,9 @@ use Rattle.rq_reopen.specs.declared.found_log.FoundLog.{FoundLog}
 use Rattle.rq_reopen.specs.declared.openings.Opening.{Opening}
 use Rattle.rq_reopen.specs.declared.openings.NotOpened.{NotOpened}
 use Rattle.rq_reopen.specs.declared.openings.NotOpened.TheVariants.{Log, Damaged}
-use Rattle.rq_reopen.specs.Openings.{IsFound, MayBeCut, OpensBehind}
+use Rattle.rq_reopen.specs.Openings.{MayBeCut, OpensBehind}
 use Rattle.rq_reopen.specs.Files.{FindsFrom, OpensFrom, OpensFile}
-use Rattle.rq_reopen.specs.Files.{IsFoundFrom, IsFoundIn, GoesOnIn, GoesOnAnywhere, IsBeginningIn, IsExactlyIn, begins_in}
+use Rattle.rq_reopen.specs.Files.{IsCarriedFound, IsFoundIn, GoesOnIn, GoesOnAnywhere, IsBeginningIn, IsExactlyIn}
 use Rattle.rq_reopen.proofs.Behind.{goes_on_at, is_exactly_found}
 use Rattle.rq_reopen.proofs.Commits.{commits_from}
 
@@ -120,7 +120,7 @@ record Seen (version : Version) (link bytes : List ℕ) (s : State) (l : FoundLo
       (file_of (Carried version link s) (checkpoint_in s ∷ after)) l.kernel
 
 seen_in : (version : Version) (link bytes b : List ℕ) (l : FoundLog) → Reads version link bytes b
-    → version_of l.version ≡ version → (is : IsFoundFrom b l) → Seen version link bytes is.base l
+    → version_of l.version ≡ version → (is : IsCarriedFound b l) → Seen version link bytes is.base l
 seen_in version link bytes b l r same is =
     let Found : Version → List ℕ → List ℕ → List ℕ → Type 0 = λ (v : Version) (p x k : List ℕ).
     IsLongest v is.base p x (Checkpoint k ∷ is.after) (drop l.end.used b)
@@ -155,7 +155,7 @@ read_head version c = take_at (header version) (drop 40 c) 40 (header_long versi
 -- a carried file that was found, by its own link and frames
 found_there : ReadsAsLog → (version v : Version) (link bytes c : List ℕ) (l : FoundLog) → length link ≡ 32
     → c ≡ (carried_header version ++ link) ++ bytes → HasCarriedHeader version c → HasCarriedHeader v c
-    → (is : IsFoundFrom (as_log v c) l)
+    → (is : IsCarriedFound (as_log v c) l)
     → (version_of l.version ≡ version) × Seen version link bytes is.base l
 found_there read version v link bytes c l long parts headed other is =
     let same = read.version version v c headed other in
@@ -371,9 +371,9 @@ is_exactly_in begins fronts apart read one crash c l (inr is) (Carried version l
 pub is_found_from : (b : List ℕ) (f : RedoneFront) (machine : State) (k : Kernel) → IsRedoneAt b carried_at f → machine ≡ f.state
     → ((from : Start) (rs : List Record) → version_of f.version ≡ rules_of from → AreBegun from rs
     → MayFollow (rules_of from) (base_of from) rs → length (file_of from rs) ≤ log_limit
-    → machine ≡ state_behind from rs → f.last ≡ last_behind from rs → f.end.used ≡ length (file_of from rs)
+    → machine ≡ state_reached from rs → f.last ≡ last_behind from rs → f.end.used ≡ length (file_of from rs)
     → IsKernelBehind from rs (file_of from rs) k)
-    → IsFoundFrom b (record { version = f.version; end = f.end; kernel = k })
+    → IsCarriedFound b (record { version = f.version; end = f.end; kernel = k })
 is_found_from b f machine k is same behind =
     let version = version_of f.version in
     let link = before carried_at b in
@@ -412,7 +412,7 @@ is_found_from b f machine k is same behind =
     link_there b size = omega (arith, size, length-take 32 (drop 40 b), length-drop 40 b)
 
 -- it stands within these bytes, and no frame is pending
-pub stands_within_from : (b : List ℕ) (l : FoundLog) → IsFoundFrom b l → StandsWithin l.kernel (length b)
+pub stands_within_from : (b : List ℕ) (l : FoundLog) → IsCarriedFound b l → StandsWithin l.kernel (length b)
 stands_within_from b l is =
     let version = version_of l.version in
     let link = before carried_at b in
@@ -433,7 +433,7 @@ stands_within_from b l is =
 -- What is opened.
 
 pub found_from : (b : List ℕ) (f : RedoneFront) (result : Result FoundLog Fault) → IsRedoneAt b carried_at f
-    → IfOk result (λ (l : FoundLog). (c : List ℕ) → IsRedoneAt c carried_at f → IsFoundFrom c l)
+    → IfOk result (λ (l : FoundLog). (c : List ℕ) → IsRedoneAt c carried_at f → IsCarriedFound c l)
     → IfErr result (λ (e : Fault). e ≡ Resources) → FindsFrom b result
 found_from b f (Ok l) is found refused = found b is
 found_from b f (Err e) is found refused = subst (RefusedAt b carried_at) (sym refused) tt
@@ -444,7 +444,7 @@ within_from b (Ok l) is = stands_within_from b l is
 within_from b (Err e) is = tt
 
 -- a front from the first frame on is longer than a link, and stands within the bytes
-pub found_within_from : (b : List ℕ) (l : FoundLog) → IsFoundFrom b l → (32 ≤ l.end.used) × (l.end.used ≤ length b)
+pub found_within_from : (b : List ℕ) (l : FoundLog) → IsCarriedFound b l → (32 ≤ l.end.used) × (l.end.used ≤ length b)
 found_within_from b l is = (
   omega (arith, is.used),
   omega (
@@ -458,16 +458,16 @@ found_within_from b l is = (
 )
 
 -- behind the front that was found
-pub opens_from : (b : List ℕ) (l : FoundLog) (drops : Bool) → IsFoundFrom b l → (result : Result Opening NotOpened)
+pub opens_from : (b : List ℕ) (l : FoundLog) (drops : Bool) → IsCarriedFound b l → (result : Result Opening NotOpened)
     → OpensBehind b l drops result → OpensFrom b drops result
 opens_from b l drops found (Ok o) is = (
-  subst (IsFoundFrom b) (sym is.0) found,
+  subst (IsCarriedFound b) (sym is.0) found,
   is.1 ∙ ap (λ (x : FoundLog). drop x.end.used b) (sym is.0),
   subst (λ (x : FoundLog). MayBeCut b x drops o.damage) (sym is.0) is.2,
 )
 opens_from b l drops found (Err (Log fault)) is = subst (RefusedAt b carried_at) (sym is) tt
 opens_from b l drops found (Err (Damaged x damage)) is = (
-  subst (IsFoundFrom b) (sym is.0) found,
+  subst (IsCarriedFound b) (sym is.0) found,
   is.1,
   subst (λ (z : FoundLog). IsDamage b z.end.used (why_of z.end.why) damage) (sym is.0) is.2,
 )
@@ -483,14 +483,12 @@ file_so P c drops (Ok o) opens all = all o.found (found_in_file c drops o opens)
 file_so P c drops (Err e) opens all = tt
 
 -- a carried file that was read as a log has its own header again
-pub written_back : {X : Type 0} (version : X → Version) → ReadsAsLog → (v : Version) (c x : List ℕ)
-    → HasCarriedHeader v c → (result : Option X)
-    → IfSome result (λ w. HasHeader (version w) (as_log v c)
-    × (x ≡ carried_header (version w) ++ drop 40 (as_log v c)))
-    → IfNone result ((IsHeaded (as_log v c) → ⊥) × (x ≡ as_log v c)) → x ≡ c
-written_back version read v c x headed (Some w) some none =
-    some.1
-    ∙ ap (λ (u : Version). carried_header u ++ drop 40 (as_log v c))
-    (one_head (version w) v (as_log v c) some.0 (read_head v c))
-    ∙ sym (read.back v c headed)
-written_back version read v c x headed None some none = absurd (none.0 (v, read_head v c))
+pub written_back : {X : Type 0} (version : X → Version) → ReadsAsLog → (v : Version) (c b x : List ℕ)
+    → HasCarriedHeader v c → b ≡ as_log v c → (result : Option X)
+    → IfSome result (λ w. HasHeader (version w) b × (x ≡ carried_header (version w) ++ drop 40 b))
+    → IfNone result ((IsHeaded b → ⊥) × (x ≡ b)) → x ≡ c
+written_back version read v c b x headed is (Some w) some none =
+    let same = one_head (version w) v (as_log v c) (subst (HasHeader (version w)) is some.0) (read_head v c) in
+    some.1 ∙ (λ i. carried_header (same i) ++ drop 40 (is i)) ∙ sym (read.back v c headed)
+written_back version read v c b x headed is None some none =
+    absurd (none.0 (v, subst (HasHeader v) (sym is) (read_head v c)))

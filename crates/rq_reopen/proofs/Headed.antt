@@ -1,10 +1,10 @@
 -- What a crash leaves of a file that was safe is not refused as none, nor for its first frame.
-use Rattle.std.proofs.Common.{◌≡◌, ℕ, ◌+◌, ◌≤◌, Bool, List, [], ◌∷◌, ◌++◌, length, take, drop, Some, inl, inr}
-use Rattle.std.proofs.Common.{refl, sym, ap, subst, ◌∙◌, arith, append_assoc}
+use Rattle.std.proofs.Common.{◌≡◌, ℕ, Bool, List, ◌∷◌, ◌++◌, length, drop, Some, inl, inr}
+use Rattle.std.proofs.Common.{sym, ap, subst, ◌∙◌, arith, append_assoc}
 use Rattle.std.specs.Prelude.{Result, Ok, Err, IfErr}
 use Rattle.rq_model.specs.Records.{Record, Version}
-use Rattle.rq_model.specs.Spelling.{body_of, IsRecord}
-use Rattle.rq_model.specs.Frames.{digest, frame, frames_of, before, body_in, HasHeader, HasRightFrame, start}
+use Rattle.rq_model.specs.Spelling.{body_of}
+use Rattle.rq_model.specs.Frames.{digest, frame, frames_of, body_in, HasHeader, HasRightFrame, start}
 use Rattle.rq_model.specs.States.{State}
 use Rattle.rq_model.specs.StateSpelling.{state_bytes, SpellsState}
 use Rattle.rq_model.specs.LogLaws.{FrameIsRight}
@@ -17,12 +17,12 @@ use Rattle.rq_record.specs.declared.fault.Fault.TheVariants as fault
 use Rattle.rq_front.specs.Chains.{IsCarried, Refused}
 use Rattle.rq_judged.specs.Refusals.{RefusedAt}
 use Rattle.rq_device.specs.Devices.{CrashLeaves}
-use Rattle.rq_live.specs.Starts.{Start, Plain, Carried, AreBegun, file_of, checkpoint_in}
+use Rattle.rq_live.specs.Starts.{Plain, Carried, AreBegun, file_of, checkpoint_in}
 use Rattle.rq_live.specs.Managers.{Stand, IsManaged, IsSafe}
 use Rattle.rq_reopen.specs.declared.openings.Opening.{Opening}
 use Rattle.rq_reopen.specs.declared.openings.NotOpened.{NotOpened}
 use Rattle.rq_reopen.specs.declared.openings.NotOpened.TheVariants.{Log, Damaged}
-use Rattle.rq_reopen.specs.Files.{OpensFile, IsNotShutIn, MayRefuse}
+use Rattle.rq_reopen.specs.Files.{OpensFile, IsNotShutIn}
 use Rattle.rq_reopen.proofs.Files.{begins_with_file, carried_head, plain_head, one_head, read_head, Reads, reads}
 
 -- the first frame of a file that was safe

@@ -1,6 +1,6 @@
 -- What is found after a crash of the file of a manager, whether that is a log or a carried file.
-use Rattle.std.specs.Prelude.{◌≡◌, ◌≤◌, ◌+◌, ◌⊎◌, ⊤, ℕ, Bool, true, false, List, ◌∷◌, ◌++◌, length, take, drop, Some, None}
-use Rattle.std.specs.Prelude.{Option, Result, Ok, Err, IfOk, IfErr}
+use Rattle.std.specs.Prelude.{◌≡◌, ◌+◌, ◌⊎◌, ⊤, ℕ, Bool, false, List, ◌∷◌, ◌++◌, length, take, drop, Some}
+use Rattle.std.specs.Prelude.{Result, Ok, Err}
 use Rattle.rq_model.specs.Records.{Record, Checkpoint, Commit, Version}
 use Rattle.rq_model.specs.Frames.{frames_of, last_of, before}
 use Rattle.rq_model.specs.States.{State}
@@ -16,7 +16,7 @@ use Rattle.rq_judged.specs.Refusals.{RefusedAt}
 use Rattle.rq_judged.specs.Views.{why_of}
 use Rattle.rq_journal.specs.LeftBehind.{IsDamage}
 use Rattle.rq_device.specs.Devices.{CrashLeaves}
-use Rattle.rq_live.specs.Starts.{Start, Carried, rules_of, base_of, link_of, head_of, file_of}
+use Rattle.rq_live.specs.Starts.{Start, Carried, rules_of, base_of, link_of, bytes_ahead, file_of}
 use Rattle.rq_live.specs.Kernels.{IsKernelBehind}
 use Rattle.rq_live.specs.Managers.{Stand, IsManaged, IsSafe}
 use Rattle.rq_reopen.specs.Openings.{IsFound, MayBeCut, OpensLog}
@@ -30,7 +30,7 @@ abbrev pub begins_in : Version → List ℕ → State → Start
 begins_in version b base = Carried version (before carried_at b) base
 
 -- the kernel stands behind the front of b from its first frame on
-pub record IsFoundFrom (b : List ℕ) (l : FoundLog) : Type 0 where
+pub record IsCarriedFound (b : List ℕ) (l : FoundLog) : Type 0 where
   pub base : State
   pub kept : List ℕ
   pub after : List Record
@@ -44,15 +44,15 @@ pub record IsFoundFrom (b : List ℕ) (l : FoundLog) : Type 0 where
 
 -- that, or why b is refused
 abbrev pub FindsFrom : List ℕ → Result FoundLog Fault → Type 0
-FindsFrom b (Ok l) = IsFoundFrom b l
+FindsFrom b (Ok l) = IsCarriedFound b l
 FindsFrom b (Err e) = RefusedAt b carried_at e
 
 -- how b is opened, or why it is not
 abbrev pub OpensFrom : List ℕ → Bool → Result Opening NotOpened → Type 0
-OpensFrom b drops (Ok o) = IsFoundFrom b o.found × (o.cut.items ≡ drop o.found.end.used b)
+OpensFrom b drops (Ok o) = IsCarriedFound b o.found × (o.cut.items ≡ drop o.found.end.used b)
     × MayBeCut b o.found drops o.damage
 OpensFrom b drops (Err (Log fault)) = RefusedAt b carried_at fault
-OpensFrom b drops (Err (Damaged found damage)) = IsFoundFrom b found × (drops ≡ false)
+OpensFrom b drops (Err (Damaged found damage)) = IsCarriedFound b found × (drops ≡ false)
     × IsDamage b found.end.used (why_of found.end.why) damage
 
 -- c is no carried file, and is opened as a log; or it is one, and is opened as it is read
@@ -63,7 +63,7 @@ OpensFile c drops result = ((IsCarried c → ⊥) × OpensLog c drops result)
 -- so c is found
 abbrev pub IsFoundIn : List ℕ → FoundLog → Type 0
 IsFoundIn c l = IsFound c l
-    ⊎ ((version : Version) × HasCarriedHeader version c × IsFoundFrom (as_log version c) l)
+    ⊎ ((version : Version) × HasCarriedHeader version c × IsCarriedFound (as_log version c) l)
 
 -- the kernel stands behind these records and others; a unit that committed among these is committed
 pub record GoesOnIn (from : Start) (rs : List Record) (l : FoundLog) : Type 0 where
@@ -84,7 +84,7 @@ GoesOnAnywhere c l =
 -- the kernel stands behind the records whose frames are whole in c, the first of these, and no others
 pub record IsBeginningIn (from : Start) (rs : List Record) (c : List ℕ) (l : FoundLog) : Type 0 where
   pub count : ℕ
-  pub whole : AreWhole (link_of from) rs (drop (length (head_of from)) c) count
+  pub whole : AreWhole (link_of from) rs (drop (length (bytes_ahead from)) c) count
   pub at : IsKernelBehind from (take count rs) (file_of from (take count rs)) l.kernel
 
 -- For each manager that was, if the bytes c begin what it wrote, the kernel stands behind the first of

@@ -5,7 +5,7 @@ ghost use Rattle.rq_model.specs.Carrying.{carried_at};
 ghost use Rattle.rq_record.specs.declared.fault.Fault.TheVariants.{Resources};
 ghost use Rattle.rq_restart.specs.RedoneFronts.{IsRedoneAt, IsRedoneFront};
 ghost use Rattle.rq_live.specs.Kernels.{StandsWithin};
-ghost use Rattle.rq_reopen.specs.Files.{FindsFrom, IsFoundFrom};
+ghost use Rattle.rq_reopen.specs.Files.{FindsFrom, IsCarriedFound};
 ghost use Rattle.rq_reopen.specs.Openings.{Finds, IsFound, GoesOnAt, IsExactlyFound};
 ghost use Rattle.rq_reopen.specs.Reopenings.{IsNoMishap};
 
@@ -35,7 +35,7 @@ pub struct FoundLog {
 fn behind(alloc: Global, front: &RedoneFront) -> Result<FoundLog, Fault>
     ensures found { IfOk result (λ l. (c : List ℕ) → IsRedoneFront c front.now → IsFound c l) }
     ensures from { IfOk result
-        (λ l. (b : List ℕ) → IsRedoneAt b carried_at front.now → IsFoundFrom b l) }
+        (λ l. (b : List ℕ) → IsRedoneAt b carried_at front.now → IsCarriedFound b l) }
     ensures refused { IfErr result (λ e. e ≡ Resources) }
 {
     let machine = Machine::of(alloc, &front.state)?;

@@ -157,7 +157,6 @@ impl Opening {
         rq_left::crash_leaves();
         rq_model::one_front();
         rq_model::one_spelling();
-        rq_model::versions();
         rq_model::carried_headers();
         rq_model::frames_are_right();
         rq_model::appended_logs();

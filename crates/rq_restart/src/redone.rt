@@ -107,7 +107,7 @@ impl RedoneFront {
 impl RedoneFront {
     /// What a restart answers of a log of so many bytes with this front: its open units are aborted,
     /// rising. Refused with `Resources` alone.
-    pub fn restarted<R: Threads + Sync, G: Gate + Sync>(
+    pub fn into_restarted<R: Threads + Sync, G: Gate + Sync>(
         self,
         rt: &R,
         alloc: Global,

@@ -148,8 +148,13 @@ where
     }
 }
 
-// Answers each line.
-fn drive<R, D>(rt: &R, m: &mut Manager<D>, version: Version, lines: &[u8]) -> Result<(), Unanswered>
+// Answers each line up to one that begins anew, and gives that back and what is behind it.
+fn drive<'a, R, D>(
+    rt: &R,
+    m: &mut Manager<D>,
+    version: Version,
+    lines: &'a [u8],
+) -> Result<&'a [u8], Unanswered>
 where
     R: Print + AllocGlobal + Threads + Sync,
     D: Device + Shows + Drop,
@@ -157,7 +162,7 @@ where
 {
     let mut rest = lines;
     for number in 1..u64::MAX {
-        if rest.is_empty() {
+        if rest.is_empty() || rest.starts_with(b"new ".as_slice()) {
             break;
         }
         let (text, after) = line_at(number, rest)?;
@@ -165,7 +170,7 @@ where
         println!(rt; "{answer}")?;
         rest = after;
     }
-    Ok(())
+    Ok(rest)
 }
 
 // Times a manager over a new file: the words are a count, and the file's path.
@@ -180,19 +185,21 @@ where
     }
 }
 
-/// Drives a new manager of the version that the first line tells by the lines behind it; or, if
-/// that tells a count, times a manager.
-pub(crate) fn drive_new<R>(rt: &R, lines: &[u8]) -> Result<(), Unanswered>
+// Drives a new manager of the version that the first line tells by the lines behind it, up to the next
+// such line; or, if that tells a count, times a manager. Gives back what is left.
+fn drive_one<'a, R>(rt: &R, lines: &'a [u8]) -> Result<&'a [u8], Unanswered>
 where
     R: Files<File = File> + Print + Clock + AllocGlobal + Threads + Sync,
 {
     let (head, rest) = line_at(1, lines)?;
     let (word, told) = first_word(head);
     if word == b"time".as_slice() {
-        return time(rt, number_in(told)?);
+        time(rt, number_in(told)?)?;
+        return Ok(rest);
     }
     if word == b"file".as_slice() {
-        return timed_file(rt, told);
+        timed_file(rt, told)?;
+        return Ok(rest);
     }
     let version = if told == b"1".as_slice() {
         Version::One
@@ -201,4 +208,19 @@ where
     };
     let mut m = Manager::new(rt.alloc(), version, Memory::new(rt.alloc()))?;
     drive(rt, &mut m, version, rest)
+}
+
+/// Drives one new manager after the other, each by its lines.
+pub(crate) fn drive_new<R>(rt: &R, lines: &[u8]) -> Result<(), Unanswered>
+where
+    R: Files<File = File> + Print + Clock + AllocGlobal + Threads + Sync,
+{
+    let mut rest = lines;
+    for _ in 0..u64::MAX {
+        if rest.is_empty() {
+            break;
+        }
+        rest = drive_one(rt, rest)?;
+    }
+    Ok(())
 }

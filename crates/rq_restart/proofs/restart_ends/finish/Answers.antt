@@ -1,5 +1,6 @@
-use Rattle.std.proofs.Common.{arith, map}
+use Rattle.std.proofs.Common.{arith}
 use Rattle.rq_record.specs.Views.{record_of, version_of}
+use Rattle.std.proofs.Common.{map}
 use Rattle.rq_catalog.proofs.Fronts.{analysis_is_wider, lawful_in_two}
 use Rattle.rq_restart.proofs.restart_ends.finish.Goals as goal
 

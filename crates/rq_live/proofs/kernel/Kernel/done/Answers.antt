@@ -5,7 +5,7 @@ use Rattle.rq_model.specs.Frames.{log_limit}
 use Rattle.rq_model.specs.States.{State}
 use Rattle.rq_record.specs.Views.{record_of, version_of}
 use Rattle.rq_standing.specs.Machines.{IsDone, state_after}
-use Rattle.rq_live.specs.Kernels.{IsKernelBehind, Frames, open_behind}
+use Rattle.rq_live.specs.Kernels.{IsKernelBehind, FramesBody, open_behind}
 use Rattle.rq_live.proofs.Taking.{moves_on, breaks_at}
 use Rattle.rq_live.proofs.kernel.Kernel.done.Goals as goal
 
@@ -29,8 +29,8 @@ returns-in-Ok-clause-taken c from rs w h =
     let r = record_of c.args.kept.now in
     let a = c.args.self.now in
     let is = c.in-Ok-Done.field-0-is in
-    let framed : Frames (record a { machine = c.take.new.self }) c.put_frame.new.self (body_of r) =
-    subst (Frames (record a { machine = c.take.new.self }) c.put_frame.new.self) c.requires.bytes
+    let framed : FramesBody (record a { machine = c.take.new.self }) c.put_frame.new.self (body_of r) =
+    subst (FramesBody (record a { machine = c.take.new.self }) c.put_frame.new.self) c.requires.bytes
     c.in-Ok.ensures.framed in
     let e = c.has_room.ensures in
     let yes = c.if-not-has_room.false in

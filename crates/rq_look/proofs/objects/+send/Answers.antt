@@ -1,0 +1,34 @@
+use Rattle.std.proofs.Common.{◌≡◌, [], length, drop, Some, sym, ap, ◌∙◌, subst, arith, rules}
+use Rattle.std.proofs.lemmas.List.{drop_all}
+use Rattle.std.proofs.lemmas.Result.{on_ok_weaker}
+use Rattle.serde.specs.Event.{Logs, map_begins}
+use Rattle.serde_json.specs.Data.{object}
+use Rattle.serde_json.specs.Events.{SendsMembers, SendsValue}
+use Rattle.rq_look.specs.Objects.{members_of, members_shown, value_shown}
+use Rattle.rq_look.specs.declared.objects.Shown.{Group}
+use Rattle.rq_look.proofs.Members.{as_many, group_shown}
+use Rattle.rq_look.proofs.objects.+send.Goals as goal
+
+pub send-returns-in-Group : goal.send-returns-in-Group
+send-returns-in-Group g t c =
+    let old = g.S.Serializer.written c.args.out.now in
+    let end = g.S.Serializer.written c.send_members.new.out in
+    on_ok_weaker c.send_members.result (λ e.
+    subst (λ d. SendsValue d old end) (sym (ap value_shown c.in-Group.is ∙ group_shown c.in-Group.members)) e)
+    c.send_members.ensures
+
+pub send_members-returns : goal.send_members-returns
+send_members-returns g t c =
+    let ms = c.args.members.now.items in
+    let xs = c.deref-name-items.result.now in
+    let first = g.S.Serializer.written c.begin_map.new.self in
+    let end = g.S.Serializer.written c.end_map.new.self in
+    let len : c.len.result ≡ length ms = search rules in
+    let begun = subst (λ n. Logs (g.S.Serializer.written c.args.out.now) first (map_begins (Some n))) (len ∙ sym (as_many ms)) c.in_ok-begin_map.ensures in
+    let none : drop c.loop-name.name-index xs ≡ [] = drop_all c.loop-name.name-index xs (omega arith) in
+    on_ok_weaker c.end_map.result (λ e. (
+      first,
+      begun,
+      subst (λ ys. SendsMembers (members_of (members_shown ys)) first end) c.deref-name-items.ensures.value
+          (c.loop-name.invariant end (subst (λ ys. SendsMembers (members_of (members_shown ys)) (g.S.Serializer.written c.loop-name.out) end) (sym none) e)),
+    )) c.end_map.ensures
