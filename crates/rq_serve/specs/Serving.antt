@@ -2,7 +2,7 @@
 use Rattle.std.specs.Prelude.{◌≡◌, ◌⊎◌, ◌||◌, ◌&&◌, ℕ, Bool, true, false, not, List, ◌++◌, Option, Some, None}
 use Rattle.std.specs.Prelude.{[], ◌∷◌, length, string_bytes, Result, IsErr, ⊤}
 use Rattle.rq_live.specs.Managers.{Stand, IsManaged}
-use Rattle.rq_live.specs.Starts.{Start, state_behind}
+use Rattle.rq_live.specs.Starts.{Start, state_reached}
 use Rattle.rq_model.specs.Records.{Record}
 use Rattle.rq_model.specs.Machine.{is_open}
 use Rattle.rq_serve.specs.Answers.{answer_lines}
@@ -54,7 +54,7 @@ KeepsBut _ a b = KeepsDoomed a b
 -- an operation of the unit that is refused dooms it, if it is open there
 abbrev pub DoomsUnit : Stand → ℕ → Undone → Doomed → Type 0
 DoomsUnit m unit (undone.Refused refused) doomed = (from : Start) (rs : List Record)
-    → IsManaged from rs m → is_open (state_behind from rs) unit ≡ true → is_doomed doomed unit ≡ true
+    → IsManaged from rs m → is_open (state_reached from rs) unit ≡ true → is_doomed doomed unit ≡ true
 DoomsUnit m unit undone.Spent doomed = ⊤
 
 -- the same of the unit of the request, if that is such an operation
@@ -75,7 +75,3 @@ AreWholeLines bytes = (bytes ≡ []) ⊎ ((before : List ℕ) × (bytes ≡ befo
 -- the first so many bytes are whole lines
 abbrev pub EndsLine : List ℕ → ℕ → Type 0
 EndsLine bytes used = (lines rest : List ℕ) × (bytes ≡ lines ++ rest) × (used ≡ length lines) × AreWholeLines lines
-
--- all that was done was written and synced: nothing is pending
-abbrev pub HasSettled : Stand → Type 0
-HasSettled m = m.kernel.pending.items ≡ []

@@ -1,7 +1,7 @@
 //! What is done for each request.
 
 ghost use Rattle.std.specs.Prelude.{◌≡◌, true, IsErr, IfErr, IfOk};
-ghost use Rattle.rq_live.specs.Carries.{CarriesOn};
+ghost use Rattle.rq_live.specs.Carries.{GoesOver};
 ghost use Rattle.rq_live.specs.Managers.{IsInOrder, stand_of};
 ghost use Rattle.rq_serve.specs.Serving.{DoomsIfRefused, DoomsUnit, KeepsBut, NeverCommits};
 ghost use Rattle.rq_serve.specs.Units.{is_doomed, KeepsDoomed, KeepsOthers};
@@ -305,13 +305,17 @@ fn checkpoint<D: Device + Drop>(alloc: Global, m: &mut Manager<D>) -> Result<Ans
 }
 
 /// Goes on in a new log, behind so many records. If none could be made, the operator hears why.
-pub(crate) fn carry<D, S>(alloc: Global, m: &mut Manager<D>, next: &mut S) -> Result<u64, Undone>
+pub(crate) fn carry_state<D, S>(
+    alloc: Global,
+    m: &mut Manager<D>,
+    next: &mut S,
+) -> Result<u64, Undone>
 where
     D: Device + Drop,
     S: Successor<D> + Operator,
     requires { IsInOrder (stand_of D.written D.synced D.doubted D.failed m.old) }
     ensures order { IsInOrder (stand_of D.written D.synced D.doubted D.failed m.new) }
-    ensures carried { IfOk result (CarriesOn (stand_of D.written D.synced D.doubted D.failed m.old)
+    ensures carried { IfOk result (GoesOver (stand_of D.written D.synced D.doubted D.failed m.old)
         (stand_of D.written D.synced D.doubted D.failed m.new)) }
 {
     match m.carry(alloc, next) {
@@ -350,7 +354,7 @@ where
         Request::Begin { unit } => begin(alloc, m, *unit),
         Request::Kill { queue, element } => kill(alloc, m, queue, *element),
         Request::Checkpoint => checkpoint(alloc, m),
-        Request::Carry => Ok(Answer::Carried(carry(alloc, m, next)?)),
+        Request::Carry => Ok(Answer::Carried(carry_state(alloc, m, next)?)),
         Request::Last { queue, who } => tell_last(alloc, m, queue, who),
         Request::Queues => queues_told(alloc, m),
         Request::Queue { queue, count } => {

@@ -50,7 +50,7 @@ impl CarryPoint {
 
     /// The log was carried on, and began with so many bytes.
     pub(crate) fn begin_anew(&mut self, begins: usize)
-        ensures { self.new ≡ spec.begun_anew self.old begins }
+        ensures { self.new ≡ spec.carried_anew self.old begins }
     {
         self.begins = begins;
         self.not_before = 0;
