@@ -246,8 +246,8 @@ def logs_join() -> tuple[bool, Start]:
     return joined[:HEADER] == header_of(2), Start(log)
 
 
-def ended_between(does: str) -> None:
-    """A process that is killed before each of its calls on files: the log is one of those before and behind that, and each log is there."""
+def ended_between(does: str, sort: str = "call") -> None:
+    """A process of which each call, or allocation, ends otherwise than well: the log is one of those before and behind that, and each log is there."""
     if not is_program() or not has_shim("to end a carry"):
         return
     script = "".join(f"{it}\n" for it in ASKED).encode()
@@ -255,7 +255,7 @@ def ended_between(does: str) -> None:
     for number in itertools.count(1):
         put(LOG, header_of(2))
         by = functools.partial(rqlog, script=script)
-        how = {"at": number, "does": "dies"} if does == "dies" else {"sort": "call", "number": number, "how": does}
+        how = {"at": number, "does": "dies"} if does == "dies" else {"sort": sort, "number": number, "how": does}
         ended, told = run_told("serve", LOG, by=by, **({"tells": "order"} if does == "dies" else {}), **how)
         if does != "dies" and not told:
             break
@@ -263,8 +263,8 @@ def ended_between(does: str) -> None:
         clear()
         if does == "dies" and ended[0] == 0:
             break
-    check(f"{does}: at each call", wrong, [])
-    check(f"{does}: what was met", len(seen) > 2, True)
+    check(f"{does}: at each {sort}", wrong, [])
+    check(f"{does}: what was met of each {sort}", len(seen) > 2, True)
 
 
 def told_by(ended: trying.Ended, wrong: list, number: int, does: str) -> str:
@@ -310,6 +310,11 @@ def killed_in() -> None:
 def failing() -> None:
     """Each call fails, one at a time."""
     ended_between("fails")
+
+
+def refused_memory() -> None:
+    """Each allocation is refused, one at a time: nothing is lost, and if it is one of a new log the old one goes on."""
+    ended_between("fails", "memory")
 
 
 def order() -> None:
@@ -407,7 +412,7 @@ def large_state() -> None:
     check("a large state: its end", (status, said.count("not carried on") <= 4), (0, True))
 
 
-PARTS = [by_itself, not_at_each_line, goes_on, names_that_are_taken, leftovers, moved, who_may_what, linked, full_disk, killed, killed_in, failing, order,
+PARTS = [by_itself, not_at_each_line, goes_on, names_that_are_taken, leftovers, moved, who_may_what, linked, full_disk, killed, killed_in, failing, refused_memory, order,
          starts, no_crash, numbers_end, words]
 LONG = [large_state]
 

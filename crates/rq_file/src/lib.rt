@@ -18,6 +18,6 @@ pub use names::Names;
 pub use patient::Patient;
 pub use predecessors::Replaces;
 pub use standard::hold_standard;
-pub use successions::{NotTaken, Succession};
+pub use successions::{NotNamed, Succession};
 pub use version::VERSION;
 pub use whole_files::{LIMIT, read_limited};

@@ -112,12 +112,12 @@ impl<F> NamedFile<F> {
     }
 
     /// The file that got this name, which is one behind all symbolic links.
-    pub fn under(file: F, name: String) -> NamedFile<F> {
+    pub fn with_name(file: F, name: String) -> NamedFile<F> {
         NamedFile { file, name }
     }
 
     /// Its name.
-    pub fn name(&self) -> &str {
+    pub fn real_name(&self) -> &str {
         &self.name
     }
 

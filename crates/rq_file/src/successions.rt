@@ -15,22 +15,22 @@ use std::os::unix::fs::OpenOptionsExt;
 
 /// Why a file did not take a log's name.
 #[derive(Drop)]
-pub enum NotTaken {
+pub enum NotNamed {
     /// The log has its name still, if it had it, and no further one. The new file is gone.
     Kept(io::Error),
     /// The new file may have the log's name, and the disk may not know of that.
     Lost(io::Error),
 }
 
-impl From<io::Error> for NotTaken {
-    fn from(error: io::Error) -> NotTaken {
-        NotTaken::Kept(error)
+impl From<io::Error> for NotNamed {
+    fn from(error: io::Error) -> NotNamed {
+        NotNamed::Kept(error)
     }
 }
 
-impl From<AllocError> for NotTaken {
-    fn from(error: AllocError) -> NotTaken {
-        NotTaken::Kept(io::Error::from(error))
+impl From<AllocError> for NotNamed {
+    fn from(error: AllocError) -> NotNamed {
+        NotNamed::Kept(io::Error::from(error))
     }
 }
 
@@ -191,13 +191,13 @@ impl Succession {
         folder: &R::File,
         old: &Metadata,
         new: &R::File,
-    ) -> Result<(), NotTaken> {
+    ) -> Result<(), NotNamed> {
         OpenFile::sync_all(folder)?;
         self.expect_both(rt, old)?;
         expect_under(rt, new, &self.next)?;
         match fs::rename(rt, self.next.as_str(), self.log.as_str()) {
-            Err(error) if !is_under(rt, new, &self.log) => Err(NotTaken::Kept(error)),
-            Err(error) => Err(NotTaken::Lost(error)),
+            Err(error) if !is_under(rt, new, &self.log) => Err(NotNamed::Kept(error)),
+            Err(error) => Err(NotNamed::Lost(error)),
             Ok(()) => Ok(()),
         }
     }
@@ -209,16 +209,16 @@ impl Succession {
         folder: &R::File,
         old: &Metadata,
         new: &R::File,
-    ) -> Result<(), NotTaken> {
+    ) -> Result<(), NotNamed> {
         self.rename(rt, folder, old, new)?;
         match expect_under(rt, new, &self.log).and_then(|()| OpenFile::sync_all(folder)) {
             Ok(()) => Ok(()),
-            Err(error) => Err(NotTaken::Lost(error)),
+            Err(error) => Err(NotNamed::Lost(error)),
         }
     }
 
     // Gives the log the name that it keeps, and the new file its own.
-    fn take_names<R>(&self, rt: &R, old: &Metadata, new: &R::File) -> Result<(), NotTaken>
+    fn take_names<R>(&self, rt: &R, old: &Metadata, new: &R::File) -> Result<(), NotNamed>
     where
         R: Files,
         R::File: AsFd,
@@ -229,7 +229,7 @@ impl Succession {
         OpenFile::sync_all(new)?;
         let is_new = self.is_named_anew(rt)?;
         let taken = self.exchange(rt, &folder, old, new);
-        if is_new && matches!(taken, Err(NotTaken::Kept(_))) {
+        if is_new && matches!(taken, Err(NotNamed::Kept(_))) {
             self.take_back(rt, old);
         }
         taken
@@ -242,13 +242,13 @@ impl Succession {
     /// Refuses with `Kept` if that cannot be done; with `Lost` if it may be done, and the disk may not know
     /// of it. Whoever else may write the folder can put something else under these names at any time: then
     /// it refuses, and removes nothing of that.
-    pub fn settle<R>(&self, rt: &R, old: &Metadata, new: &R::File) -> Result<(), NotTaken>
+    pub fn settle<R>(&self, rt: &R, old: &Metadata, new: &R::File) -> Result<(), NotNamed>
     where
         R: Files,
         R::File: AsFd,
     {
         let taken = self.take_names(rt, old, new);
-        if matches!(taken, Err(NotTaken::Kept(_))) {
+        if matches!(taken, Err(NotNamed::Kept(_))) {
             self.discard(rt, new);
         }
         taken

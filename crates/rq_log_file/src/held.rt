@@ -66,13 +66,13 @@ impl HeldLog {
     }
 
     /// The file that has the lock of a log's writers, and its name.
-    pub(crate) fn over(place: NamedFile<File>) -> HeldLog {
+    pub(crate) fn holding(place: NamedFile<File>) -> HeldLog {
         HeldLog { place }
     }
 
-    /// Its name behind all symbolic links.
-    pub fn name(&self) -> &str {
-        self.place.name()
+    /// The file, and its name.
+    pub(crate) fn place(&self) -> &NamedFile<File> {
+        &self.place
     }
 
     /// The file.
@@ -85,7 +85,10 @@ impl HeldLog {
     where
         R: Files<File = File> + AllocGlobal,
     {
-        let folder = File::open(rt, folder_within(rt.alloc(), self.name())?.as_str())?;
+        let folder = File::open(
+            rt,
+            folder_within(rt.alloc(), self.place.real_name())?.as_str(),
+        )?;
         OpenFile::sync_all(&folder)
     }
 

@@ -1,8 +1,10 @@
 //! The file in which a log goes on that is held.
 
+ghost use Rattle.std.specs.Prelude.{◌≡◌, IfOk, None};
+
 use crate::held::{HeldLog, Hold, NotHeld, lock};
 use crate::log_file::LogFile;
-use rq_file::{NamedFile, NotTaken, Succession};
+use rq_file::{NamedFile, NotNamed, Succession};
 use std::alloc::{AllocError, Global};
 use std::fs::{File, Files, Metadata, OpenFile};
 use std::io::{self, ErrorKind};
@@ -30,16 +32,16 @@ fn why(not: NotHeld) -> io::Error {
 impl NextFiles {
     /// Those behind the file of a log that is held. Refused with the system's error, and with
     /// `OutOfMemory`.
-    pub fn behind(alloc: Global, held: &HeldLog) -> io::Result<NextFiles> {
+    pub fn of_held(alloc: Global, held: &HeldLog) -> io::Result<NextFiles> {
         Ok(NextFiles {
-            name: String::from_str(alloc, held.name())?,
+            name: String::from_str(alloc, held.place().real_name())?,
             old: OpenFile::metadata(held)?,
         })
     }
 
     /// Takes from a log of so many records the name that it was to keep: a process gave it that, and died
     /// before a new file had the log's.
-    pub fn forget<R>(&self, rt: &R, records: u64) -> Result<(), AllocError>
+    pub fn take_name_back<R>(&self, rt: &R, records: u64) -> Result<(), AllocError>
     where
         R: Files<File = File> + AllocGlobal,
     {
@@ -48,7 +50,7 @@ impl NextFiles {
     }
 
     // Locks the new file, and gives it the log's name.
-    fn settle<R>(&self, rt: &R, names: &Succession, new: &File) -> Result<Metadata, NotTaken>
+    fn settle<R>(&self, rt: &R, names: &Succession, new: &File) -> Result<Metadata, NotNamed>
     where
         R: Files<File = File>,
     {
@@ -63,7 +65,7 @@ impl NextFiles {
             }
             Err(error) => {
                 names.discard(rt, new);
-                Err(NotTaken::Kept(error))
+                Err(NotNamed::Kept(error))
             }
         }
     }
@@ -78,15 +80,16 @@ impl NextFiles {
         rt: &R,
         records: u64,
         first: &[u8],
-    ) -> Result<LogFile<HeldLog>, NotTaken>
+    ) -> Result<LogFile<HeldLog>, NotNamed>
     where
         R: Files<File = File> + AllocGlobal,
+        ensures { IfOk result (λ file. file.error ≡ None) }
     {
         let names = Succession::of(rt.alloc(), &self.name, records)?;
         let name = String::from_str(rt.alloc(), &self.name)?;
         let new = names.make(rt, &self.old, first)?;
         self.old = self.settle(rt, &names, &new)?;
-        let held = HeldLog::over(NamedFile::under(new, name));
+        let held = HeldLog::holding(NamedFile::with_name(new, name));
         Ok(LogFile::of_synced(held, first.len()))
     }
 }

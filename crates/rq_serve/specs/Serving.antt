@@ -75,7 +75,3 @@ AreWholeLines bytes = (bytes ≡ []) ⊎ ((before : List ℕ) × (bytes ≡ befo
 -- the first so many bytes are whole lines
 abbrev pub EndsLine : List ℕ → ℕ → Type 0
 EndsLine bytes used = (lines rest : List ℕ) × (bytes ≡ lines ++ rest) × (used ≡ length lines) × AreWholeLines lines
-
--- all that was done was written and synced: nothing is pending
-abbrev pub HasSettled : Stand → Type 0
-HasSettled m = m.kernel.pending.items ≡ []

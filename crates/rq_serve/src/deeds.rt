@@ -305,7 +305,11 @@ fn checkpoint<D: Device + Drop>(alloc: Global, m: &mut Manager<D>) -> Result<Ans
 }
 
 /// Goes on in a new log, behind so many records. If none could be made, the operator hears why.
-pub(crate) fn carry<D, S>(alloc: Global, m: &mut Manager<D>, next: &mut S) -> Result<u64, Undone>
+pub(crate) fn carry_state<D, S>(
+    alloc: Global,
+    m: &mut Manager<D>,
+    next: &mut S,
+) -> Result<u64, Undone>
 where
     D: Device + Drop,
     S: Successor<D> + Operator,
@@ -350,7 +354,7 @@ where
         Request::Begin { unit } => begin(alloc, m, *unit),
         Request::Kill { queue, element } => kill(alloc, m, queue, *element),
         Request::Checkpoint => checkpoint(alloc, m),
-        Request::Carry => Ok(Answer::Carried(carry(alloc, m, next)?)),
+        Request::Carry => Ok(Answer::Carried(carry_state(alloc, m, next)?)),
         Request::Last { queue, who } => tell_last(alloc, m, queue, who),
         Request::Queues => queues_told(alloc, m),
         Request::Queue { queue, count } => {

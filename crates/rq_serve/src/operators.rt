@@ -1,6 +1,6 @@
 //! When a served log is carried on by itself, and who hears of that.
 
-ghost use Rattle.std.specs.Prelude.{◌≡◌, ◌≤◌, ◌&&◌, ◌/◌, ℕ, nat_le};
+ghost use Rattle.std.specs.Prelude.{◌≡◌, ◌≤◌};
 ghost use Rattle.rq_serve.specs.Carrying as spec;
 
 use crate::refusals::Refused;
@@ -32,7 +32,7 @@ impl CarryPoint {
     /// When the log has so many bytes, and twice as many as it began with: so a state that nearly fills
     /// the log is not written anew at every line.
     pub fn new(least: usize, begins: usize) -> CarryPoint
-        ensures { (len : ℕ) → spec.is_due result len ≡ (nat_le least len && nat_le begins (len / 2)) }
+        ensures { result ≡ spec.first_point least begins }
     {
         CarryPoint {
             least,
@@ -50,7 +50,7 @@ impl CarryPoint {
 
     /// The log was carried on, and began with so many bytes.
     pub(crate) fn begin_anew(&mut self, begins: usize)
-        ensures { self.new ≡ spec.begun_anew self.old begins }
+        ensures { self.new ≡ spec.carried_anew self.old begins }
     {
         self.begins = begins;
         self.not_before = 0;

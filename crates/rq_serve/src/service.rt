@@ -3,11 +3,11 @@
 ghost use Rattle.std.specs.Prelude.{◌≡◌, ◌<◌, ◌≤◌, [], length, Err, OnOk, IfOk, IfSome, true, false};
 ghost use Rattle.std.specs.Prelude.{string_bytes};
 ghost use Rattle.std.specs.Io.KnownBytes.{Appends};
-ghost use Rattle.rq_live.specs.Managers.{IsInOrder, Settles, stand_of};
+ghost use Rattle.rq_live.specs.Managers.{AllIsSafe, IsInOrder, Settles, stand_of};
 ghost use Rattle.rq_writer.specs.Reading.{cut_at};
-ghost use Rattle.rq_serve.specs.Serving.{EndsLine, HasSettled};
+ghost use Rattle.rq_serve.specs.Serving.{EndsLine};
 
-use crate::deeds::carry;
+use crate::deeds::carry_state;
 use crate::operators::{CarryPoint, Operator};
 use crate::refusals::Undone;
 use crate::requests::LONGEST;
@@ -113,7 +113,7 @@ where
     ensures spent { result ≡ Err Unserved.Spent → O.faults output.new ≡ O.faults output.old }
 {
     tell(m, session, output)?;
-    match carry(alloc, m, next) {
+    match carry_state(alloc, m, next) {
         Ok(records) => {
             next.hear_carried(records);
             session.point.begin_anew(m.len());
@@ -257,7 +257,7 @@ where
     requires reads { I.faults input.old < 18446744073709551615 }
     requires writes { O.faults output.old < 18446744073709551615 }
     ensures order { IsInOrder (stand_of D.written D.synced D.doubted D.failed m.new) }
-    ensures settled { OnOk result (HasSettled
+    ensures safe { OnOk result (AllIsSafe
         (stand_of D.written D.synced D.doubted D.failed m.new)) }
 {
     let mut session = Session::new(alloc, point);

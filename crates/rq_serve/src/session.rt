@@ -80,7 +80,9 @@ impl Session {
         &mut self,
         m: &Manager<D>,
         done: Result<Answer, Undone>,
-    ) -> Result<Answer, Spent> {
+    ) -> Result<Answer, Spent>
+        ensures { (self.new.answers ≡ self.old.answers) × (self.new.asks_sync ≡ self.old.asks_sync) }
+    {
         match done {
             Ok(answer) => {
                 if matches!(answer, Answer::Carried(_)) {

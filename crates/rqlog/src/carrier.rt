@@ -2,7 +2,7 @@
 
 use crate::refusal::{Refusal, Stream, failed};
 use rq_device::{Successor, Unmade};
-use rq_file::NotTaken;
+use rq_file::NotNamed;
 use rq_found::Seen;
 use rq_log_file::{HeldLog, LogFile, NextFiles};
 use rq_serve::{Operator, Refused};
@@ -23,7 +23,7 @@ pub(crate) struct Carrier<'a, R> {
 impl<'a, R: AllocGlobal> Carrier<'a, R> {
     /// For a log that is held, by this path.
     pub(crate) fn new(rt: &'a R, path: &'a str, held: &HeldLog) -> Result<Self, Refusal> {
-        match NextFiles::behind(rt.alloc(), held) {
+        match NextFiles::of_held(rt.alloc(), held) {
             Ok(files) => Ok(Carrier {
                 rt,
                 path,
@@ -36,15 +36,20 @@ impl<'a, R: AllocGlobal> Carrier<'a, R> {
 }
 
 impl<'a, R: Files<File = File> + AllocGlobal> Carrier<'a, R> {
-    /// Takes back what a process did that died while it carried the log on, behind so many records.
-    pub(crate) fn forget(&self, records: u64) -> Result<(), Refusal> {
-        Ok(self.files.forget(self.rt, records)?)
+    /// Makes sure that the log, of so many records, has its name and no other that it got from a process
+    /// which carried it on and died: the disk is told of it.
+    pub(crate) fn keep_name(&self, held: &HeldLog, records: u64) -> Result<(), Refusal> {
+        self.files.take_name_back(self.rt, records)?;
+        match held.sync_name(self.rt) {
+            Ok(()) => Ok(()),
+            Err(error) => Err(failed(Stream::Log, error)),
+        }
     }
 }
 
 impl<'a, R> Carrier<'a, R> {
     /// Why it is not known which file is the log; none if it is.
-    pub(crate) fn into_error(self) -> Option<io::Error> {
+    pub(crate) fn into_fault(self) -> Option<io::Error> {
         let Carrier { error, .. } = self;
         error
     }
@@ -57,8 +62,8 @@ where
     fn put(&mut self, records: u64, first: &[u8]) -> Result<LogFile<HeldLog>, Unmade> {
         let (why, error) = match self.files.put(self.rt, records, first) {
             Ok(file) => return Ok(file),
-            Err(NotTaken::Kept(error)) => (Unmade::Kept, error),
-            Err(NotTaken::Lost(error)) => (Unmade::Lost, error),
+            Err(NotNamed::Kept(error)) => (Unmade::Kept, error),
+            Err(NotNamed::Lost(error)) => (Unmade::Lost, error),
         };
         self.error = Some(error);
         Err(why)

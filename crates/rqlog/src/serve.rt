@@ -169,32 +169,12 @@ where
         &mut output,
     ) {
         Ok(()) => Ok(()),
-        Err(Unserved::Spent) => match carrier.into_error() {
+        Err(Unserved::Spent) => match carrier.into_fault() {
             Some(error) => Err(failed(Stream::Log, error)),
             None => Err(why_spent(manager.device(), Stream::Log)),
         },
         Err(Unserved::Unread) => Err(stopped(Stream::Input, input.into_error())),
         Err(Unserved::Unheard) => Err(stopped(Stream::Output, output.into_error())),
-    }
-}
-
-// Makes sure that the log has its name, and no other that it got from a process that carried it on and
-// died: the disk is told of it.
-fn keep_name<R>(
-    rt: &R,
-    carrier: &Carrier<'_, R>,
-    manager: &Manager<LogFile<HeldLog>>,
-) -> Result<(), Refusal>
-where
-    R: Files<File = File> + AllocGlobal,
-{
-    let Ok(records) = manager.record_count() else {
-        return Err(Refusal::Memory);
-    };
-    carrier.forget(records)?;
-    match manager.device().file().sync_name(rt) {
-        Ok(()) => Ok(()),
-        Err(error) => Err(failed(Stream::Log, error)),
     }
 }
 
@@ -216,7 +196,10 @@ where
 {
     let carrier = Carrier::new(rt, path, file.file())?;
     let mut manager = Manager::over(file, kernel);
-    keep_name(rt, &carrier, &manager)?;
+    match manager.record_count() {
+        Ok(records) => carrier.keep_name(manager.device().file(), records)?,
+        Err(_) => return Err(Refusal::Memory),
+    }
     match manager.resume(rt.alloc(), stands) {
         Ok(()) => {}
         Err(NotDone::Full) => return Err(Refusal::from(Fault::TooLarge)),
