@@ -13,7 +13,8 @@ ghost use Rattle.rq_look.specs.Objects.{front_members, load_members, members_sho
 ghost use Rattle.rq_look.specs.Objects.{own_members, place_members, record_members};
 
 use crate::objects::{
-    Members, Shown, grouped, put, put_digits, put_hex_and_text, put_number, put_object, put_word,
+    Members, Shown, grouped, put_digits, put_hex_and_text, put_number, put_object, put_value,
+    put_word,
 };
 use crate::shown_records::{ShownRecord, by_of, registrant_of, unit_number};
 use rq_behind::Found;

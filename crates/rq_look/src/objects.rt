@@ -76,7 +76,7 @@ pub(crate) fn grouped<'a>(members: Members<'a>) -> Shown<'a>
 }
 
 /// Puts a value by its name behind these members.
-pub(crate) fn put<'a>(members: &mut Members<'a>, name: &'a str, value: Shown<'a>) -> Put
+pub(crate) fn put_value<'a>(members: &mut Members<'a>, name: &'a str, value: Shown<'a>) -> Put
     ensures { OnOk result (members_shown members.new.items
         ≡ members_shown members.old.items ++ with_name name.now (value_shown value.entry)) }
 {
