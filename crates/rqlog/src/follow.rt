@@ -53,25 +53,13 @@ fn of_source(fault: Fault) -> Refusal {
 }
 
 impl Standby {
-    // Goes along with a piece. Ends where the front does, and at a carried file that is to be served.
-    fn take<R>(&mut self, rt: &R, piece: &[u8], plan: &Plan) -> Result<(), Refusal>
-    where
-        R: AllocGlobal + Threads + Sync,
-        requires { (b : List ℕ) × IsFollowing b self.old.follower }
-        ensures { OnOk result ((b : List ℕ) × IsFollowing b self.new.follower) }
+    // Keeps a piece of the log, if a copy is kept.
+    fn keep(&mut self, alloc: Global, piece: &[u8]) -> Result<(), Refusal>
+        ensures { self.new.follower ≡ self.old.follower }
     {
-        if let Some(copy) = &mut self.copy {
-            copy.put(rt.alloc(), piece)?;
-        }
-        self.follower
-            .take(rt, rt.alloc(), piece, plan)
-            .map_err(|fault| of_source(fault))?;
-        if self.serves && self.follower.is_carried() {
-            return Err(of_source(Fault::NotALog));
-        }
-        match self.follower.end() {
-            Some(end) if !matches!(end.why, Why::Whole | Why::Cut) => Err(Refusal::FrontEnds(end)),
-            _ => Ok(()),
+        match &mut self.copy {
+            Some(copy) => copy.put(alloc, piece),
+            None => Ok(()),
         }
     }
 
@@ -85,7 +73,51 @@ impl Standby {
         }
     }
 
-    // Goes along with all that comes. What of it was kept is synced, also if it is refused.
+    // Refuses a front that ends whatever comes, and a carried file that is to be served.
+    fn expect_open(&self) -> Result<(), Refusal>
+        requires { (b : List ℕ) × IsFollowing b self.now.follower }
+    {
+        if self.serves && self.follower.is_carried() {
+            return Err(of_source(Fault::NotALog));
+        }
+        match self.follower.end() {
+            Some(end) if !matches!(end.why, Why::Whole | Why::Cut) => Err(Refusal::FrontEnds(end)),
+            _ => Ok(()),
+        }
+    }
+
+    // Goes along with a piece. Ends where the front does, and at a carried file that is to be served.
+    fn take<R>(&mut self, rt: &R, piece: &[u8], plan: &Plan) -> Result<(), Refusal>
+    where
+        R: AllocGlobal + Threads + Sync,
+        requires { (b : List ℕ) × IsFollowing b self.old.follower }
+        ensures { OnOk result ((b : List ℕ) × IsFollowing b self.new.follower) }
+    {
+        self.keep(rt.alloc(), piece)?;
+        match self.follower.take(rt, rt.alloc(), piece, plan) {
+            Ok(()) => self.expect_open(),
+            Err(fault) => Err(of_source(fault)),
+        }
+    }
+
+    // Goes along with what one read gave, and syncs it, if no more is there now or it is refused.
+    fn take_read<R>(&mut self, rt: &R, piece: &[u8], plan: &Plan) -> Result<(), Refusal>
+    where
+        R: AllocGlobal + Threads + Sync,
+        requires { (b : List ℕ) × IsFollowing b self.old.follower }
+        ensures { OnOk result ((b : List ℕ) × IsFollowing b self.new.follower) }
+    {
+        match self.take(rt, piece, plan) {
+            Ok(()) if piece.len() == PIECE => Ok(()),
+            Ok(()) => self.sync(),
+            Err(refusal) => {
+                self.sync()?;
+                Err(refusal)
+            }
+        }
+    }
+
+    // Goes along with all that comes.
     fn go_along<R, F>(&mut self, rt: &R, from: &mut F, plan: &Plan) -> Result<(), Refusal>
     where
         R: AllocGlobal + Threads + Sync,
@@ -99,11 +131,7 @@ impl Standby {
             if count == 0 {
                 break;
             }
-            let taken = self.take(rt, &piece[..count], plan);
-            if count < PIECE || taken.is_err() {
-                self.sync()?;
-            }
-            taken?;
+            self.take_read(rt, &piece[..count], plan)?;
         }
         Ok(())
     }
@@ -116,7 +144,10 @@ where
     requires { (b : List ℕ) × IsFollowing b follower }
 {
     let alloc = rt.alloc();
-    let front = follower.redone(alloc).map_err(|fault| of_source(fault))?;
+    let front = match follower.redone(alloc) {
+        Ok(front) => front,
+        Err(fault) => return Err(of_source(fault)),
+    };
     let total = follower.bytes_come();
     drop(follower);
     let restarted = front.into_restarted(rt, alloc, total, plan, &Open)?;

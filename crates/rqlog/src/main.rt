@@ -18,6 +18,7 @@ mod recovery;
 mod refusal;
 mod refused_lines;
 mod serve;
+mod streams;
 mod words;
 
 use crate::commands::{carry, checkpoint, close, new_log, print_audit, print_report};
