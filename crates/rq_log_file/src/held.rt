@@ -71,7 +71,7 @@ impl HeldLog {
     }
 
     /// The file, and its name.
-    pub(crate) fn place(&self) -> &NamedFile<File> {
+    pub(crate) fn named_file(&self) -> &NamedFile<File> {
         &self.place
     }
 
