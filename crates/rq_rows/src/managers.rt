@@ -110,14 +110,18 @@ pub fn goes_on_twice<D: Device + Drop, S: Successor<D>>(
     Ok((first, second))
 }
 
-/// How a manager stands that goes on from what a crash left of a file of either kind: how many units
-/// began, how many records were done, and its bytes. None if it does not go on.
+/// How a manager stands that goes on from what a crash left of a file of either kind, of which nothing
+/// was synced: how many units began, how many records were done, and its bytes. None if it does not go
+/// on.
 pub fn goes_on_in<R: Threads + Sync + AllocGlobal>(
     rt: &R,
     mut left: Vec<u8>,
     plan: &Plan,
 ) -> Result<Option<(u64, u64, Vec<u8>)>, Fail> {
     let stands = left.len();
+    if stands > WINDOW {
+        return Ok(None);
+    }
     let Ok(opened) = Opening::of_file(rt, rt.alloc(), &mut left, plan, false) else {
         return Ok(None);
     };
