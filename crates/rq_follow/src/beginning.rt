@@ -1,6 +1,15 @@
 //! How a log begins whose bytes come piece by piece: as a log, or as a carried file.
 
-use crate::pass::Pass;
+ghost use Rattle.std.specs.Prelude.{◌≡◌, ◌≤◌, ◌+◌, ◌++◌, ℕ, List, drop, length, IfOk, IfErr, IfSome, IfNone};
+ghost use Rattle.rq_model.specs.Frames.{HasHeader, log_limit};
+ghost use Rattle.rq_record.specs.Views.{version_of};
+ghost use Rattle.rq_record.specs.declared.fault.Fault.TheVariants.{Resources};
+ghost use Rattle.rq_front.specs.Chains.{IsCarried};
+ghost use Rattle.rq_judged.specs.Windows.{RefusesPiece};
+ghost use Rattle.rq_follow.specs.Passes.{HasDoneAll, origin_at};
+ghost use Rattle.rq_follow.specs.Followers.{IsReadSo, IsSoFar, RefusesBytes};
+
+use crate::pass::MachinePass;
 use rq_front::{CARRIED_AT, HEADER_LEN, LOG_LIMIT, Rest, chain, read_as_log, version};
 use rq_judged::{Begun, grain_of};
 use rq_plan::Plan;
@@ -13,19 +22,24 @@ use std::thread::Threads;
 
 /// How much of a log has come.
 #[derive(Drop)]
-pub(crate) enum Stage {
+pub(crate) enum Coming {
     /// Fewer bytes than a header has.
     Header(Vec<u8>),
     /// A carried file, as it is read, whose checkpoint is not whole yet.
     Linked(Vec<u8>),
     /// The header of a log, and what follows it.
-    Plain(Pass),
+    Plain(MachinePass),
     /// A carried file with its checkpoint, and what follows that.
-    Carried(Pass),
+    Carried(MachinePass),
 }
 
 /// All bytes of a beginning, to which further ones came.
-pub(crate) fn joined(alloc: Global, first: &mut Vec<u8>, more: &[u8]) -> Result<Vec<u8>, Fault> {
+pub(crate) fn joined(alloc: Global, first: &mut Vec<u8>, more: &[u8]) -> Result<Vec<u8>, Fault>
+    requires { length first.old.items ≤ log_limit }
+    ensures joined { IfOk result (λ bytes. bytes.items ≡ first.old.items ++ more.now) }
+    ensures short { IfOk result (λ bytes. length bytes.items ≤ log_limit) }
+    ensures refused { IfErr result (RefusesPiece (length first.old.items + length more.now)) }
+{
     if more.len() > LOG_LIMIT.saturating_sub(first.len()) {
         return Err(Fault::TooLong);
     }
@@ -42,9 +56,17 @@ fn begun<R: Threads + Sync>(
     bytes: Vec<u8>,
     place: usize,
     plan: &Plan,
-) -> Result<Pass, Fault> {
-    let mut pass = Pass::new(version, machine, bytes, place);
-    pass.look(rt, alloc, grain_of(plan))?;
+) -> Result<MachinePass, Fault>
+    requires header { HasHeader (version_of version) bytes.items }
+    requires short { length bytes.items ≤ log_limit }
+    requires after { 40 ≤ place }
+    requires within { place ≤ length bytes.items }
+    ensures fed { IfOk result (HasDoneAll (origin_at (version_of version) machine bytes.items place)
+        (drop place bytes.items)) }
+    ensures refused { IfErr result (λ e. e ≡ Resources) }
+{
+    let mut pass = MachinePass::new(version, machine, bytes, place);
+    pass.do_all(rt, alloc, grain_of(plan))?;
     Ok(pass)
 }
 
@@ -54,11 +76,19 @@ fn begun_carried<R: Threads + Sync>(
     alloc: Global,
     bytes: Vec<u8>,
     plan: &Plan,
-) -> Result<Stage, Fault> {
+) -> Result<Coming, Fault>
+    requires { (b : List ℕ) × IsReadSo b bytes.items }
+    ensures stage { IfOk result
+        (λ stage. (b : List ℕ) → IsReadSo b bytes.items → IsSoFar b stage) }
+    ensures refused { IfErr result
+        (λ e. (b : List ℕ) → IsReadSo b bytes.items → RefusesBytes b e) }
+{
+    rq_model::versions();
+    rq_model::carried_headers();
     let from = Begun::begun_at(rt, alloc, &bytes, CARRIED_AT as u64, plan)?;
     let machine = Machine::of(alloc, &from.state)?;
     let pass = begun(rt, alloc, from.version, machine, bytes, CARRIED_AT, plan)?;
-    Ok(Stage::Carried(pass))
+    Ok(Coming::Carried(pass))
 }
 
 /// How much has come of a carried file, as it is read: its checkpoint, if that is whole.
@@ -67,17 +97,39 @@ pub(crate) fn stage_linked<R: Threads + Sync>(
     alloc: Global,
     bytes: Vec<u8>,
     plan: &Plan,
-) -> Result<Stage, Fault> {
+) -> Result<Coming, Fault>
+    requires { (b : List ℕ) × IsReadSo b bytes.items }
+    ensures stage { IfOk result
+        (λ stage. (b : List ℕ) → IsReadSo b bytes.items → IsSoFar b stage) }
+    ensures refused { IfErr result
+        (λ e. (b : List ℕ) → IsReadSo b bytes.items → RefusesBytes b e) }
+{
+    rq_model::frames_are_right();
+    rq_model::frames_join();
+    rq_model::carried_headers();
     if bytes.len() < CARRIED_AT {
-        return Ok(Stage::Linked(bytes));
+        return Ok(Coming::Linked(bytes));
     }
     let found = chain(rt, alloc, &bytes, CARRIED_AT, grain_of(plan))?;
     if !found.spans.is_empty() {
         return begun_carried(rt, alloc, bytes, plan);
     }
     match found.rest {
-        Rest::Whole | Rest::Cut => Ok(Stage::Linked(bytes)),
+        Rest::Whole | Rest::Cut => Ok(Coming::Linked(bytes)),
         Rest::Length | Rest::Digest => Err(Fault::NoCheckpoint),
+    }
+}
+
+// A carried file as it is read; nothing of other bytes.
+fn read_log(bytes: Vec<u8>) -> Option<Vec<u8>>
+    requires { length bytes.items ≤ log_limit }
+    ensures some { IfSome result (λ log. IsReadSo bytes.items log.items) }
+    ensures none { IfNone result (IsCarried bytes.items → ⊥) }
+{
+    let mut bytes = bytes;
+    match read_as_log(&mut bytes) {
+        Some(_) => Some(bytes),
+        None => None,
     }
 }
 
@@ -87,18 +139,23 @@ pub(crate) fn stage_of<R: Threads + Sync>(
     alloc: Global,
     bytes: Vec<u8>,
     plan: &Plan,
-) -> Result<Stage, Fault> {
+) -> Result<Coming, Fault>
+    requires { length bytes.items ≤ log_limit }
+    ensures stage { IfOk result (IsSoFar bytes.items) }
+    ensures refused { IfErr result (RefusesBytes bytes.items) }
+{
+    rq_model::frames_join();
+    rq_model::carried_headers();
     if bytes.len() < HEADER_LEN {
-        return Ok(Stage::Header(bytes));
+        return Ok(Coming::Header(bytes));
     }
     if let Some(version) = version(&bytes) {
         let empty = Machine::empty(alloc);
         let pass = begun(rt, alloc, version, empty, bytes, HEADER_LEN, plan)?;
-        return Ok(Stage::Plain(pass));
+        return Ok(Coming::Plain(pass));
     }
-    let mut bytes = bytes;
-    match read_as_log(&mut bytes) {
-        Some(_) => stage_linked(rt, alloc, bytes, plan),
+    match read_log(bytes) {
+        Some(log) => stage_linked(rt, alloc, log, plan),
         None => Err(Fault::NotALog),
     }
 }

@@ -1,10 +1,15 @@
 //! A standby of a log.
 
-use crate::beginning::{Stage, joined, stage_linked, stage_of};
-use rq_judged::{Edge, Why, grain_of};
+ghost use Rattle.std.specs.Prelude.{◌≡◌, ◌≤◌, ◌↔◌, ◌++◌, ℕ, [], List, length, IfOk, IfErr, IsTrue, OnOk};
+ghost use Rattle.rq_front.specs.Chains.{IsCarried};
+ghost use Rattle.rq_follow.specs.Followers.{EndsBytes, IsFollowing, RedoesBytes, RefusesBytes};
+ghost use Rattle.rq_follow.specs.Followers.{StandsBytes, TellsBehind};
+
+use crate::beginning::{Coming, joined, stage_linked, stage_of};
+use crate::pass::Standing;
+use rq_judged::{Edge, grain_of};
 use rq_plan::Plan;
 use rq_record::Fault;
-use rq_reopen::FoundLog;
 use rq_restart::RedoneFront;
 use std::alloc::Global;
 use std::marker::Sync;
@@ -17,14 +22,16 @@ use std::thread::Threads;
 /// members that its records touch, times a logarithm, whatever else the state has.
 #[derive(Drop)]
 pub struct Follower {
-    stage: Stage,
+    stage: Coming,
 }
 
 impl Follower {
     /// Goes along with a log of which no byte has come yet. Takes no memory.
-    pub fn new(alloc: Global) -> Follower {
+    pub fn new(alloc: Global) -> Follower
+        ensures { IsFollowing [] result }
+    {
         Follower {
-            stage: Stage::Header(Vec::new(alloc)),
+            stage: Coming::Header(Vec::new(alloc)),
         }
     }
 
@@ -40,73 +47,125 @@ impl Follower {
         alloc: Global,
         more: &[u8],
         plan: &Plan,
-    ) -> Result<(), Fault> {
+    ) -> Result<(), Fault>
+        requires { (b : List ℕ) × IsFollowing b self.old }
+        ensures taken { OnOk result ((b : List ℕ) → IsFollowing b self.old
+            → IsFollowing (b ++ more.now) self.new) }
+        ensures refused { IfErr result
+            (λ e. (b : List ℕ) → IsFollowing b self.old → RefusesBytes (b ++ more.now) e) }
+    {
+        rq_model::carried_headers();
         let grain = grain_of(plan);
-        self.stage = match &mut self.stage {
-            Stage::Plain(pass) => return pass.take(rt, alloc, more, grain),
-            Stage::Carried(pass) => return pass.take(rt, alloc, more, grain),
-            Stage::Header(first) => stage_of(rt, alloc, joined(alloc, first, more)?, plan)?,
-            Stage::Linked(first) => stage_linked(rt, alloc, joined(alloc, first, more)?, plan)?,
-        };
-        Ok(())
+        match &mut self.stage {
+            Coming::Plain(pass) => pass.take(rt, alloc, more, grain),
+            Coming::Carried(pass) => pass.take(rt, alloc, more, grain),
+            Coming::Header(first) => {
+                let bytes = joined(alloc, first, more)?;
+                let stage = stage_of(rt, alloc, bytes, plan)?;
+                self.stage = stage;
+                Ok(())
+            }
+            Coming::Linked(first) => {
+                let log = joined(alloc, first, more)?;
+                let grown = stage_linked(rt, alloc, log, plan)?;
+                self.stage = grown;
+                Ok(())
+            }
+        }
     }
 
     /// How many bytes came.
-    pub fn total(&self) -> usize {
+    pub fn bytes_come(&self) -> usize
+        requires { (b : List ℕ) × IsFollowing b self.now }
+        ensures { (b : List ℕ) → IsFollowing b self.now → result ≡ length b }
+    {
+        rq_model::carried_headers();
         match &self.stage {
-            Stage::Plain(pass) => pass.total(),
-            Stage::Carried(pass) => pass.total(),
-            Stage::Header(first) => first.len(),
-            Stage::Linked(first) => first.len(),
+            Coming::Plain(pass) => pass.total,
+            Coming::Carried(pass) => pass.total,
+            Coming::Header(first) => first.len(),
+            Coming::Linked(first) => first.len(),
         }
     }
 
     /// Whether what comes is a carried file; that is not known before its header came.
-    pub fn is_carried(&self) -> bool {
-        matches!(self.stage, Stage::Linked(_) | Stage::Carried(_))
-    }
-
-    /// Where the front ends of the bytes that came, and why; none as long as it does not begin.
-    pub fn end(&self) -> Option<Edge> {
+    pub fn is_carried(&self) -> bool
+        requires { (b : List ℕ) × IsFollowing b self.now }
+        ensures { (b : List ℕ) → IsFollowing b self.now → IsTrue result ↔ IsCarried b }
+    {
+        rq_model::carried_headers();
         match &self.stage {
-            Stage::Plain(pass) | Stage::Carried(pass) => Some(pass.end()),
-            Stage::Header(_) | Stage::Linked(_) => None,
+            Coming::Header(_) => false,
+            Coming::Plain(_) => false,
+            Coming::Linked(_) => true,
+            Coming::Carried(_) => true,
         }
     }
 
-    /// Whether the front ends in the bytes that came, whatever comes behind them.
-    pub fn is_ended(&self) -> bool {
-        match self.end() {
-            Some(end) => !matches!(end.why, Why::Whole | Why::Cut),
-            None => false,
+    /// Where the front ends of the bytes that came, and why; none as long as it does not begin.
+    pub fn end(&self) -> Option<Edge>
+        requires { (b : List ℕ) × IsFollowing b self.now }
+        ensures { (b : List ℕ) → IsFollowing b self.now → EndsBytes b result }
+    {
+        rq_model::carried_headers();
+        rq_model::one_front();
+        match &self.stage {
+            Coming::Plain(pass) => Some(pass.end()),
+            Coming::Carried(pass) => Some(pass.end()),
+            Coming::Header(_) => None,
+            Coming::Linked(_) => None,
         }
     }
 
     /// The last 32 bytes of the front, and behind them what follows it; nothing as long as the front
     /// does not begin.
-    pub fn behind(&self) -> &[u8] {
+    pub fn what_follows(&self) -> &[u8]
+        requires { (b : List ℕ) × IsFollowing b self.now }
+        ensures { (b : List ℕ) → IsFollowing b self.now → TellsBehind b result.now }
+    {
+        rq_model::carried_headers();
+        rq_model::one_front();
         match &self.stage {
-            Stage::Plain(pass) | Stage::Carried(pass) => pass.behind(),
-            Stage::Header(_) | Stage::Linked(_) => &[],
+            Coming::Plain(pass) => pass.left_over(),
+            Coming::Carried(pass) => pass.left_over(),
+            Coming::Header(_) => &[],
+            Coming::Linked(_) => &[],
         }
     }
 
     /// The front of the bytes that came, and the state behind it, as `RedoneFront::of` finds them; a
     /// carried file's, as it is read, as `RedoneFront::redone_at` does. Refused as these are.
-    pub fn redone(&self, alloc: Global) -> Result<RedoneFront, Fault> {
+    pub fn redone(&self, alloc: Global) -> Result<RedoneFront, Fault>
+        requires { (b : List ℕ) × IsFollowing b self.now }
+        ensures front { (b : List ℕ) → IsFollowing b self.now → RedoesBytes b result }
+        ensures within { IfOk result
+            (λ front. (b : List ℕ) → IsFollowing b self.now → front.end.used ≤ length b) }
+    {
+        rq_model::carried_headers();
+        rq_model::one_front();
+        rq_model::frames_join();
+        rq_model::frames_are_right();
         match &self.stage {
-            Stage::Plain(pass) => pass.redone(alloc),
-            Stage::Carried(pass) => pass.redone(alloc),
-            Stage::Header(_) => Err(Fault::NotALog),
-            Stage::Linked(_) => Err(Fault::NoCheckpoint),
+            Coming::Plain(pass) => pass.redone(alloc),
+            Coming::Carried(pass) => pass.redone(alloc),
+            Coming::Header(_) => Err(Fault::NotALog),
+            Coming::Linked(_) => Err(Fault::NoCheckpoint),
         }
     }
 
-    /// Where a manager goes on behind the bytes that came. A carried file is `NotALog`.
-    pub fn found(self, alloc: Global) -> Result<FoundLog, Fault> {
+    /// The front of the bytes that came, and the machine that stands behind it: what a manager goes on
+    /// from. Refused with `NotALog` if no log's header came, or a carried file's. Takes no memory.
+    pub fn into_standing(self) -> Result<Standing, Fault>
+        requires { (b : List ℕ) × IsFollowing b self }
+        ensures { (b : List ℕ) → IsFollowing b self → StandsBytes b result }
+    {
+        rq_model::carried_headers();
+        rq_model::one_front();
         match self.stage {
-            Stage::Plain(pass) => Ok(pass.found(alloc)),
-            _ => Err(Fault::NotALog),
+            Coming::Plain(pass) => Ok(pass.handed_over()),
+            Coming::Carried(_) => Err(Fault::NotALog),
+            Coming::Header(_) => Err(Fault::NotALog),
+            Coming::Linked(_) => Err(Fault::NotALog),
         }
     }
 }

@@ -7,3 +7,4 @@ mod follower;
 mod pass;
 
 pub use follower::Follower;
+pub use pass::Standing;

@@ -29,7 +29,7 @@ pub enum NotHeld {
 /// The file of a log, which no other program that asks for the lock writes meanwhile.
 #[derive(Drop)]
 pub struct HeldLog {
-    pub(crate) place: NamedFile<File>,
+    place: NamedFile<File>,
 }
 
 /// Takes the lock of a log's writers, or of its readers.
@@ -68,6 +68,11 @@ impl HeldLog {
     /// The file that has the lock of a log's writers, and its name.
     pub(crate) fn holding(place: NamedFile<File>) -> HeldLog {
         HeldLog { place }
+    }
+
+    /// The file, and its name.
+    pub(crate) fn named_file(&self) -> &NamedFile<File> {
+        &self.place
     }
 
     /// The file.

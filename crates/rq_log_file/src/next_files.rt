@@ -34,7 +34,7 @@ impl NextFiles {
     /// `OutOfMemory`.
     pub fn of_held(alloc: Global, held: &HeldLog) -> io::Result<NextFiles> {
         Ok(NextFiles {
-            name: String::from_str(alloc, held.place.real_name())?,
+            name: String::from_str(alloc, held.named_file().real_name())?,
             old: OpenFile::metadata(held)?,
         })
     }

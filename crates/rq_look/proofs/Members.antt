@@ -1,5 +1,5 @@
 -- Objects that are shown.
-use Rattle.std.proofs.Common.{◌≡◌, ◌∙◌, ℕ, suc, List, [], ◌∷◌, map, length, Vec, Global, Bor, Bool, true, false, refl, sym, ap, subst, rules, Result, Ok, Err, IfOk}
+use Rattle.std.proofs.Common.{◌≡◌, ◌∙◌, ℕ, suc, List, [], ◌∷◌, map, length, String, string_bytes, Vec, Global, Bor, Bool, true, false, refl, sym, ap, subst, rules, Result, Ok, Err, IfOk}
 use Rattle.std.specs.Prelude.{Option, Some, None, if◌then◌else◌}
 use Rattle.std.specs.Str.{IsUtf8, is_utf8}
 use Rattle.std.proofs.lemmas.Bool.{or_from}
@@ -12,14 +12,14 @@ use Rattle.rq_model.specs.Reports.{why_text}
 use Rattle.rq_judged.specs.FrontEnds.{IsEndOf}
 use Rattle.rq_judged.specs.Views.{why_of}
 use Rattle.rq_found.specs.declared.ends.End.{End}
-use Rattle.rq_look.specs.Objects.{value_shown, level_shown, members_of, members_shown, member_of, text_in}
+use Rattle.rq_look.specs.Objects.{value_shown, level_shown, as_members, members_shown, member_of, text_in}
 use Rattle.rq_look.specs.Objects.{closing_members, end_members}
-use Rattle.rq_look.specs.declared.objects.Shown.{Shown, Group, the_lemmas}
+use Rattle.rq_look.specs.declared.objects.Shown.{Shown, Group, Made, the_lemmas}
 use Rattle.rq_look.specs.declared.objects.Shown.TheOpen.{Shown-F}
 use Rattle.rq_look.specs.declared.objects.Shown.TheFolds.{fold-roll-Shown, ind-Shown, map-Shown}
 
 -- as many members as are shown
-pub as_many : (ms : List (Bor (List ℕ) × Shown)) → members_len (members_of (members_shown ms)) ≡ length ms
+pub as_many : (ms : List (Bor (List ℕ) × Shown)) → members_len (as_members (members_shown ms)) ≡ length ms
 as_many [] = refl
 as_many (m ∷ ms) = ap suc (as_many ms)
 
@@ -28,12 +28,16 @@ both_shown : (ms : List (Bor (List ℕ) × Shown))
 both_shown [] = refl
 both_shown (m ∷ ms) = ap (λ xs. (m.0.now, value_shown m.1) ∷ xs) (both_shown ms)
 
+-- a text that was made
+pub made_shown : (text : String Global) → value_shown (Made text) ≡ string (string_bytes text)
+made_shown text = search (rules, the_lemmas)
+
 -- an object by its members
-pub group_shown : (v : Vec (Bor (List ℕ) × Shown) Global) → value_shown (Group v) ≡ object (members_of (members_shown v.items))
+pub group_shown : (v : Vec (Bor (List ℕ) × Shown) Global) → value_shown (Group v) ≡ object (as_members (members_shown v.items))
 group_shown v =
-    let opened : value_shown (Group v) ≡ object (members_of (map member_of (map (λ m. (m.0, value_shown m.1)) v.items))) =
+    let opened : value_shown (Group v) ≡ object (as_members (map member_of (map (λ m. (m.0, value_shown m.1)) v.items))) =
     search (rules, the_lemmas) in
-    opened ∙ ap (λ ms. object (members_of ms)) (both_shown v.items)
+    opened ∙ ap (λ ms. object (as_members ms)) (both_shown v.items)
 
 -- no value that is shown has a float
 abbrev IsWhole : Shown → Type 0
@@ -44,7 +48,7 @@ abbrev Whole : Type 0
 Whole = (v : Shown) × IsWhole v
 
 members_whole : (ms : List (Bor (List ℕ) × Whole))
-    → members_have_float (members_of (map member_of (map (λ (m : Bor (List ℕ) × Shown). (m.0, value_shown m.1)) (map (λ (m : Bor (List ℕ) × Whole). (m.0, m.1.0)) ms)))) ≡ false
+    → members_have_float (as_members (map member_of (map (λ (m : Bor (List ℕ) × Shown). (m.0, value_shown m.1)) (map (λ (m : Bor (List ℕ) × Whole). (m.0, m.1.0)) ms)))) ≡ false
 members_whole [] = refl
 members_whole (m ∷ ms) = or_from _ _ m.1.1 (members_whole ms)
 

@@ -38,24 +38,24 @@ spelled text = flat_map spelled_character (chars text)
 abbrev pub Named : Type 0
 Named = List (List ℕ × Data)
 
-abbrev pub members_of : Named → Members
-members_of [] = no_members
-members_of (m ∷ ms) = member m.0 m.1 (members_of ms)
+abbrev pub as_members : Named → Members
+as_members [] = no_members
+as_members (m ∷ ms) = member m.0 m.1 (as_members ms)
 
 -- the line of an object: its text with no space, hidden characters by their numbers
 abbrev pub object_line : Named → List ℕ
-object_line ms = spelled (compact_text (object (members_of ms))) ++ codes "\n"
+object_line ms = spelled (compact_text (object (as_members ms))) ++ codes "\n"
 
 -- Members.
 
 -- a value by its name
-abbrev pub named : List ℕ → Data → Named
-named name value = (name, value) ∷ []
+abbrev pub with_name : List ℕ → Data → Named
+with_name name value = (name, value) ∷ []
 
 -- a value by its name, if there is one
 abbrev pub known : List ℕ → Option Data → Named
 known name None = []
-known name (Some value) = named name value
+known name (Some value) = with_name name value
 
 -- a number
 abbrev pub whole : ℕ → Data
@@ -71,21 +71,21 @@ text_in bytes = if is_utf8 bytes then Some (string bytes) else None
 
 -- bytes as digits, and as text if they are one
 abbrev pub bytes_members : List ℕ → Named
-bytes_members bytes = named (codes "hex") (digits bytes) ++ known (codes "text") (text_in bytes)
+bytes_members bytes = with_name (codes "hex") (digits bytes) ++ known (codes "text") (text_in bytes)
 
 -- Records.
 
 -- a record whose number is not known stands behind the front
 abbrev pub behind_mark : Option ℕ → Named
-behind_mark None = named (codes "behind") (boolean true)
+behind_mark None = with_name (codes "behind") (boolean true)
 behind_mark (Some n) = []
 
 -- where a record stands, and what most kinds name
 abbrev pub place_members : LogEntry → Named
-place_members e = named (codes "offset") (whole e.offset)
+place_members e = with_name (codes "offset") (whole e.offset)
     ++ (known (codes "record") (option_map whole e.number)
     ++ (behind_mark e.number
-    ++ (named (codes "kind") (string (kind_word e.kept))
+    ++ (with_name (codes "kind") (string (kind_word e.kept))
     ++ (known (codes "unit") (option_map whole (unit_shown e.kept))
     ++ known (codes "queue") (option_map whole e.queue)))))
 
@@ -95,11 +95,11 @@ error_known error = if error == no_queue then None else Some error
 
 -- what no other kind has
 abbrev pub own_members : Record → Named
-own_members (Define limit error name) = named (codes "name") (string name)
-    ++ (named (codes "limit") (whole limit)
+own_members (Define limit error name) = with_name (codes "name") (string name)
+    ++ (with_name (codes "limit") (whole limit)
     ++ known (codes "error") (option_map whole (error_known error)))
-own_members (Enqueue unit queue priority by payload) = named (codes "priority") (whole priority)
-own_members (Kill queue element) = named (codes "element") (whole element)
+own_members (Enqueue unit queue priority by payload) = with_name (codes "priority") (whole priority)
+own_members (Kill queue element) = with_name (codes "element") (whole element)
 own_members r = []
 
 -- the registrant that a record names, and the tag of an operation
@@ -110,9 +110,9 @@ by_members r = known (codes "registrant") (option_map string (registrant_named r
 -- the bytes that a record has; those of a checkpoint are as many as a state has, and no text
 abbrev pub load_members : Record → Named
 load_members (Enqueue unit queue priority by payload) =
-    named (codes "payload") (object (members_of (bytes_members payload)))
+    with_name (codes "payload") (object (as_members (bytes_members payload)))
 load_members (Checkpoint bytes) =
-    named (codes "bytes") (object (members_of (named (codes "hex") (digits bytes))))
+    with_name (codes "bytes") (object (as_members (with_name (codes "hex") (digits bytes))))
 load_members r = []
 
 -- the object of a record
@@ -124,8 +124,8 @@ record_members e =
 
 -- that of a frame behind the front whose body spells no record, and why
 abbrev pub formless_members : ℕ → List ℕ → Named
-formless_members offset reason = named (codes "offset") (whole offset)
-    ++ (named (codes "behind") (boolean true) ++ named (codes "reason") (string reason))
+formless_members offset reason = with_name (codes "offset") (whole offset)
+    ++ (with_name (codes "behind") (boolean true) ++ with_name (codes "reason") (string reason))
 
 -- where the first of the frames begins
 abbrev pub first_place : List Span → Option ℕ
@@ -135,27 +135,27 @@ first_place (s ∷ ss) = Some (s.start - 4)
 -- that of what stands behind a front: how many right frames, where the first of them begins, how many
 -- bytes fit nothing, and where the search gave up, if it did
 abbrev pub found_members : Found → Named
-found_members found = named (codes "frames") (whole (length found.spans.items))
+found_members found = with_name (codes "frames") (whole (length found.spans.items))
     ++ (known (codes "first") (option_map whole (first_place found.spans.items))
-    ++ (named (codes "unfit") (whole found.unfit)
+    ++ (with_name (codes "unfit") (whole found.unfit)
     ++ known (codes "gave_up") (option_map whole found.gave_up)))
 
 abbrev pub behind_members : Found → Named
-behind_members found = named (codes "behind") (object (members_of (found_members found)))
+behind_members found = with_name (codes "behind") (object (as_members (found_members found)))
 
 -- that of where a front ends: with which checkpoint the log begins, if it was carried on; its records,
 -- its bytes, all bytes, why it ends, and the reason
 abbrev pub front_members : Option ℕ → ℕ → ℕ → ℕ → List ℕ → List ℕ → Named
 front_members at records used total why reason =
     known (codes "carried_at") (option_map whole at)
-    ++ (named (codes "records") (whole records)
-    ++ (named (codes "used") (whole used)
-    ++ (named (codes "total") (whole total)
-    ++ (named (codes "why") (string why) ++ named (codes "reason") (string reason)))))
+    ++ (with_name (codes "records") (whole records)
+    ++ (with_name (codes "used") (whole used)
+    ++ (with_name (codes "total") (whole total)
+    ++ (with_name (codes "why") (string why) ++ with_name (codes "reason") (string reason)))))
 
 abbrev pub end_members : Option ℕ → ℕ → ℕ → ℕ → List ℕ → List ℕ → Named
-end_members at records used total why reason = named (codes "front")
-    (object (members_of (front_members at records used total why reason)))
+end_members at records used total why reason = with_name (codes "front")
+    (object (as_members (front_members at records used total why reason)))
 
 -- this one of what a restart answers
 abbrev pub closing_members : Option ℕ → Restarted → List ℕ → Named
@@ -172,7 +172,7 @@ level_shown (Shown-F.Number n) = whole n
 level_shown (Shown-F.Flag b) = boolean b
 level_shown (Shown-F.Word text) = string text.now
 level_shown (Shown-F.Made text) = string (string_bytes text)
-level_shown (Shown-F.Group members) = object (members_of (map member_of members.items))
+level_shown (Shown-F.Group members) = object (as_members (map member_of members.items))
 
 -- a value
 abbrev pub value_shown : Shown → Data

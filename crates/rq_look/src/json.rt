@@ -13,7 +13,8 @@ ghost use Rattle.rq_look.specs.Objects.{front_members, load_members, members_sho
 ghost use Rattle.rq_look.specs.Objects.{own_members, place_members, record_members};
 
 use crate::objects::{
-    Members, Shown, grouped, put, put_bytes, put_digits, put_number, put_object, put_word,
+    Members, Shown, grouped, put_digits, put_hex_and_text, put_number, put_object, put_value,
+    put_word,
 };
 use crate::shown_records::{ShownRecord, by_of, registrant_of, unit_number};
 use rq_behind::Found;
@@ -40,7 +41,7 @@ fn put_mark(members: &mut Members<'_>, number: Option<u64>) -> Put
 {
     match number {
         Some(_) => Ok(()),
-        None => put(members, "behind", Shown::Flag(true)),
+        None => put_value(members, "behind", Shown::Flag(true)),
     }
 }
 
@@ -49,10 +50,10 @@ fn put_place(members: &mut Members<'_>, it: &ShownRecord<'_>) -> Put
     ensures { OnOk result (members_shown members.new.items
         ≡ members_shown members.old.items ++ place_members (shown_entry it.now)) }
 {
-    put(members, "offset", Shown::Number(it.offset))?;
+    put_value(members, "offset", Shown::Number(it.offset))?;
     put_number(members, "record", it.number)?;
     put_mark(members, it.number)?;
-    put(members, "kind", Shown::Word(kind_of(it.record)))?;
+    put_value(members, "kind", Shown::Word(kind_of(it.record)))?;
     put_number(members, "unit", unit_number(it.record))?;
     put_number(members, "queue", it.queue.map(|queue| u64::from(queue.0)))
 }
@@ -64,8 +65,8 @@ fn put_own<'a>(members: &mut Members<'a>, record: &'a KeptRecord) -> Put
 {
     match record {
         KeptRecord::Define { limit, error, name } => {
-            put(members, "name", Shown::Word(name.text()))?;
-            put(members, "limit", Shown::Number(u64::from(*limit)))?;
+            put_value(members, "name", Shown::Word(name.text()))?;
+            put_value(members, "limit", Shown::Number(u64::from(*limit)))?;
             put_number(
                 members,
                 "error",
@@ -73,9 +74,9 @@ fn put_own<'a>(members: &mut Members<'a>, record: &'a KeptRecord) -> Put
             )
         }
         KeptRecord::Enqueue { priority, .. } => {
-            put(members, "priority", Shown::Number(u64::from(*priority)))
+            put_value(members, "priority", Shown::Number(u64::from(*priority)))
         }
-        KeptRecord::Kill { element, .. } => put(members, "element", Shown::Number(element.0)),
+        KeptRecord::Kill { element, .. } => put_value(members, "element", Shown::Number(element.0)),
         _ => Ok(()),
     }
 }
@@ -92,17 +93,17 @@ fn put_by<'a>(members: &mut Members<'a>, record: &'a KeptRecord) -> Put
 // The bytes of a payload as an object.
 fn payload_shown<'a>(alloc: Global, bytes: &'a [u8]) -> Result<Shown<'a>, AllocError>
     ensures { IfOk result
-        (λ v. spec.value_shown v ≡ object (spec.members_of (spec.bytes_members bytes.now))) }
+        (λ v. spec.value_shown v ≡ object (spec.as_members (spec.bytes_members bytes.now))) }
 {
     let mut members = Vec::new(alloc);
-    put_bytes(alloc, &mut members, bytes)?;
+    put_hex_and_text(alloc, &mut members, bytes)?;
     Ok(grouped(members))
 }
 
 // The bytes of a checkpoint, which are as many as a state has, as an object of digits alone.
 fn checkpoint_shown<'a>(alloc: Global, bytes: &[u8]) -> Result<Shown<'a>, AllocError>
     ensures { IfOk result (λ v. spec.value_shown v
-        ≡ object (spec.members_of (spec.named (codes "hex") (spec.digits bytes.now)))) }
+        ≡ object (spec.as_members (spec.with_name (codes "hex") (spec.digits bytes.now)))) }
 {
     let mut members = Vec::new(alloc);
     put_digits(alloc, &mut members, bytes)?;
@@ -117,11 +118,11 @@ fn put_load<'a>(alloc: Global, members: &mut Members<'a>, record: &'a KeptRecord
     match record {
         KeptRecord::Enqueue { payload, .. } => {
             let bytes = payload_shown(alloc, payload.bytes())?;
-            put(members, "payload", bytes)
+            put_value(members, "payload", bytes)
         }
         KeptRecord::Checkpoint { bytes } => {
             let bytes = checkpoint_shown(alloc, bytes.bytes())?;
-            put(members, "bytes", bytes)
+            put_value(members, "bytes", bytes)
         }
         _ => Ok(()),
     }
@@ -154,9 +155,9 @@ pub(crate) fn put_unspelled(alloc: Global, text: &mut String, offset: u64, reaso
         ≡ string_bytes text.old ++ object_line (formless_members offset reason.now)) }
 {
     let mut members = Vec::new(alloc);
-    put(&mut members, "offset", Shown::Number(offset))?;
-    put(&mut members, "behind", Shown::Flag(true))?;
-    put(&mut members, "reason", Shown::Word(reason))?;
+    put_value(&mut members, "offset", Shown::Number(offset))?;
+    put_value(&mut members, "behind", Shown::Flag(true))?;
+    put_value(&mut members, "reason", Shown::Word(reason))?;
     put_object(alloc, text, members)
 }
 
@@ -176,19 +177,19 @@ fn put_found(members: &mut Members<'_>, found: &Found) -> Put
     ensures { OnOk result (members_shown members.new.items
         ≡ members_shown members.old.items ++ found_members found.now) }
 {
-    put(members, "frames", Shown::Number(found.spans.len() as u64))?;
+    put_value(members, "frames", Shown::Number(found.spans.len() as u64))?;
     put_number(members, "first", first_of(&found.spans))?;
-    put(members, "unfit", Shown::Number(found.unfit as u64))?;
+    put_value(members, "unfit", Shown::Number(found.unfit as u64))?;
     put_number(members, "gave_up", found.gave_up.map(|place| place as u64))
 }
 
 // Puts an object of one member, which is an object, in a line.
 fn put_only<'a>(alloc: Global, text: &mut String, name: &'a str, inner: Members<'a>) -> Put
     ensures { OnOk result (string_bytes text.new ≡ string_bytes text.old
-        ++ object_line (spec.named name.now (object (spec.members_of (members_shown inner.entry.items))))) }
+        ++ object_line (spec.with_name name.now (object (spec.as_members (members_shown inner.entry.items))))) }
 {
     let mut members = Vec::new(alloc);
-    put(&mut members, name, grouped(inner))?;
+    put_value(&mut members, name, grouped(inner))?;
     put_object(alloc, text, members)
 }
 
@@ -209,11 +210,11 @@ fn put_front<'a>(members: &mut Members<'a>, at: Option<u64>, end: &'a End) -> Pu
         (why_text (why_of end.now.front.why)) (string_bytes end.now.reason)) }
 {
     put_number(members, "carried_at", at)?;
-    put(members, "records", Shown::Number(end.front.next))?;
-    put(members, "used", Shown::Number(end.front.used))?;
-    put(members, "total", Shown::Number(end.front.total))?;
-    put(members, "why", Shown::Word(end.front.why.word()))?;
-    put(members, "reason", Shown::Word(end.reason.as_str()))
+    put_value(members, "records", Shown::Number(end.front.next))?;
+    put_value(members, "used", Shown::Number(end.front.used))?;
+    put_value(members, "total", Shown::Number(end.front.total))?;
+    put_value(members, "why", Shown::Word(end.front.why.word()))?;
+    put_value(members, "reason", Shown::Word(end.reason.as_str()))
 }
 
 /// Puts the last line of a dump, of where the front ends and with which checkpoint the log begins, as an

@@ -7,6 +7,7 @@ mod behind_fronts;
 mod bytes;
 mod checks;
 mod dumps;
+mod escapes;
 mod frame_lines;
 mod frontless;
 mod json;
@@ -18,7 +19,6 @@ mod reports;
 mod salvages;
 mod sheet;
 mod shown_records;
-mod spelling;
 mod stories;
 mod wanted;
 

@@ -1,15 +1,13 @@
 //! Objects of JSON, as lists of members in order.
 
 ghost use Rattle.std.specs.Prelude.{◌≡◌, ◌++◌, IfOk, Ok, OnOk, codes, option_map, string_bytes};
-ghost use Rattle.std.specs.List.{flat_map};
 ghost use Rattle.serde_json.specs.Data.{object, string};
 ghost use Rattle.serde_json.specs.Events.{SendsValue};
 ghost use Rattle.serde_json.specs.Written.{compact_text};
-ghost use Rattle.rq_model.specs.Reports.{hex_of};
-ghost use Rattle.rq_look.specs.Objects.{bytes_members, digits, known, members_of, members_shown};
-ghost use Rattle.rq_look.specs.Objects.{named, object_line, text_in, value_shown, whole};
+ghost use Rattle.rq_look.specs.Objects.{bytes_members, digits, known, as_members, members_shown};
+ghost use Rattle.rq_look.specs.Objects.{with_name, object_line, text_in, value_shown, whole};
 
-use crate::spelling::spelled_out;
+use crate::escapes::spelled_out;
 use rq_found::Put;
 use serde::{Described, Serialize, Serializer};
 use std::alloc::{AllocError, Global};
@@ -59,7 +57,7 @@ fn send<S: Serializer>(value: &Shown<'_>, out: &mut S) -> Result<(), S::Error>
 
 #[cycle(send)]
 fn send_members<S: Serializer>(members: &Members<'_>, out: &mut S) -> Result<(), S::Error>
-    ensures { OnOk result (SendsValue (object (members_of (members_shown members.now.items)))
+    ensures { OnOk result (SendsValue (object (as_members (members_shown members.now.items)))
         (S.written out.old) (S.written out.new)) }
 {
     out.begin_map(Some(members.len()))?;
@@ -72,15 +70,15 @@ fn send_members<S: Serializer>(members: &Members<'_>, out: &mut S) -> Result<(),
 
 /// An object of these members.
 pub(crate) fn grouped<'a>(members: Members<'a>) -> Shown<'a>
-    ensures { value_shown result ≡ object (members_of (members_shown members.entry.items)) }
+    ensures { value_shown result ≡ object (as_members (members_shown members.entry.items)) }
 {
     Shown::Group(members)
 }
 
 /// Puts a value by its name behind these members.
-pub(crate) fn put<'a>(members: &mut Members<'a>, name: &'a str, value: Shown<'a>) -> Put
+pub(crate) fn put_value<'a>(members: &mut Members<'a>, name: &'a str, value: Shown<'a>) -> Put
     ensures { OnOk result (members_shown members.new.items
-        ≡ members_shown members.old.items ++ named name.now (value_shown value.entry)) }
+        ≡ members_shown members.old.items ++ with_name name.now (value_shown value.entry)) }
 {
     members.push((name, value))?;
     Ok(())
@@ -92,7 +90,7 @@ pub(crate) fn put_number<'a>(members: &mut Members<'a>, name: &'a str, number: O
         ≡ members_shown members.old.items ++ known name.now (option_map whole number)) }
 {
     match number {
-        Some(number) => put(members, name, Shown::Number(number)),
+        Some(number) => put_value(members, name, Shown::Number(number)),
         None => Ok(()),
     }
 }
@@ -103,7 +101,7 @@ pub(crate) fn put_word<'a>(members: &mut Members<'a>, name: &'a str, word: Optio
         ++ known name.now (option_map string (option_map (λ t. t.now) word.entry))) }
 {
     match word {
-        Some(word) => put(members, name, Shown::Word(word)),
+        Some(word) => put_value(members, name, Shown::Word(word)),
         None => Ok(()),
     }
 }
@@ -115,29 +113,30 @@ fn put_text<'a>(members: &mut Members<'a>, bytes: &'a [u8]) -> Put
         ≡ members_shown members.old.items ++ known (codes "text") (text_in bytes.now)) }
 {
     match from_utf8(bytes) {
-        Ok(text) => put(members, "text", Shown::Word(text)),
+        Ok(text) => put_value(members, "text", Shown::Word(text)),
         Err(_) => Ok(()),
     }
 }
 
-// The digits of bytes.
-fn digits_of(alloc: Global, bytes: &[u8]) -> Result<String, AllocError>
-    ensures { IfOk result (λ text. string_bytes text ≡ flat_map hex_of bytes.now) }
+// Bytes as digits.
+fn digits_shown<'a>(alloc: Global, bytes: &[u8]) -> Result<Shown<'a>, AllocError>
+    ensures { IfOk result (λ v. value_shown v ≡ digits bytes.now) }
 {
-    hex::encode(alloc, bytes)
+    let made = hex::encode(alloc, bytes)?;
+    Ok(Shown::Made(made))
 }
 
 /// Puts bytes as digits.
 pub(crate) fn put_digits(alloc: Global, members: &mut Members<'_>, bytes: &[u8]) -> Put
     ensures { OnOk result (members_shown members.new.items
-        ≡ members_shown members.old.items ++ named (codes "hex") (digits bytes.now)) }
+        ≡ members_shown members.old.items ++ with_name (codes "hex") (digits bytes.now)) }
 {
-    let made = digits_of(alloc, bytes)?;
-    put(members, "hex", Shown::Made(made))
+    let made = digits_shown(alloc, bytes)?;
+    put_value(members, "hex", made)
 }
 
 /// Puts bytes as digits, and as text if they are one.
-pub(crate) fn put_bytes<'a>(alloc: Global, members: &mut Members<'a>, bytes: &'a [u8]) -> Put
+pub(crate) fn put_hex_and_text<'a>(alloc: Global, members: &mut Members<'a>, bytes: &'a [u8]) -> Put
     ensures { OnOk result (members_shown members.new.items
         ≡ members_shown members.old.items ++ bytes_members bytes.now) }
 {

@@ -11,9 +11,9 @@ ghost use Rattle.rq_found.specs.declared.trouble.Trouble.TheVariants.{Log};
 ghost use Rattle.rq_look.specs.Looks.{AppendsLine, BreaksReport, HasQueue, LacksReport, PutsQueue, PutsReport};
 ghost use Rattle.rq_look.specs.Looks.{PutsReportAs, StaysUnreported};
 
+use crate::escapes::spelled_out;
 use crate::json::queue_number;
 use crate::objects::written;
-use crate::spelling::spelled_out;
 use rq_found::{
     End, FrontShown, Output, OverWrite, RegistrantShown, ShownLog, Trouble, write_bytes,
 };

@@ -113,6 +113,10 @@ stands_within c l is =
       ),
     )
 
+-- nor behind where the front ends
+pub stands_at : (c : List ℕ) (l : FoundLog) → IsFound c l → StandsWithin l.kernel l.end.used
+stands_at c l is = ((stands_within c l is).0, omega (arith, is.at.len, is.used))
+
 -- What is found, or why nothing is.
 
 pub found_so : (c : List ℕ) (f : RedoneFront) (result : Result FoundLog Fault) → IsRedoneFront c f

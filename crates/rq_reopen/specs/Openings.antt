@@ -2,14 +2,17 @@
 use Rattle.std.specs.Prelude.{◌≡◌, ⊤, ℕ, Bool, true, false, List, ◌∷◌, ◌++◌, length, take, drop, Some, None, Option, Result, Ok, Err}
 use Rattle.rq_model.specs.Records.{Record, Commit, Version}
 use Rattle.rq_model.specs.Frames.{log_of, start, last_of}
-use Rattle.rq_model.specs.States.{empty}
+use Rattle.rq_model.specs.States.{State, empty}
 use Rattle.rq_model.specs.Machine.{outcome_from, run, Committed}
 use Rattle.rq_model.specs.Appending.{AreWhole}
 use Rattle.rq_model.specs.Fronts.{IsFront, IsWhy}
 use Rattle.rq_record.specs.Views.{version_of}
 use Rattle.rq_record.specs.declared.fault.Fault.{Fault}
 use Rattle.rq_front.specs.Chains.{Refused}
+use Rattle.rq_record.specs.declared.version.Version as rt
+use Rattle.rq_judged.specs.declared.ends.Edge.{Edge}
 use Rattle.rq_judged.specs.Views.{why_of}
+use Rattle.rq_restart.specs.declared.redone.RedoneFront.{RedoneFront}
 use Rattle.rq_journal.specs.LeftBehind.{IsDamage, IsLeftByCrash}
 use Rattle.rq_journal.specs.declared.left_behind.Damage.{Damage}
 use Rattle.rq_record.specs.declared.fault.Fault.TheVariants.{Resources}
@@ -22,6 +25,10 @@ use Rattle.rq_reopen.specs.declared.found_log.FoundLog.{FoundLog}
 use Rattle.rq_reopen.specs.declared.openings.Opening.{Opening}
 use Rattle.rq_reopen.specs.declared.openings.NotOpened.{NotOpened}
 use Rattle.rq_reopen.specs.declared.openings.NotOpened.TheVariants.{Log, Damaged}
+
+-- a front, and the state behind it
+abbrev pub front_with : rt.Version → State → List ℕ → Edge → RedoneFront
+front_with version s last end = record { version = version; state = s; last = last; end = end }
 
 -- the kernel stands behind the front of c
 pub record IsFound (c : List ℕ) (l : FoundLog) : Type 0 where

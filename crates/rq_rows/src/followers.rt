@@ -16,6 +16,6 @@ pub fn followed<R: Threads + Sync + AllocGlobal>(
     let mut follower = Follower::new(rt.alloc());
     follower.take(rt, rt.alloc(), first, &plan)?;
     follower.take(rt, rt.alloc(), second, &plan)?;
-    let (total, front) = (follower.total(), follower.redone(rt.alloc())?);
+    let (total, front) = (follower.bytes_come(), follower.redone(rt.alloc())?);
     Ok((front.end.records, front.end.used, total))
 }

@@ -74,12 +74,7 @@ fn all_through<D: Device + Drop>(
 }
 
 // Tells how many bytes a manager wrote in how many milliseconds, if so many elements go through.
-fn tell_time<R, D>(
-    rt: &R,
-    m: &mut Manager<D>,
-    count: u64,
-    is_safe: bool,
-) -> Result<(), Unanswered>
+fn tell_time<R, D>(rt: &R, m: &mut Manager<D>, count: u64, is_safe: bool) -> Result<(), Unanswered>
 where
     R: Print + Clock + AllocGlobal,
     D: Device + Drop,

@@ -1,5 +1,9 @@
 //! A standby goes along with a log that comes from a pipe. It may keep a copy, and serve that at the end.
 
+ghost use Rattle.std.specs.Prelude.{◌≡◌, ◌≤◌, ℕ, IfOk, List, OnOk, length};
+ghost use Rattle.rq_follow.specs.Followers.{IsFollowing};
+ghost use Rattle.rq_live.specs.Kernels.{StandsWithin};
+
 use crate::copies::LogCopy;
 use crate::damage::{BadEnd, LINK_LEN, moved};
 use crate::inputs::{opened, read_piece};
@@ -7,10 +11,12 @@ use crate::refusal::{Refusal, Stream};
 use crate::serve::{CARRY_AT, Greeting, is_left_by_crash, keep_cut, serve_on};
 use clap::ArgMatches;
 use rq_file::Patient;
-use rq_follow::Follower;
+use rq_follow::{Follower, Standing};
 use rq_front::HEADER_LEN;
-use rq_journal::{Damage, Fault, Plan};
+use rq_journal::{Damage, Fault, Plan, Why};
+use rq_judged::Edge;
 use rq_log_file::{HeldLog, LogFile};
+use rq_record::Version;
 use rq_reopen::FoundLog;
 use rq_report::{OverWrite, write_report_by};
 use rq_serve::CarryPoint;
@@ -47,39 +53,77 @@ fn of_source(fault: Fault) -> Refusal {
 }
 
 impl Standby {
-    // Goes along with a piece. Ends where the front does, and at a carried file that is to be served.
-    fn take<R>(&mut self, rt: &R, piece: &[u8], plan: &Plan) -> Result<(), Refusal>
-    where
-        R: AllocGlobal + Threads + Sync,
+    // Keeps a piece of the log, if a copy is kept.
+    fn keep(&mut self, alloc: Global, piece: &[u8]) -> Result<(), Refusal>
+        ensures { self.new.follower ≡ self.old.follower }
     {
-        if let Some(copy) = &mut self.copy {
-            copy.put(rt.alloc(), piece)?;
-        }
-        self.follower
-            .take(rt, rt.alloc(), piece, plan)
-            .map_err(|fault| of_source(fault))?;
-        if self.serves && self.follower.is_carried() {
-            return Err(of_source(Fault::NotALog));
-        }
-        match self.follower.end() {
-            Some(end) if self.follower.is_ended() => Err(Refusal::FrontEnds(end)),
-            _ => Ok(()),
+        match &mut self.copy {
+            Some(copy) => copy.put(alloc, piece),
+            None => Ok(()),
         }
     }
 
     // Tells the disk of what came.
-    fn sync(&mut self) -> Result<(), Refusal> {
+    fn sync(&mut self) -> Result<(), Refusal>
+        ensures { self.new.follower ≡ self.old.follower }
+    {
         match &mut self.copy {
             Some(copy) => copy.sync(),
             None => Ok(()),
         }
     }
 
-    // Goes along with all that comes. What of it was kept is synced, also if it is refused.
+    // Refuses a front that ends whatever comes, and a carried file that is to be served.
+    fn expect_open(&self) -> Result<(), Refusal>
+        requires { (b : List ℕ) × IsFollowing b self.now.follower }
+    {
+        if self.serves && self.follower.is_carried() {
+            return Err(of_source(Fault::NotALog));
+        }
+        match self.follower.end() {
+            Some(end) if !matches!(end.why, Why::Whole | Why::Cut) => Err(Refusal::FrontEnds(end)),
+            _ => Ok(()),
+        }
+    }
+
+    // Goes along with a piece. Ends where the front does, and at a carried file that is to be served.
+    fn take<R>(&mut self, rt: &R, piece: &[u8], plan: &Plan) -> Result<(), Refusal>
+    where
+        R: AllocGlobal + Threads + Sync,
+        requires { (b : List ℕ) × IsFollowing b self.old.follower }
+        ensures { OnOk result ((b : List ℕ) × IsFollowing b self.new.follower) }
+    {
+        self.keep(rt.alloc(), piece)?;
+        match self.follower.take(rt, rt.alloc(), piece, plan) {
+            Ok(()) => self.expect_open(),
+            Err(fault) => Err(of_source(fault)),
+        }
+    }
+
+    // Goes along with what one read gave, and syncs it, if no more is there now or it is refused.
+    fn take_read<R>(&mut self, rt: &R, piece: &[u8], plan: &Plan) -> Result<(), Refusal>
+    where
+        R: AllocGlobal + Threads + Sync,
+        requires { (b : List ℕ) × IsFollowing b self.old.follower }
+        ensures { OnOk result ((b : List ℕ) × IsFollowing b self.new.follower) }
+    {
+        match self.take(rt, piece, plan) {
+            Ok(()) if piece.len() == PIECE => Ok(()),
+            Ok(()) => self.sync(),
+            Err(refusal) => {
+                self.sync()?;
+                Err(refusal)
+            }
+        }
+    }
+
+    // Goes along with all that comes.
     fn go_along<R, F>(&mut self, rt: &R, from: &mut F, plan: &Plan) -> Result<(), Refusal>
     where
         R: AllocGlobal + Threads + Sync,
         F: Read,
+        requires { (b : List ℕ) × IsFollowing b self.old.follower }
+        ensures { OnOk result ((b : List ℕ) × IsFollowing b self.new.follower) }
     {
         let mut piece = room_for_piece(rt.alloc())?;
         for _ in 0..u64::MAX {
@@ -87,11 +131,7 @@ impl Standby {
             if count == 0 {
                 break;
             }
-            let taken = self.take(rt, &piece[..count], plan);
-            if count < PIECE || taken.is_err() {
-                self.sync()?;
-            }
-            taken?;
+            self.take_read(rt, &piece[..count], plan)?;
         }
         Ok(())
     }
@@ -101,12 +141,16 @@ impl Standby {
 fn report<R>(rt: &R, follower: Follower, plan: &Plan) -> Result<(), Refusal>
 where
     R: Print + Clock + AllocGlobal + Threads + Sync,
+    requires { (b : List ℕ) × IsFollowing b follower }
 {
     let alloc = rt.alloc();
-    let front = follower.redone(alloc).map_err(|fault| of_source(fault))?;
-    let total = follower.total();
+    let front = match follower.redone(alloc) {
+        Ok(front) => front,
+        Err(fault) => return Err(of_source(fault)),
+    };
+    let total = follower.bytes_come();
     drop(follower);
-    let restarted = front.restarted(rt, alloc, total, plan, &Open)?;
+    let restarted = front.into_restarted(rt, alloc, total, plan, &Open)?;
     let mut output = OverWrite::new(Patient {
         rt,
         inner: io::writer(rt),
@@ -115,17 +159,26 @@ where
 }
 
 // What stands behind the front, behind the 32 bytes before that.
-fn behind(alloc: Global, follower: &Follower) -> Result<Vec<u8>, AllocError> {
+fn behind(alloc: Global, follower: &Follower) -> Result<Vec<u8>, AllocError>
+    requires { (b : List ℕ) × IsFollowing b follower.now }
+{
     let mut last = Vec::new(alloc);
-    last.extend_from_slice(follower.behind())?;
+    last.extend_from_slice(follower.what_follows())?;
     Ok(last)
 }
 
 // Why what stands behind a front is not what a crash leaves. Refuses a log that is not served then, as
 // when it is opened.
-fn damage_behind(alloc: Global, last: &[u8], found: &FoundLog) -> Result<Option<Damage>, Refusal> {
-    let (end, cut) = (found.end, last.len().saturating_sub(LINK_LEN));
-    let damage = Damage::left_behind(alloc, found.version, last, LINK_LEN, end.why)?;
+fn damage_behind(
+    alloc: Global,
+    last: &[u8],
+    version: Version,
+    end: Edge,
+) -> Result<Option<Damage>, Refusal>
+    requires { 32 ≤ length last.now }
+{
+    let cut = last.len() - LINK_LEN;
+    let damage = Damage::left_behind(alloc, version, last, LINK_LEN, end.why)?;
     match damage {
         Some(damage) if !is_left_by_crash(Some(damage), cut) => {
             let there = moved(damage, end.used.saturating_sub(LINK_LEN));
@@ -136,16 +189,36 @@ fn damage_behind(alloc: Global, last: &[u8], found: &FoundLog) -> Result<Option<
     }
 }
 
+// What a manager goes on from, of a copy that a machine went along with.
+fn found_in(alloc: Global, follower: Follower) -> Result<FoundLog, Refusal>
+    requires { (b : List ℕ) × IsFollowing b follower }
+    ensures { IfOk result (λ l. StandsWithin l.kernel l.end.used) }
+{
+    match follower.into_standing() {
+        Ok(
+            Standing {
+                version,
+                machine,
+                last,
+                end,
+            },
+        ) => Ok(FoundLog::of_machine(alloc, version, machine, last, end)),
+        Err(fault) => Err(of_source(fault)),
+    }
+}
+
 // Serves a copy, from the machine that went along with it.
 fn serve_copy<R>(rt: &R, path: &str, held: HeldLog, follower: Follower) -> Result<(), Refusal>
 where
     R: Files<File = File> + Input + Print + Eprint + Clock + AllocGlobal,
+    requires { (b : List ℕ) × IsFollowing b follower }
 {
     let last = behind(rt.alloc(), &follower)?;
-    let found = follower
-        .found(rt.alloc())
-        .map_err(|fault| of_source(fault))?;
-    let damage = damage_behind(rt.alloc(), &last, &found)?;
+    let found = found_in(rt.alloc(), follower)?;
+    if last.len() < LINK_LEN {
+        return Err(of_source(Fault::NotALog));
+    }
+    let damage = damage_behind(rt.alloc(), &last, found.version, found.end)?;
     let cut = last.split_at(LINK_LEN).1;
     keep_cut(rt, path, found.end, damage, cut)?;
     let greeting = Greeting {
@@ -164,6 +237,7 @@ where
 fn finish<R>(rt: &R, path: &str, standby: Standby, plan: &Plan) -> Result<(), Refusal>
 where
     R: Files<File = File> + Input + Print + Eprint + Clock + AllocGlobal + Threads + Sync,
+    requires { (b : List ℕ) × IsFollowing b standby.follower }
 {
     let Standby {
         follower,
@@ -184,7 +258,7 @@ where
 
 /// Goes along with a log that comes from standard input, or from a file or a pipe, and prints its report
 /// where it ends. Keeps a copy, if that is named, and may serve it in place of the report.
-pub(crate) fn follow<R>(rt: &R, plan: &Plan, words: &ArgMatches<'_>) -> Result<(), Refusal>
+pub(crate) fn stand_by<R>(rt: &R, plan: &Plan, words: &ArgMatches<'_>) -> Result<(), Refusal>
 where
     R: Files<File = File> + Input + Print + Eprint + Clock + AllocGlobal + Threads + Sync,
 {

@@ -18,10 +18,11 @@ mod recovery;
 mod refusal;
 mod refused_lines;
 mod serve;
+mod streams;
 mod words;
 
 use crate::commands::{carry, checkpoint, close, new_log, print_audit, print_report};
-use crate::follow::follow;
+use crate::follow::stand_by;
 use crate::lines::append;
 use crate::recovery::recover;
 use crate::refusal::Refusal;
@@ -94,7 +95,7 @@ where
     }
     let plan = plan_of(words)?;
     if name == "follow" {
-        return follow(rt, &plan, words);
+        return stand_by(rt, &plan, words);
     }
     let path = words.get_str("LOG").unwrap_or("-");
     match name {

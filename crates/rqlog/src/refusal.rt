@@ -2,9 +2,9 @@
 
 use crate::damage::BadEnd;
 use crate::refused_lines::{LineRefused, Reason};
+pub(crate) use crate::streams::Stream;
 use clap::ArgMatches;
 use clap::error::ErrorKind;
-use rq_found::Seen;
 use rq_journal::{Fault, NotMarked};
 use rq_judged::Edge;
 use rq_log_file::NotHeld;
@@ -22,29 +22,6 @@ const STREAM: u8 = 3;
 
 // The exit status if memory was refused.
 const MEMORY: u8 = 4;
-
-/// What cannot be opened, read or written.
-#[derive(Clone, Copy)]
-pub(crate) enum Stream {
-    Log,
-    Script,
-    New,
-    Out,
-    /// The log, which is as it was: nothing was appended.
-    LogAsItWas,
-    /// The log, where some of what was to be appended may stand.
-    LogUnknown,
-    /// The log, which may be cut to its front already.
-    LogToRecover,
-    /// The file that keeps what is cut off at an offset.
-    Kept(usize),
-    /// The log that a standby goes along with.
-    Source,
-    Input,
-    Output,
-    /// The output that was to tell what is done all the same.
-    Telling,
-}
 
 /// Why the program ends before it is done.
 #[derive(Drop)]
@@ -152,58 +129,6 @@ pub(crate) fn untold(error: io::Error) -> Refusal {
     Refusal::Failed(Stream::Telling, error)
 }
 
-// What a word of the command names. A standby writes no log but the copy of one.
-fn named<'a>(words: &'a ArgMatches<'_>, word: &str) -> Option<&'a str> {
-    match words.get_str(word) {
-        None if word == "LOG" => words.get_str("COPY"),
-        name => name,
-    }
-}
-
-impl Stream {
-    // The word of the command that names it, if one does.
-    fn word(self) -> Option<&'static str> {
-        match self {
-            Stream::Log
-            | Stream::LogAsItWas
-            | Stream::LogUnknown
-            | Stream::LogToRecover
-            | Stream::Kept(_) => Some("LOG"),
-            Stream::Script => Some("SCRIPT"),
-            Stream::Source => Some("from"),
-            Stream::New => Some("NEW"),
-            Stream::Out => Some("OUT"),
-            Stream::Input | Stream::Output | Stream::Telling => None,
-        }
-    }
-
-    // What it is called by these words.
-    fn name<'a>(self, words: Option<&'a ArgMatches<'_>>) -> Seen<'a> {
-        if matches!(self, Stream::Input) {
-            return Seen("standard input");
-        }
-        let Some(word) = self.word() else {
-            return Seen("standard output");
-        };
-        match words.and_then(|words| named(words, word)) {
-            Some("-") if matches!(self, Stream::Script | Stream::Source) => Seen("standard input"),
-            Some(name) => Seen(name),
-            None => Seen(word),
-        }
-    }
-
-    // What is left after it failed, if that is to be told.
-    fn left(self) -> &'static str {
-        match self {
-            Stream::LogAsItWas => ": nothing was appended",
-            Stream::LogUnknown => ": some records may stand there: rqlook check tells",
-            Stream::LogToRecover => ": use rqlog recover again",
-            Stream::Telling => ": it is done all the same",
-            _ => "",
-        }
-    }
-}
-
 // Prints the help or the version that was asked for, and answers the exit status.
 fn show_help<R: Print + Eprint>(rt: &R, help: &clap::Error) -> u8 {
     match print!(rt; "{help}") {
@@ -279,7 +204,7 @@ impl Refusal {
         match self {
             Refusal::Words(error) => eprint!(rt; "{error}"),
             Refusal::Failed(stream, error) => {
-                let left = stream.left();
+                let left = stream.what_is_left();
                 eprintln!(rt; "{error}{left}")
             }
             Refusal::Damaged(bad) => eprintln!(rt; "{bad}"),
@@ -305,7 +230,7 @@ impl Refusal {
             _ if matches!(self, Refusal::Words(_)) => Ok(()),
             None => eprint!(rt; "rqlog: "),
             Some(stream) => {
-                let name = stream.name(words);
+                let name = stream.called(words);
                 match stream {
                     Stream::Kept(offset) => eprint!(rt; "rqlog: {name}.cut-{offset}: "),
                     _ => eprint!(rt; "rqlog: {name}: "),

@@ -4,7 +4,7 @@ use Rattle.std.proofs.lemmas.Result.{on_ok_weaker}
 use Rattle.serde.specs.Event.{Logs, map_begins}
 use Rattle.serde_json.specs.Data.{object}
 use Rattle.serde_json.specs.Events.{SendsMembers, SendsValue}
-use Rattle.rq_look.specs.Objects.{members_of, members_shown, value_shown}
+use Rattle.rq_look.specs.Objects.{as_members, members_shown, value_shown}
 use Rattle.rq_look.specs.declared.objects.Shown.{Group}
 use Rattle.rq_look.proofs.Members.{as_many, group_shown}
 use Rattle.rq_look.proofs.objects.+send.Goals as goal
@@ -29,6 +29,6 @@ send_members-returns g t c =
     on_ok_weaker c.end_map.result (λ e. (
       first,
       begun,
-      subst (λ ys. SendsMembers (members_of (members_shown ys)) first end) c.deref-name-items.ensures.value
-          (c.loop-name.invariant end (subst (λ ys. SendsMembers (members_of (members_shown ys)) (g.S.Serializer.written c.loop-name.out) end) (sym none) e)),
+      subst (λ ys. SendsMembers (as_members (members_shown ys)) first end) c.deref-name-items.ensures.value
+          (c.loop-name.invariant end (subst (λ ys. SendsMembers (as_members (members_shown ys)) (g.S.Serializer.written c.loop-name.out) end) (sym none) e)),
     )) c.end_map.ensures

@@ -5,7 +5,7 @@ use Rattle.std.proofs.lemmas.Iterator.{YieldsList-from_chars}
 use Rattle.std.proofs.lemmas.Iterator.Consumers.{YieldsList-end}
 use Rattle.std.proofs.lemmas.List.{flat_map_more}
 use Rattle.rq_look.specs.Objects.{spelled_character}
-use Rattle.rq_look.proofs.spelling.spelled_text.Goals as goal
+use Rattle.rq_look.proofs.escapes.spelled_text.Goals as goal
 
 pub loop-c-preserved : goal.loop-c-preserved
 loop-c-preserved c =

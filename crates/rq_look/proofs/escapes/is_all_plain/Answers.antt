@@ -3,7 +3,7 @@ use Rattle.std.proofs.lemmas.Iterator.{YieldsList-from_slice}
 use Rattle.std.proofs.lemmas.Iterator.Search.{all_from_yields_List}
 use Rattle.std.specs.List.{list_all}
 use Rattle.rq_look.proofs.Spelled.{all_itself, is_itself}
-use Rattle.rq_look.proofs.spelling.is_all_plain.Goals as goal
+use Rattle.rq_look.proofs.escapes.is_all_plain.Goals as goal
 
 pub returns : goal.returns
 returns c = λ h.

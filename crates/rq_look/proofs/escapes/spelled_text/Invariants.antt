@@ -1,7 +1,7 @@
 use Rattle.std.proofs.Common.{◌≡◌, string_bytes}
 use Rattle.std.specs.List.{flat_map}
 use Rattle.rq_look.specs.Objects.{spelled_character}
-use Rattle.rq_look.proofs.spelling.spelled_text.Given as goal
+use Rattle.rq_look.proofs.escapes.spelled_text.Given as goal
 
 -- the characters so far are put
 abbrev pub invariant-loop-c : goal.invariant-loop-c
