@@ -204,7 +204,7 @@ impl Refusal {
         match self {
             Refusal::Words(error) => eprint!(rt; "{error}"),
             Refusal::Failed(stream, error) => {
-                let left = stream.left();
+                let left = stream.left_then();
                 eprintln!(rt; "{error}{left}")
             }
             Refusal::Damaged(bad) => eprintln!(rt; "{bad}"),
@@ -230,7 +230,7 @@ impl Refusal {
             _ if matches!(self, Refusal::Words(_)) => Ok(()),
             None => eprint!(rt; "rqlog: "),
             Some(stream) => {
-                let name = stream.name(words);
+                let name = stream.called(words);
                 match stream {
                     Stream::Kept(offset) => eprint!(rt; "rqlog: {name}.cut-{offset}: "),
                     _ => eprint!(rt; "rqlog: {name}: "),

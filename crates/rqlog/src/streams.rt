@@ -52,7 +52,7 @@ impl Stream {
     }
 
     /// What it is called by these words.
-    pub(crate) fn name<'a>(self, words: Option<&'a ArgMatches<'_>>) -> Seen<'a> {
+    pub(crate) fn called<'a>(self, words: Option<&'a ArgMatches<'_>>) -> Seen<'a> {
         if matches!(self, Stream::Input) {
             return Seen("standard input");
         }
@@ -67,7 +67,7 @@ impl Stream {
     }
 
     /// What is left after it failed, if that is to be told.
-    pub(crate) fn left(self) -> &'static str {
+    pub(crate) fn left_then(self) -> &'static str {
         match self {
             Stream::LogAsItWas => ": nothing was appended",
             Stream::LogUnknown => ": some records may stand there: rqlook check tells",
