@@ -1,31 +1,30 @@
 -- How a log begins, or a carried file, and what more bytes make of it.
-use Rattle.std.proofs.Common.{◌≡◌, ℕ, ◌+◌, ◌<◌, ◌≤◌, List, [], ◌∷◌, ◌++◌, length, take, drop, refl, sym, ap, subst, ◌∙◌}
+use Rattle.std.proofs.Common.{◌≡◌, ℕ, ◌+◌, ◌<◌, ◌≤◌, List, ◌++◌, length, take, drop, sym, ap, subst, ◌∙◌}
 use Rattle.std.proofs.Common.{append_assoc, arith}
 use Rattle.std.proofs.lemmas.List.{drop-drop, length-append, length-drop, length-take, take-append-drop, take-append-le}
 use Rattle.std.proofs.lemmas.List.{take_at}
 use Rattle.rq_model.specs.Records.{Version}
-use Rattle.rq_model.specs.Frames.{HasHeader, HasRightFrame, before, digest, header, log_limit, start}
+use Rattle.rq_model.specs.Frames.{HasHeader, HasRightFrame, before, digest, header, log_limit}
 use Rattle.rq_model.specs.LogLaws.{LogEnds, OneVersion}
 use Rattle.rq_model.specs.States.{State, empty}
 use Rattle.rq_model.specs.StateSpelling.{SpellsState}
-use Rattle.rq_model.specs.Checkpoints.{IsCheckpointAt}
-use Rattle.rq_model.specs.Carrying.{HasCarriedHeader, IsNoLog, ReadsAsLog, as_log, carried_at, carried_header}
+use Rattle.rq_model.specs.Carrying.{HasCarriedHeader, ReadsAsLog, as_log, carried_at, carried_header}
 use Rattle.rq_model.specs.Carrying.{carried_magic}
 use Rattle.rq_model.proofs.Restarts.{header_long}
 use Rattle.rq_model.proofs.Runs.{length-sha256}
 use Rattle.rq_record.specs.declared.fault.Fault.{Fault}
 use Rattle.rq_record.specs.declared.fault.Fault.TheVariants as faults
 use Rattle.rq_record.specs.Views.{version_of}
-use Rattle.rq_front.specs.Chains.{IsCarried, IsHeaded, Refused}
+use Rattle.rq_front.specs.Chains.{Refused}
 use Rattle.rq_judged.specs.Checkpoints.{IsBegun}
 use Rattle.rq_judged.specs.declared.checkpoint.Begun.{Begun}
 use Rattle.rq_judged.specs.Refusals.{HasBadCheckpoint, HasNoCheckpoint, RefusedAt}
-use Rattle.rq_judged.specs.Windows.{Origin, RefusesPiece, log_origin}
+use Rattle.rq_judged.specs.Windows.{RefusesPiece, log_origin}
 use Rattle.rq_judged.proofs.Passes.{frame_more}
 use Rattle.rq_judged.proofs.Starts.{started}
 use Rattle.rq_follow.specs.declared.pass.MachinePass.{MachinePass}
-use Rattle.rq_follow.specs.Passes.{HasDoneAll, StandsInWindow, origin_at}
-use Rattle.rq_follow.specs.Followers.{IsCarriedAlong, IsLinked, IsPlain, IsReadSo, RefusesBytes, RefusesRead, carried_origin}
+use Rattle.rq_follow.specs.Passes.{HasDoneAll, origin_at}
+use Rattle.rq_follow.specs.Followers.{IsCarriedAlong, IsLinked, IsPlain, IsReadSo, RefusesBytes, carried_origin}
 
 pub carried_long : (version : Version) → length (carried_header version) ≡ 40
 carried_long version = omega (arith, length-sha256 (carried_magic version))

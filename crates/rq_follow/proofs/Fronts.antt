@@ -1,19 +1,17 @@
 -- The front of all bytes that came, as a restart finds it.
-use Rattle.std.proofs.Common.{◌≡◌, ℕ, ◌+◌, ◌-◌, ◌<◌, ◌≤◌, List, [], ◌∷◌, ◌++◌, length, take, drop, refl, sym, ap, subst, ◌∙◌}
+use Rattle.std.proofs.Common.{◌≡◌, ℕ, ◌+◌, ◌<◌, ◌≤◌, List, [], ◌∷◌, ◌++◌, length, take, drop, refl, sym, ap, subst, ◌∙◌}
 use Rattle.std.proofs.Common.{append_assoc, arith, inl, inr, true, false}
 use Rattle.std.specs.Prelude.{Result, Ok, Err, IfOk, IfErr}
 use Rattle.std.proofs.lemmas.List.{drop-drop, drop_at, length-append, length-drop, length-take, take_at}
 use Rattle.rq_model.specs.Records.{Record, Version, Checkpoint}
 use Rattle.rq_model.specs.Spelling.{body_of}
 use Rattle.rq_model.specs.Frames.{HasHeader, HasRightFrame, before, body_in, digest, frame, frames_of, header, last_of}
-use Rattle.rq_model.specs.Frames.{log_limit, log_of, start, stated}
+use Rattle.rq_model.specs.Frames.{log_of, start, stated}
 use Rattle.rq_model.specs.LogLaws.{FrontStops}
 use Rattle.rq_model.specs.States.{State, empty}
 use Rattle.rq_model.specs.Machine.{is_lawful, run}
 use Rattle.rq_model.specs.Fronts.{Begins, Ends, Form, IsFront, IsLongest, IsWhy, Law, Why}
-use Rattle.rq_model.specs.Checkpoints.{IsCheckpointAt}
 use Rattle.rq_model.specs.Carrying.{HasCarriedHeader, IsFrontAt, IsNoLog, ReadsAsLog, as_log, carried_at, carried_file}
-use Rattle.rq_model.specs.Carrying.{carried_header}
 use Rattle.rq_model.proofs.RecordReaders.{body_fits, one_record}
 use Rattle.rq_model.proofs.Restarts.{header_long}
 use Rattle.rq_model.proofs.Runs.{frame_reads, no_right}
@@ -32,7 +30,7 @@ use Rattle.rq_follow.specs.Followers.{IsCarriedAlong, IsLinked, IsPlain, RedoesB
 use Rattle.rq_follow.proofs.Beginnings.{carried_long, carried_total, plain_total, read_headed, read_size}
 
 -- so many bytes stand before what follows the front
-used_there : (o : Origin) (x : List ℕ) (rs : List Record) (rest : List ℕ) (f : MachinePass) (r : RedoneFront)
+pub used_there : (o : Origin) (x : List ℕ) (rs : List Record) (rest : List ℕ) (f : MachinePass) (r : RedoneFront)
     → StandsInWindow o x rs rest f → IsRedoneOf f r → r.end.used + length rest ≡ f.total
 used_there o x rs rest f r at of = omega (
   arith,
@@ -86,6 +84,10 @@ plain_redone stops b f r is of =
       last = subst (λ (v : Version). r.last ≡ last_of (start v) rs) (sym own) (of.last ∙ at.link);
       state = of.state ∙ at.machine;
     }
+
+pub standing_redone : FrontStops → (b : List ℕ) (f : MachinePass) (r : RedoneFront) → IsRedoneOf f r → IsPlain b f
+    → IsRedoneFront b r
+standing_redone stops b f r of is = plain_redone stops b f r is of
 
 -- Of a carried file: the first record is its checkpoint, since that is lawful in each state.
 ends_not : (version : Version) (s : State) (p bytes kept : List ℕ) (why : Why) → HasRightFrame p bytes
@@ -228,7 +230,7 @@ carried_within b f r is of =
 
 -- What is answered of all bytes.
 
-headed : (b : List ℕ) (f : MachinePass) (is : IsPlain b f) → HasHeader is.version b
+pub headed : (b : List ℕ) (f : MachinePass) (is : IsPlain b f) → HasHeader is.version b
 headed b f is = ap (take 40) is.whole ∙ take_at (header is.version) is.bytes 40 (header_long is.version)
 
 pub plain_answers : FrontStops → IsNoLog → (b : List ℕ) (f : MachinePass) (result : Result RedoneFront Fault) → IsPlain b f

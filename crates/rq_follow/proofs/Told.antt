@@ -1,9 +1,9 @@
 -- What is told of the bytes that came, and on what a manager goes on.
-use Rattle.std.proofs.Common.{◌≡◌, ◌⊎◌, ℕ, ◌+◌, ◌-◌, ◌<◌, ◌≤◌, List, [], ◌++◌, length, take, drop, refl, sym, ap, ◌∙◌}
+use Rattle.std.proofs.Common.{◌≡◌, ℕ, ◌+◌, ◌-◌, ◌<◌, ◌≤◌, List, ◌++◌, length, take, drop, refl, sym, ap, ◌∙◌}
 use Rattle.std.proofs.Common.{append_assoc, arith, inl, inr}
-use Rattle.std.specs.Prelude.{Ok, Err, Some, None}
+use Rattle.std.specs.Prelude.{Ok, Some, None}
 use Rattle.std.proofs.lemmas.List.{drop-drop, drop_at, length-append, length-take, take-append-drop}
-use Rattle.rq_model.specs.Records.{Record, Version}
+use Rattle.rq_model.specs.Records.{Record}
 use Rattle.rq_model.specs.Frames.{before, frames_of, header, log_limit, start}
 use Rattle.rq_model.specs.LogLaws.{FrontStops}
 use Rattle.rq_model.specs.Carrying.{IsNoLog, ReadsAsLog, carried_header}
@@ -113,7 +113,7 @@ module _ (f : MachinePass) where
       let counted = used_there o is.bytes rs rest f r at (done_there f e refl refl refl) in
       inl (
         r,
-        (plain_ends f e refl refl refl stops apart b is).1,
+        plain_answers stops apart b f (Ok r) is (done_there f e refl refl refl) tt,
         told_there o is.bytes rs rest f at
             ∙ ap (λ (z : List ℕ). r.last ++ z)
             (rest_is b (header is.version ++ fs) rest e.used whole (counted ∙ plain_total b f is)),
@@ -133,7 +133,7 @@ module _ (f : MachinePass) where
       let counted = used_there o is.bytes rs rest f r at (done_there f e refl refl refl) in
       inl (
         r,
-        (carried_ends f e refl refl refl stops reads b is).1,
+        carried_answers stops reads b f (Ok r) is (done_there f e refl refl refl) tt,
         told_there o is.bytes rs rest f at
             ∙ ap (λ (z : List ℕ). r.last ++ z)
             (rest_is b (head ++ (is.link ++ fs)) rest e.used whole (counted ∙ carried_total b f is)),

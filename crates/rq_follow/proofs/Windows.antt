@@ -1,10 +1,10 @@
 -- A window that is begun, made shorter, and added to.
-use Rattle.std.proofs.Common.{◌≡◌, ℕ, ◌+◌, ◌-◌, ◌<◌, ◌≤◌, List, [], ◌++◌, length, take, drop, refl, sym, ap, subst, ◌∙◌}
+use Rattle.std.proofs.Common.{◌≡◌, ℕ, ◌+◌, ◌-◌, ◌<◌, ◌≤◌, List, ◌++◌, length, take, drop, sym, ap, subst, ◌∙◌}
 use Rattle.std.proofs.Common.{append_assoc, arith}
 use Rattle.std.proofs.lemmas.List.{drop-append-le, drop_at, drop-drop, length-append, length-drop, length-take}
 use Rattle.std.proofs.lemmas.List.{take-append-le, take_at}
-use Rattle.rq_model.specs.Records.{Record, Version}
-use Rattle.rq_model.specs.Frames.{HasHeader, before, frames_of, last_of, log_limit}
+use Rattle.rq_model.specs.Records.{Record}
+use Rattle.rq_model.specs.Frames.{before, frames_of, log_limit}
 use Rattle.rq_model.specs.Fronts.{Why}
 use Rattle.rq_front.specs.Chains.{IsHeaded}
 use Rattle.rq_judged.specs.Windows.{Origin}

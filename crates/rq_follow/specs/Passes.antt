@@ -1,5 +1,5 @@
 -- A machine that goes along with the frames of a log, as their bytes come.
-use Rattle.std.specs.Prelude.{◌≡◌, ◌<◌, ◌≤◌, ◌+◌, ◌-◌, ⊤, ℕ, true, false, List, length, drop}
+use Rattle.std.specs.Prelude.{◌≡◌, ◌≤◌, ◌+◌, ◌-◌, ℕ, true, false, List, length, drop}
 use Rattle.rq_model.specs.Records.{Record, Version}
 use Rattle.rq_model.specs.Spelling.{Spells}
 use Rattle.rq_model.specs.Frames.{log_limit, HasHeader, before, last_of}

@@ -21,6 +21,9 @@ use std::alloc::Global;
 use std::marker::Sync;
 use std::thread::Threads;
 
+// So much room is never given back.
+const SPARE: usize = 1_048_576;
+
 /// A machine that goes along with the frames of a log, and a window of the log: a header, the 32 bytes
 /// before the next frame, and what came behind them.
 #[derive(Drop)]
@@ -87,6 +90,17 @@ fn do_one(
         },
         Err(Fault::Form) => Ok(Finding::NoRecord),
         Err(fault) => Err(fault),
+    }
+}
+
+// Gives back the room that a long frame took, once it is many times what the window needs with so many
+// bytes more.
+fn make_smaller(window: &mut Vec<u8>, more: usize)
+    ensures { window.new.items ≡ window.old.items }
+{
+    let needed = window.len().saturating_add(more);
+    if window.capacity() > SPARE && window.capacity() / 4 > needed {
+        window.shrink_to_fit();
     }
 }
 
@@ -193,6 +207,7 @@ impl MachinePass {
         if more.len() > LOG_LIMIT.saturating_sub(self.total) {
             return Err(Fault::TooLong);
         }
+        make_smaller(&mut self.window, more.len());
         self.window.extend_from_slice(more)?;
         self.total += more.len();
         self.do_all(rt, alloc, grain)

@@ -1,4 +1,4 @@
-use Rattle.std.proofs.Common.{◌≡◌, ℕ, List, length, subst, arith}
+use Rattle.std.proofs.Common.{subst, arith}
 use Rattle.rq_follow.specs.Followers.{IsSoFar}
 use Rattle.rq_follow.proofs.Beginnings.{carried_total, plain_total, read_size}
 use Rattle.rq_follow.proofs.follower.Follower.bytes_come.Goals as goal

@@ -1,4 +1,4 @@
-use Rattle.std.proofs.Common.{◌≡◌, ℕ, ◌≤◌, List, length, ap, subst, sym, arith}
+use Rattle.std.proofs.Common.{ℕ, ◌≤◌, List, length, ap, subst, sym, arith}
 use Rattle.rq_front.specs.declared.spans.Span.{Span}
 use Rattle.rq_front.specs.Chains.{rest_of}
 use Rattle.rq_judged.specs.Windows.{AreFramed}

@@ -1,4 +1,4 @@
-use Rattle.std.proofs.Common.{◌≤◌, ◌+◌, ◌++◌, ℕ, List, length, arith, refl}
+use Rattle.std.proofs.Common.{◌≤◌, ◌+◌, ◌++◌, ℕ, List, length, ap, ◌∙◌, arith, refl}
 use Rattle.std.proofs.lemmas.Result.{on_ok_weaker}
 use Rattle.rq_model.specs.Frames.{log_limit}
 use Rattle.rq_judged.specs.Views.{why_of}
@@ -22,7 +22,8 @@ more_passed g c o x h =
     omega (arith, short, c.if-more-saturating_sub.false, c.saturating_sub.ensures) in
     added o x c.args.more.now f
     (record f { total = f.total + length c.args.more.now; window = c.extend_from_slice.new.self })
-    (f.total + length c.args.more.now) refl fits refl c.in_ok-extend_from_slice.ensures.items there
+    (f.total + length c.args.more.now) refl fits refl
+    (c.in_ok-extend_from_slice.ensures.items ∙ ap (λ (z : List ℕ). z ++ c.args.more.now) c.make_smaller.ensures) there
 
 pub do_all-requires-clause-passed : goal.do_all-requires-clause-passed
 do_all-requires-clause-passed g c κs within =
