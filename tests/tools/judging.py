@@ -8,7 +8,7 @@ from trying import TOP, check
 
 sys.path.insert(0, os.path.join(TOP, "tools"))
 from wrong.checks import Verdict, judged, read  # noqa: E402
-from wrong.edits import Batch, Edit, Texts, applied, batches_of  # noqa: E402
+from wrong.edits import Batch, Calls, Edit, Texts, applied, batches_of  # noqa: E402
 from wrong.readings import Readings, crates_of, not_taken  # noqa: E402
 import wrong_bodies  # noqa: E402
 
@@ -37,6 +37,14 @@ COPIES += "fn high::sum_beside_1: {}\nonly=2 proved=1\n"
 CODE = HIGH["src/lib.rt"].replace("pub fn sum", "#[tactic(auto)]\npub fn sum") + """
 fn again(n: u8) -> u8 {
     again(n)
+}
+
+fn below(n: u8) -> u8 {
+    n + 3
+}
+
+fn above(n: u8) -> u8 {
+    below(n)
 }
 
 impl More for Low {
@@ -87,7 +95,7 @@ def parts() -> None:
 
 
 def verdict_on(edit: Edit, said: str) -> Verdict:
-    batch = Batch(HIGH)
+    batch = Batch(HIGH, Calls(HIGH))
     check(f"a batch takes {edit.name}", batch.takes(edit), True)
     return judged(read(said), batch)[edit]
 
@@ -141,6 +149,11 @@ def rivals() -> None:
         check(f"two wrong bodies of {what}", [len(it.edits) for it in found], [2 // count] * count)
         left = [found[0].texts["src/lib.rt"].count(it) for it in (old, new, other)]
         check(f"what stands in the first check of {what}", left, [1, 1, 1] if is_one else [0, 1, 0])
+    # (no function is proved that calls one that is not)
+    above = edit("above", "    below(n)\n", "    below(0)\n")._replace(right=(("src/lib.rt", "    below(n)\n", "    below(n + 0)\n"),))
+    below = edit("below", "    n + 3\n", "    n + 4\n")
+    found = batches_of([below, above, *above.twin()], OWN)
+    check("a wrong body of what a copy calls", [found[0].texts["src/lib.rt"].count(it) for it in ("    n + 3\n", "    n + 4\n")], [2, 1])
 
 
 def changed(texts: Dict[str, Texts], crate: str, path: str, old: str, new: str) -> bool:

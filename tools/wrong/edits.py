@@ -216,16 +216,22 @@ def copied(texts: Texts, text: str, function: Function, name: str) -> Texts:
 class Batch:
     """Wrong bodies of one crate, and twins, for one check. Each stands in the function that it changes, which no other does, or in a copy
     of that beside it. Then a copy has to be proved, since nothing else shows that a copy is checked as the function would be: that with
-    the twin, or one of the function as it stands."""
+    the twin, or one of the function as it stands. What it calls has to be right: no function is proved that calls one that is not."""
 
-    def __init__(self, texts: Texts):
+    def __init__(self, texts: Texts, calls: "Calls"):
         self.before = self.texts = texts
+        # Which function calls which, and what the copies call.
+        self.calls, self.called = calls, frozenset()  # type: Calls, FrozenSet[Function]
         self.edits: List[Edit] = []
         self.changed: Dict[Edit, FrozenSet[Function]] = {}
         # Of each copy the name that it had; of each edit in one the copy that has to be proved.
         self.named: Dict[str, str] = {}
         self.sound: Dict[Edit, Function] = {}
         self.is_full = False
+
+    def in_place(self) -> List[Edit]:
+        """The edits that stand in the functions that they change."""
+        return [it for it in self.edits if it not in self.sound]
 
     def takes(self, edit: Edit) -> bool:
         """Takes the edit in its function, unless another one changes that, or meets its text. One that reaches beyond the functions
@@ -234,8 +240,9 @@ class Batch:
             made = applied(edit, self.texts)
         except ValueError:
             return False
-        others = [it for it in self.edits if it not in self.sound]
-        if self.is_full or self.edits and made.reaches_out or any(made.changed & self.changed[it] or it.is_twin != edit.is_twin for it in others):
+        others = self.in_place()
+        is_apart = not any(made.changed & self.changed[it] or it.is_twin != edit.is_twin for it in others) and not made.changed & self.called
+        if self.is_full or self.edits and made.reaches_out or not is_apart:
             return False
         self.texts, self.changed[edit] = made.texts, made.changed
         self.edits.append(edit)
@@ -247,7 +254,9 @@ class Batch:
         both = [edit, *([twin] if twin else [])]
         made = [applied(it, self.before) for it in both]
         functions = frozenset(it for one in made for it in one.changed)
-        if self.is_full or len(functions) > 1 or any(it.reaches_out for it in made):
+        called = self.calls.below(functions) - functions
+        is_apart = not any(self.changed[it] & called for it in self.in_place())
+        if self.is_full or len(functions) > 1 or any(it.reaches_out for it in made) or not is_apart:
             return False
         (function,), texts, names = functions, self.texts, []
         for one in [*(it.texts for it in made), *([] if twin else [self.before])]:
@@ -256,7 +265,7 @@ class Batch:
                 texts = copied(texts, one[function.path], function, names[-1])
             except ValueError:
                 return False
-        self.texts, self.edits = texts, self.edits + both
+        self.texts, self.edits, self.called = texts, self.edits + both, self.called | called
         self.named.update(dict.fromkeys(names, function.name))
         self.changed.update({it: frozenset([function._replace(name=name)]) for it, name in zip(both, names)})
         self.sound.update(dict.fromkeys(both, function._replace(name=names[-1])))
@@ -282,10 +291,11 @@ def batches_of(edits: List[Edit], texts: Texts) -> List[Batch]:
     rivals = {it: sum(1 for other in edits if functions[other] & functions[it]) for it in edits}
     twins = {it.label(): it for it in edits if it.is_twin}
     made: List[Batch] = []
+    calls = Calls(texts)
 
     def has_place(takes: Callable[[Batch], bool], may_be_new: bool = True) -> bool:
         """Whether a batch takes it, or a new one."""
-        new = Batch(texts)
+        new = Batch(texts, calls)
         if any(map(takes, made)):
             return True
         made.extend([new] if may_be_new and takes(new) else [])
@@ -329,7 +339,8 @@ class Calls:
 def few_of(edits: List[Edit], texts: Texts, most: int, wide: int) -> Batch:
     """Of these edits the first, and as many others as one check takes with it: `most` in all, and so that it proves no more than
     `wide` functions, or those that the first needs."""
-    made, calls = Batch(texts), Calls(texts)
+    calls = Calls(texts)
+    made = Batch(texts, calls)
     below: FrozenSet[Function] = frozenset()
     for edit in edits:
         more = below | calls.below(applied(edit, texts).changed)
