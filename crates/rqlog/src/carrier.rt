@@ -1,5 +1,6 @@
 //! A log that is served goes on in new files, and the operator is told on standard error.
 
+use crate::recovery::why_spent;
 use crate::refusal::{Refusal, Stream, failed};
 use rq_device::{Successor, Unmade};
 use rq_file::NotNamed;
@@ -48,10 +49,14 @@ impl<'a, R: Files<File = File> + AllocGlobal> Carrier<'a, R> {
 }
 
 impl<'a, R> Carrier<'a, R> {
-    /// Why it is not known which file is the log; none if it is.
-    pub(crate) fn into_fault(self) -> Option<io::Error> {
+    /// Why a manager is spent over the file in which it goes on, or of which it is not known whether it is
+    /// the log.
+    pub(crate) fn why_spent(self, file: &LogFile<HeldLog>) -> Refusal {
         let Carrier { error, .. } = self;
-        error
+        match error {
+            Some(error) => failed(Stream::Log, error),
+            None => why_spent(file, Stream::Log),
+        }
     }
 }
 

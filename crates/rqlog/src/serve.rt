@@ -2,6 +2,7 @@
 
 ghost use Rattle.std.specs.Prelude.{◌≡◌, IfOk, None, length};
 ghost use Rattle.rq_live.specs.Kernels.{StandsWithin};
+ghost use Rattle.rq_live.specs.Managers.{IsInOrder, stand_of};
 
 use crate::carrier::Carrier;
 use crate::damage::BadEnd;
@@ -9,7 +10,7 @@ use crate::inputs::bytes_from;
 use crate::new_log::{expect_free, put_new};
 use crate::recovery::{kept_cut, why_spent};
 use crate::refusal::{Refusal, Stream, failed};
-use rq_device::WINDOW;
+use rq_device::{Device, Successor, WINDOW};
 use rq_file::Patient;
 use rq_front::{CARRIED_AT, FRAME_LEN, HEADER_LEN, header_of, is_carried};
 use rq_journal::{Damage, Fault, Plan, Why};
@@ -18,7 +19,7 @@ use rq_live::{Kernel, Manager, NotDone};
 use rq_log_file::{HeldLog, Hold, LogFile};
 use rq_record::Version;
 use rq_reopen::{NotOpened, Opening};
-use rq_serve::{CarryPoint, Unserved, serve};
+use rq_serve::{CarryPoint, Operator, Unserved, serve};
 use rq_tool::{OverRead, OverWrite};
 use std::fs::{File, Files};
 use std::io;
@@ -71,7 +72,7 @@ pub(crate) fn is_left_by_crash(damage: Option<Damage>, behind: usize) -> bool {
 fn opened<R>(rt: &R, bytes: &mut [u8], plan: &Plan) -> Result<Opening, Refusal>
 where
     R: AllocGlobal + Threads + Sync,
-    ensures { IfOk result (λ o. StandsWithin o.found.kernel (length bytes.new)) }
+    ensures { IfOk result (λ o. StandsWithin o.found.kernel (length bytes.old)) }
 {
     let total = bytes.len();
     match Opening::of_file(rt, rt.alloc(), bytes, plan, true) {
@@ -145,36 +146,30 @@ fn stopped(stream: Stream, error: Option<io::Error>) -> Refusal {
     }
 }
 
-// Does what lines ask for until the input ends, or one closes.
-fn serve_lines<R>(
+// Does what the lines of standard input ask for until that ends, or one closes, and answers them. Refused
+// with nothing if the manager is spent.
+fn serve_lines<R, D, S>(
     rt: &R,
-    manager: &mut Manager<LogFile<HeldLog>>,
-    mut carrier: Carrier<'_, R>,
+    manager: &mut Manager<D>,
+    next: &mut S,
     point: CarryPoint,
-) -> Result<(), Refusal>
+) -> Result<(), Option<Refusal>>
 where
-    R: Files<File = File> + Input + Print + Eprint + Clock + AllocGlobal,
+    R: Input + Print + Clock + AllocGlobal,
+    D: Device + Drop,
+    S: Successor<D> + Operator,
+    requires { IsInOrder (stand_of D.written D.synced D.doubted D.failed manager.old) }
 {
     let mut input = OverRead::new(rt.reader());
     let mut output = OverWrite::new(Patient {
         rt,
         inner: io::writer(rt),
     });
-    match serve(
-        rt.alloc(),
-        manager,
-        &mut carrier,
-        point,
-        &mut input,
-        &mut output,
-    ) {
+    match serve(rt.alloc(), manager, next, point, &mut input, &mut output) {
         Ok(()) => Ok(()),
-        Err(Unserved::Spent) => match carrier.into_fault() {
-            Some(error) => Err(failed(Stream::Log, error)),
-            None => Err(why_spent(manager.device(), Stream::Log)),
-        },
-        Err(Unserved::Unread) => Err(stopped(Stream::Input, input.into_error())),
-        Err(Unserved::Unheard) => Err(stopped(Stream::Output, output.into_error())),
+        Err(Unserved::Spent) => Err(None),
+        Err(Unserved::Unread) => Err(Some(stopped(Stream::Input, input.into_error()))),
+        Err(Unserved::Unheard) => Err(Some(stopped(Stream::Output, output.into_error()))),
     }
 }
 
@@ -194,7 +189,7 @@ where
     requires works { file.error ≡ None }
     requires within { StandsWithin kernel stands }
 {
-    let carrier = Carrier::new(rt, path, file.file())?;
+    let mut carrier = Carrier::new(rt, path, file.file())?;
     let mut manager = Manager::over(file, kernel);
     match manager.record_count() {
         Ok(records) => carrier.keep_name(manager.device().file(), records)?,
@@ -206,7 +201,11 @@ where
         Err(_) => return Err(why_spent(manager.device(), Stream::Log)),
     }
     greet(rt, &manager, greeting)?;
-    serve_lines(rt, &mut manager, carrier, point)
+    match serve_lines(rt, &mut manager, &mut carrier, point) {
+        Ok(()) => Ok(()),
+        Err(Some(refusal)) => Err(refusal),
+        Err(None) => Err(carrier.why_spent(manager.device())),
+    }
 }
 
 /// Serves the queues of a log, plain or carried on, to the program at standard input and output. A log
