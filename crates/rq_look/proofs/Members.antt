@@ -14,7 +14,7 @@ use Rattle.rq_judged.specs.Views.{why_of}
 use Rattle.rq_found.specs.declared.ends.End.{End}
 use Rattle.rq_look.specs.Objects.{value_shown, level_shown, as_members, members_shown, member_of, text_in}
 use Rattle.rq_look.specs.Objects.{closing_members, end_members}
-use Rattle.rq_look.specs.declared.objects.Shown.{Shown, Group, Made, the_lemmas}
+use Rattle.rq_look.specs.declared.objects.Shown.{Shown, Group, Made, Word, the_lemmas}
 use Rattle.rq_look.specs.declared.objects.Shown.TheOpen.{Shown-F}
 use Rattle.rq_look.specs.declared.objects.Shown.TheFolds.{fold-roll-Shown, ind-Shown, map-Shown}
 
@@ -31,6 +31,10 @@ both_shown (m ∷ ms) = ap (λ xs. (m.0.now, value_shown m.1) ∷ xs) (both_show
 -- a text that was made
 pub made_shown : (text : String Global) → value_shown (Made text) ≡ string (string_bytes text)
 made_shown text = search (rules, the_lemmas)
+
+-- a word
+pub word_shown : (text : Bor (List ℕ)) → value_shown (Word text) ≡ string text.now
+word_shown text = search (rules, the_lemmas)
 
 -- an object by its members
 pub group_shown : (v : Vec (Bor (List ℕ) × Shown) Global) → value_shown (Group v) ≡ object (as_members (members_shown v.items))

@@ -107,7 +107,6 @@ pub(crate) fn put_word<'a>(members: &mut Members<'a>, name: &'a str, word: Optio
 }
 
 // Puts the text that bytes spell, if they spell one.
-#[tactic(auto, using(crate::proofs::Members::text_is, crate::proofs::Members::no_text_is))]
 fn put_text<'a>(members: &mut Members<'a>, bytes: &'a [u8]) -> Put
     ensures { OnOk result (members_shown members.new.items
         ≡ members_shown members.old.items ++ known (codes "text") (text_in bytes.now)) }

@@ -6,5 +6,5 @@ use Rattle.rq_look.proofs.objects.digits_shown.Goals as goal
 
 pub returns : goal.returns
 returns c =
-    made_shown c.in_ok-made.field-0
+    made_shown c.in_ok-made.made
     ∙ ap string (c.in_ok-made.ensures ∙ digits_are c.args.bytes.now (λ i. c.type_inv.bytes i))
