@@ -8,8 +8,8 @@ use Rattle.rq_look.proofs.objects.put_text.Goals as goal
 pub returns-in-Ok : goal.returns-in-Ok
 returns-in-Ok c =
     let shown : text_in c.args.bytes.now ≡ Some (string c.in-Ok.text.now) =
-        text_is c.args.bytes.now c.in-Ok.ensures.cases.1
-        ∙ ap (λ (text : List ℕ). Some (string text)) (sym c.in-Ok.ensures.cases.0) in
+    text_is c.args.bytes.now c.in-Ok.ensures.cases.1
+    ∙ ap (λ (text : List ℕ). Some (string text)) (sym c.in-Ok.ensures.cases.0) in
     rw shown (subst (λ (v : Data). OnOk c.put_value.result (members_shown c.put_value.new.members.items
     ≡ members_shown c.args.members.now.items ++ with_name (codes "text") v)) (word_shown c.in-Ok.text) c.put_value.ensures)
 
