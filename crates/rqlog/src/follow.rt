@@ -195,14 +195,16 @@ fn found_in(alloc: Global, follower: Follower) -> Result<FoundLog, Refusal>
     ensures { IfOk result (λ l. StandsWithin l.kernel l.end.used) }
 {
     match follower.into_standing() {
-        Ok(
-            Standing {
+        Ok(standing) => {
+            let last = standing.last;
+            let Standing {
                 version,
                 machine,
-                last,
                 end,
-            },
-        ) => Ok(FoundLog::of_machine(alloc, version, machine, last, end)),
+                ..
+            } = standing;
+            Ok(FoundLog::of_machine(alloc, version, machine, last, end))
+        }
         Err(fault) => Err(of_source(fault)),
     }
 }
