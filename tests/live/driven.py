@@ -15,13 +15,13 @@ from typing import NamedTuple
 import frames as records
 from frames import HEADER, header_of, listed
 from second import DRAWN, Machine, Note, Restart, record_of
-from trying import TOP, check, drawn, put
+from trying import TOP, check, put
 
 # So many lines a sequence has before crashes.
 LENGTH = 40
 # How often other lines are drawn than those of second.py, which has the kinds of records.
 OTHERS = {"take": 3, "later": 6, "settle": 3, "queues": 1, "units": 3, "first": 6, "last": 4, "logged": 3}
-# So many crashes are tried, but of one sequence of so many a crash at each length, and of fewer if these are drawn; and so long is the garbage
+# So many crashes are tried, but of one sequence of so many a crash at each length; and so long is the garbage
 # that one may leave.
 CRASHES, EACH, GARBAGE = 6, 100, 200
 # Behind answers of so many bytes it begins anew, or another run does: a run may not print more than a MiB. It may take so many seconds. So
@@ -412,7 +412,6 @@ def takes(line: argparse.ArgumentParser) -> None:
     line.add_argument("--sequences", type=int, default=400)
     line.add_argument("--from", dest="first", type=int, default=0, help="the number of the first sequence")
     line.add_argument("--drive", default="", help="a built program rqdrive")
-    line.add_argument("--draw", type=int, help="crashes at each length are tried of so many sequences, drawn by the sum of the clone's files")
 
 
 def main(options: argparse.Namespace) -> None:
@@ -421,7 +420,6 @@ def main(options: argparse.Namespace) -> None:
         os.makedirs(it)
     numbers = range(options.first, options.first + options.sequences)
     each = [it for it in numbers if it % EACH == 0]
-    each = each if options.draw is None else drawn(each, options.draw)
     tasks = ((options.folder, numbers[at:at + SOME], each) for at in range(0, len(numbers), SOME))
     with multiprocessing.Pool(len(os.sched_getaffinity(0))) as pool:
         for wrong in pool.imap_unordered(drive, tasks):
