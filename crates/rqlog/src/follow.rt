@@ -135,6 +135,32 @@ impl Standby {
         }
         Ok(())
     }
+
+    // Goes along with all that comes from standard input, or from a file or a pipe that is named.
+    fn go_along_from<R>(&mut self, rt: &R, from: &str, plan: &Plan) -> Result<(), Refusal>
+    where
+        R: Files<File = File> + Input + AllocGlobal + Threads + Sync,
+        requires { (b : List ℕ) × IsFollowing b self.old.follower }
+        ensures { OnOk result ((b : List ℕ) × IsFollowing b self.new.follower) }
+    {
+        if from == "-" {
+            return self.go_along(rt, &mut rt.reader(), plan);
+        }
+        let mut file = opened(rt, from, Stream::Source)?;
+        self.go_along(rt, &mut file, plan)
+    }
+}
+
+// The copy of a path; none of `-`.
+fn copy_at<R>(rt: &R, path: &str) -> Result<Option<LogCopy>, Refusal>
+where
+    R: Files<File = File> + AllocGlobal,
+{
+    if path == "-" {
+        return Ok(None);
+    }
+    let copy = LogCopy::open(rt, path)?;
+    Ok(Some(copy))
 }
 
 // Prints the report of what came.
@@ -270,18 +296,12 @@ where
         return Err(Refusal::NoCopy);
     }
     let from = words.get_str("from").unwrap_or("-");
+    let copy = copy_at(rt, path)?;
     let mut standby = Standby {
         follower: Follower::new(rt.alloc()),
-        copy: None,
+        copy,
         serves,
     };
-    if keeps {
-        standby.copy = Some(LogCopy::open(rt, path)?);
-    }
-    if from == "-" {
-        standby.go_along(rt, &mut rt.reader(), plan)?;
-    } else {
-        standby.go_along(rt, &mut opened(rt, from, Stream::Source)?, plan)?;
-    }
+    standby.go_along_from(rt, from, plan)?;
     finish(rt, path, standby, plan)
 }
