@@ -3,6 +3,7 @@
 #![tactic(auto)]
 
 ghost use Rattle.rq_model.specs.LogLaws.{BodySpellsOne, RecordHasOneBody, BytesSpellOneState};
+ghost use Rattle.rq_model.specs.LogLaws.{LogStateIsCounted, ShortIsCounted};
 ghost use Rattle.rq_model.specs.LogLaws.{RunsFit, FrameIsRight, RightIsFrame, RunStops, OneRun};
 ghost use Rattle.rq_model.specs.LogLaws.{OneRest, OneFrameRun, RunGivesFront, FramesJoin, LogJoins};
 ghost use Rattle.rq_model.specs.LogLaws.{LogEnds, FrontStops, OneLongest, OneWhy, OneFront};
@@ -49,14 +50,16 @@ ghost use Rattle.rq_model.specs.Appending.{WrittenStays, CheckpointIsTrue, Check
 ghost use Rattle.rq_model.specs.Appending.{FrontGrows, FrontStays, AlongIsFront, WindowGoesOn};
 ghost use Rattle.rq_model.specs.Carrying.{TrueHasFront, CrashWhileCarriedGrows, MovesOn, IsNoLog};
 ghost use Rattle.rq_model.specs.Carrying.{LaterSaysTheSame, FilesJoin, StartsAnew, FrontGoesOn};
-ghost use Rattle.rq_model.specs.Carrying.{AnewJoins, ReadsAsLog};
+ghost use Rattle.rq_model.specs.Carrying.{AnewJoins, ReadsAsLog, GreaterIsWider};
 
 /// A body spells at most one record, a record has one body, and the bytes of a state spell no other
-/// state.
+/// state. The counts of a state have their widths if a log spells it, or its spelling is short.
 pub fn one_spelling()
     ensures record { BodySpellsOne }
     ensures body { RecordHasOneBody }
     ensures state { BytesSpellOneState }
+    ensures counted { LogStateIsCounted }
+    ensures short { ShortIsCounted }
 {}
 
 /// If a length is in range and the digest is right, the frame of the body is there, and no other.
@@ -230,10 +233,12 @@ pub fn followed_logs()
 {}
 
 /// A true checkpoint has a front of its own. If a log is read from a checkpoint on, a crash while
-/// records are appended loses none whose frame is whole, and invents none.
+/// records are appended loses none whose frame is whole, and invents none. What is read where record
+/// numbers have a bound is read so where they have a greater one.
 pub fn carried_logs()
     ensures front { TrueHasFront }
     ensures crash { CrashWhileCarriedGrows }
+    ensures wider { GreaterIsWider }
 {}
 
 /// No carried file begins as a log, so there is no restart of it. It is read as one: with the header
