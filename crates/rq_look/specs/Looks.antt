@@ -4,7 +4,7 @@ use Rattle.std.specs.Prelude.{Option, Some, None}
 use Rattle.std.specs.Io.KnownBytes.{Appends}
 use Rattle.rq_model.specs.Fronts.{Restarted}
 use Rattle.rq_model.specs.Reports.{IsReport}
-use Rattle.rq_model.specs.Checkpoints.{IsReportAt}
+use Rattle.rq_model.specs.Carrying.{IsCarriedReport}
 use Rattle.rq_report.specs.Pieces.{AreLinesOf}
 use Rattle.rq_front.specs.Chains.{IsLog}
 use Rattle.rq_found.specs.Ends.{IsRestartFrom, beginning_text, end_line}
@@ -84,10 +84,11 @@ abbrev pub StaysUnreported : Option ℕ → List ℕ → Option ℕ → Option (
 StaysUnreported at b wanted old new e = (HasWanted at b wanted × BreaksReport old new e)
     ⊎ (LacksReport at b wanted e × (new ≡ old))
 
--- the text is the report of b, or that from the checkpoint at an offset
+-- the text is the report of b, or that of a carried file that is read as b, from the checkpoint at an
+-- offset
 abbrev pub IsReportFrom : Option ℕ → List ℕ → List ℕ → Type 0
 IsReportFrom None b text = IsReport b text
-IsReportFrom (Some at) b text = IsReportAt b at text
+IsReportFrom (Some at) b text = IsCarriedReport b at text
 
 -- the report of b is appended, behind the line that says where b begins
 abbrev pub PutsReport : Option ℕ → List ℕ → Option (List ℕ) → Option (List ℕ) → Type 0

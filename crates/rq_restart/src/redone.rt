@@ -83,10 +83,11 @@ impl RedoneFront {
         state_behind(rt, alloc, from, bytes, plan)
     }
 
-    /// The state after the front of a log from the checkpoint at an offset on, before any abort, and
-    /// where and why the front ends: it begins in the state that the checkpoint spells.
+    /// The state after the front of a carried file that is read as a log, from the checkpoint at an
+    /// offset on, before any abort, and where and why the front ends: it begins in the state that the
+    /// checkpoint spells.
     ///
-    /// Refused as `restart_at` is.
+    /// Refused as `restart_carried` is.
     pub fn redone_at<R: Threads + Sync>(
         rt: &R,
         alloc: Global,
@@ -96,7 +97,8 @@ impl RedoneFront {
     ) -> Result<RedoneFront, Fault>
         ensures { RedoesFrontAt bytes.now offset result }
     {
-        let from = front_from(rt, alloc, bytes, offset, plan)?;
+        let most = State::CARRIED_RECORDS;
+        let from = front_from(rt, alloc, bytes, offset, most, plan)?;
         state_behind(rt, alloc, from, bytes, plan)
     }
 }

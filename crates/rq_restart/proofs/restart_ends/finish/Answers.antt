@@ -10,7 +10,7 @@ use Rattle.rq_catalog.proofs.Runs.{front_whole}
 use Rattle.rq_catalog.proofs.Fronts.{analysis_is_wider, lawful_in_two}
 use Rattle.rq_exchange.specs.Courses.{StartsByLast}
 use Rattle.rq_judged.specs.Views.{why_of}
-use Rattle.rq_restart.proofs.Closings.{AreClosed, closed, answered}
+use Rattle.rq_restart.proofs.Closings.{AreClosed, closed, answered, few_open}
 use Rattle.rq_restart.proofs.restart_ends.finish.Goals as goal
 use Rattle.rq_restart.proofs.restart_ends.finish.Goals.{After-deref, In_ok-append_aborts}
 
@@ -42,23 +42,34 @@ closed_in_two : (g : _) (c : After-deref g) → all_lawful model.Two c.args.from
 closed_in_two g c = lawful_in_two c.versions.ensures.two (version_of c.args.from.version) c.args.from.state (all g c)
     (are_closed g c).lawful
 
--- there are no more open units than records
+-- each unit that is open was open before the records, or one of them began it
 few : (g : _) (c : After-deref g)
-    → length (open_in c.args.from.front.analysis) ≤ c.args.from.state.next + length c.args.from.front.records.items
+    → length (open_in c.args.from.front.analysis)
+    ≤ length c.args.from.state.units + length c.args.from.front.records.items
 few g c =
     let version = version_of c.args.from.version in
     let s = c.args.from.state in
     omega (
       arith,
-      (c.runs_are_well_formed.ensures.runs version s (before g c) c.requires.front.2.well (lawful g c)).counts,
-      (c.numbers_after.ensures version s (before g c) c.requires.front.2.well (lawful g c)).next,
+      few_open version c.numbers_after.ensures s (before g c) c.requires.front.2.well (lawful g c),
       ap length (are_open g c),
       length-map c.args.from.front.records.items record_of,
     )
 
 pub closing_agenda-requires-clause-fits : goal.closing_agenda-requires-clause-fits
 closing_agenda-requires-clause-fits g c =
-    omega (arith, few g c, c.requires.front.2.next, ap length c.deref.ensures.value, c.deref.type_inv.1)
+    let is = c.requires.front.2 in
+    omega (
+      arith,
+      few g c,
+      is.next,
+      is.units,
+      is.short,
+      is.front.few,
+      is.front.within,
+      length-map c.args.from.front.records.items record_of,
+      ap length c.deref.ensures.value,
+    )
 
 pub closing_agenda-requires-clause-lawful : goal.closing_agenda-requires-clause-lawful
 closing_agenda-requires-clause-lawful g c =

@@ -1,14 +1,17 @@
-use Rattle.std.proofs.Common.{ap, sym, ◌∙◌}
+use Rattle.std.proofs.Common.{ap, arith, sym, ◌≤◌, ◌∙◌}
 use Rattle.std.proofs.lemmas.Bool.{and_parts, leb-true}
 use Rattle.rq_state.specs.Comparing.{left_after}
 use Rattle.rq_standing.specs.Spelled.{head_of}
 use Rattle.rq_standing.proofs.Spellings.{not_spelled, is_spelled}
 use Rattle.rq_standing.proofs.queues.Queues.is_spelled_by.Goals as goal
 
-pub compare_lists-requires-clause-next : goal.compare_lists-requires-clause-next
-compare_lists-requires-clause-next c =
-    leb-true _ _ (and_parts _ _ (sym (c.may_follow.ensures c.requires.holds.0 c.requires.holds.1)
-    ∙ c.if-not-may_follow.false)).0
+pub compare_lists-requires : goal.compare_lists-requires
+compare_lists-requires c =
+    let t = c.requires.holds.0 in
+    let holds = c.requires.holds.1 in
+    let may = and_parts _ _ (sym (c.may_follow.ensures t holds) ∙ c.if-not-may_follow.false) in
+    let fits = leb-true _ _ (and_parts _ _ may.1).1 in
+    record { few = (t, holds, omega (arith, fits, c.requires.short)) }
 
 pub returns-then-not-may_follow-clause-truth : goal.returns-then-not-may_follow-clause-truth
 returns-then-not-may_follow-clause-truth c = λ t holds.
