@@ -85,7 +85,7 @@ fn tell_carried<R: Print>(rt: &R, json: bool, next: u64, bytes: u64) -> io::Resu
 // Says how many records may still be numbered, if a log that is carried on could need more before
 // it is full.
 fn warn_of_end<R: Eprint>(rt: &R, next: u64) {
-    let left = State::RECORDS.saturating_sub(next);
+    let left = State::CARRIED_RECORDS.saturating_sub(next);
     if left < OF_FULL_LOG {
         let _ = eprintln!(rt;
             "rqlog: {left} records more, and numbers end: begin a new log before"
@@ -155,7 +155,7 @@ where
 {
     let (is_carried, from) = begun_log(rt, opened(rt, path)?)?;
     let work = if is_carried {
-        Work::ReportAt(CARRIED_AT as u64)
+        Work::CarriedReport(CARRIED_AT as u64)
     } else {
         Work::Report
     };

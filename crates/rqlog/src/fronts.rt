@@ -50,9 +50,9 @@ impl OpenLog {
         Ok(())
     }
 
-    /// Whether a state behind one record more can be spelled: it numbers 4,294,967,295 at most.
+    /// Whether a state behind one record more can be spelled: it numbers 9,223,372,036,854,775,807 at most.
     pub(crate) fn has_number(&self) -> bool {
-        self.next < State::RECORDS
+        self.next < State::CARRIED_RECORDS
     }
 }
 

@@ -215,7 +215,7 @@ impl Refusal {
             Refusal::Changed => "it changed meanwhile: try again",
             Refusal::KeptOther(_) => "other bytes stand there: move it away",
             Refusal::Full => "log is full: carry it on",
-            Refusal::Ended => "numbers end at 4294967295: begin a new log",
+            Refusal::Ended => "numbers end at 9223372036854775807: begin a new log",
             _ => "resources",
         }
     }
