@@ -179,15 +179,7 @@ pub fn restart_own_carried<R: Threads + Sync, G: Gate + Sync>(
 ) -> Result<Restarted, Fault>
     ensures { RestartsCarried bytes.items offset result }
 {
-    restart_own_up_to(
-        rt,
-        alloc,
-        bytes,
-        offset,
-        State::CARRIED_RECORDS,
-        plan,
-        gate,
-    )
+    restart_own_up_to(rt, alloc, bytes, offset, State::CARRIED_RECORDS, plan, gate)
 }
 
 /// The restart from a checkpoint of a log whose bytes may be shared, in a state whose next record

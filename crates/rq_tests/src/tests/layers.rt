@@ -9,5 +9,6 @@ mod courses;
 mod ends;
 mod framers;
 mod machine;
+mod numbers;
 mod plain;
 mod rooms;
