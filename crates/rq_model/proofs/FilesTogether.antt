@@ -10,14 +10,14 @@ use Rattle.rq_model.specs.Spelling.{body_of}
 use Rattle.rq_model.specs.States.{State, empty}
 use Rattle.rq_model.specs.Machine.{run, aborts, final}
 use Rattle.rq_model.specs.StateSpelling.{SpellsCarried, carried_next, state_bytes}
-use Rattle.rq_model.specs.Fronts.{Begins, Ends, Restarted}
+use Rattle.rq_model.specs.Fronts.{Begins, Ends, Restarted, restarted}
 use Rattle.rq_model.specs.Checkpoints.{IsRestartUpTo}
 use Rattle.rq_model.specs.Appending.{MayFollow}
 use Rattle.rq_model.specs.Carrying.{IsFrontUpTo}
 use Rattle.rq_model.specs.Fates.{requests, done, kills, with_aborts}
 use Rattle.rq_model.specs.FateLaws.{Accounts, element_lines}
 use Rattle.rq_model.specs.AllFiles.{File, records_in, CarriesOn, records_of_all, AreCarriedOn, AreFiles, FilesAccount}
-use Rattle.rq_model.specs.AllFiles.{BegunFileCarriesOn, ClosedFilesAccount, FilesReportAccounts}
+use Rattle.rq_model.specs.AllFiles.{BegunFileCarriesOn, ClosedFilesAccount, FilesAreOneRun, FilesReportAccounts}
 use Rattle.rq_model.specs.ClientLines.{FilesTellClients, TellsClients}
 use Rattle.rq_model.proofs.Kept.{runs_are_well_formed, empty_is_well_formed}
 use Rattle.rq_model.proofs.RecordReaders.{body_fits}
@@ -83,6 +83,20 @@ state_there : (most : ℕ) (version : Version) (records : List Record) (file : F
 state_there most version records file r old h at =
     let ended = ends_at carried_next most file.bytes file.offset version h.state file.kept file.after file.rest r h.front at in
     ap (λ (z : Restarted). z.state) ended.answer ∙ ap final (joined version records file old h).state
+
+pub files_are_one_run : FilesAreOneRun
+files_are_one_run most version log files newest records r h at =
+    let past = records_of_all h.first files in
+    let both = joined version past newest (earlier version log files newest records h) h.carries in
+    let ended = ends_at carried_next most newest.bytes newest.offset version h.carries.state newest.kept newest.after
+    newest.rest r h.carries.front at in (
+      subst (MayFollow version empty) (sym h.all) both.together,
+      length newest.rest,
+      length newest.bytes,
+      ended.why,
+      ended.answer ∙ ap (λ (z : State). restarted z (length newest.rest) (length newest.bytes) ended.why)
+          (both.state ∙ ap (run empty) (sym h.all)),
+    )
 
 pub files_account : FilesAccount
 files_account most version log files newest records r h at =

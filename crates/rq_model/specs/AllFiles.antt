@@ -6,9 +6,9 @@ use Rattle.rq_model.specs.Frames.{log_limit, start, frames_of, last_of, before}
 use Rattle.rq_model.specs.States.{State, empty}
 use Rattle.rq_model.specs.Machine.{run, aborts}
 use Rattle.rq_model.specs.StateSpelling.{SpellsCarried, state_bytes}
-use Rattle.rq_model.specs.Fronts.{IsFront, Restarted}
+use Rattle.rq_model.specs.Fronts.{IsFront, Restarted, Why, restarted}
 use Rattle.rq_model.specs.Checkpoints.{IsRestartUpTo, IsReportUpTo}
-use Rattle.rq_model.specs.Appending.{FitsCheckpoint}
+use Rattle.rq_model.specs.Appending.{FitsCheckpoint, MayFollow}
 use Rattle.rq_model.specs.Carrying.{IsCarriedFront}
 use Rattle.rq_model.specs.Fates.{requests, done, kills, with_aborts}
 use Rattle.rq_model.specs.FateLaws.{Accounts, element_lines}
@@ -67,6 +67,15 @@ pub record AreFiles (version : Version) (log : List ℕ) (files : List File) (ne
   pub between : AreCarriedOn version first files
   pub carries : CarriesOn version (records_of_all first files) newest
   pub all : records ≡ records_of_all first files ++ records_in newest
+
+-- The records of all files are those of one log of any length, and a restart of the last file is that
+-- log's, but for the numbers of bytes
+abbrev pub FilesAreOneRun : Type 0
+FilesAreOneRun =
+    (most : ℕ) (version : Version) (log : List ℕ) (files : List File) (newest : File)
+    (records : List Record) (r : Restarted) → AreFiles version log files newest records
+    → IsRestartUpTo most newest.bytes newest.offset r → MayFollow version empty records
+    × (rest total : ℕ) × (why : Why) × (r ≡ restarted (run empty records) rest total why)
 
 -- A restart of the last file accounts for the records of all files
 abbrev pub FilesAccount : Type 0

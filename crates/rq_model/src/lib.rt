@@ -22,7 +22,7 @@ ghost use Rattle.rq_model.specs.FateLaws.{OutcomeIsAhead, RestartAccounts, Begin
 ghost use Rattle.rq_model.specs.FateLaws.{ClosedAccounts, CheckpointAccounts, ReportAccounts};
 ghost use Rattle.rq_model.specs.FateLaws.{BeginningReportAccounts, CheckpointReportAccounts};
 ghost use Rattle.rq_model.specs.AllFiles.{BegunFileCarriesOn, FilesAccount, ClosedFilesAccount};
-ghost use Rattle.rq_model.specs.AllFiles.{FilesReportAccounts};
+ghost use Rattle.rq_model.specs.AllFiles.{FilesAreOneRun, FilesReportAccounts};
 ghost use Rattle.rq_model.specs.Tampering.{FramesWithOneEnd, RecordsWithOneEnd, TamperingShows};
 ghost use Rattle.rq_model.specs.Tampering.{LinkWitnesses, FilesWithOneEnd};
 ghost use Rattle.rq_model.specs.ClientLines.{ReportTellsClients, BeginningTellsClients};
@@ -406,12 +406,13 @@ pub fn reports_tell_clients()
     ensures files { FilesTellClients }
 {}
 
-/// Of a log that was carried on in other files, a restart of the last file accounts for each request
-/// and client of the records of all files. So does a restart of the last file closed, and of each
+/// Of a log that was carried on in other files, the records of all files are those of one log of any
+/// length, and a restart of the last file is that log's. It accounts for each request and client of them. So does a restart of the last file closed, and of each
 /// beginning of that which holds its front. The report of the last file says so. A file that begins
 /// with a checkpoint of the state after these records, linked to them, carries them on.
 pub fn all_files_account()
     ensures begun { BegunFileCarriesOn }
+    ensures one { FilesAreOneRun }
     ensures restart { FilesAccount }
     ensures closed { ClosedFilesAccount }
     ensures report { FilesReportAccounts }

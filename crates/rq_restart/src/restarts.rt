@@ -218,16 +218,8 @@ pub fn restart_at<R: Threads + Sync, G: Gate + Sync>(
 ) -> Result<Restarted, Fault>
     ensures { RestartsAt bytes.now offset result }
 {
-    let most = State::RECORDS;
-    restart_of_at(
-        rt,
-        alloc,
-        &LogBytes::borrowed(bytes),
-        offset,
-        most,
-        plan,
-        gate,
-    )
+    let log = LogBytes::borrowed(bytes);
+    restart_of_at(rt, alloc, &log, offset, State::RECORDS, plan, gate)
 }
 
 /// The same of a carried file that is read as a log, from a checkpoint of it. The next record number of
@@ -242,14 +234,6 @@ pub fn restart_carried<R: Threads + Sync, G: Gate + Sync>(
 ) -> Result<Restarted, Fault>
     ensures { RestartsCarried bytes.now offset result }
 {
-    let most = State::CARRIED_RECORDS;
-    restart_of_at(
-        rt,
-        alloc,
-        &LogBytes::borrowed(bytes),
-        offset,
-        most,
-        plan,
-        gate,
-    )
+    let log = LogBytes::borrowed(bytes);
+    restart_of_at(rt, alloc, &log, offset, State::CARRIED_RECORDS, plan, gate)
 }

@@ -109,8 +109,8 @@ pub(crate) fn put_carried_report<R: Threads + Sync, O: Output, G: Gate + Sync>(
         (RefusedCarried bytes.items offset) (O.faults output.old) (O.faults output.new)
         (O.contents output.old) (O.contents output.new) result }
 {
-    let from_there = restart_own_carried(rt, alloc, bytes, offset, plan, gate)?;
-    write_report_by(rt, alloc, &from_there, plan, output)
+    let carried = restart_own_carried(rt, alloc, bytes, offset, plan, gate)?;
+    write_report_by(rt, alloc, &carried, plan, output)
 }
 
 fn put_line(text: &mut String, offset: u64, truth: bool) -> Result<(), AllocError>
