@@ -1,7 +1,6 @@
 -- Open units are aborted behind lawful records; what the first record spells does nothing there.
 use Rattle.std.proofs.Common.{◌≡◌, ℕ, ◌+◌, Bool, List, [], ◌∷◌, ◌++◌, length, map, refl, sym, ap, ◌∙◌, subst, ◌-◌, true}
-use Rattle.std.proofs.Common.{take, suc, ◌≤◌, arith, length-append}
-use Rattle.std.specs.List.{filter}
+use Rattle.std.proofs.Common.{take, ◌≤◌, arith, length-append}
 use Rattle.std.specs.Prelude.{if◌then◌else◌}
 use Rattle.rq_model.specs.Records.{Record, Begin, Checkpoint, Version, Abort}
 use Rattle.rq_model.specs.States.{State}
@@ -17,18 +16,13 @@ use Rattle.rq_model.specs.WellFormed.{IsWellFormed}
 use Rattle.rq_model.specs.Laws.{CrashIsHarmless, RunsAreWellFormed, NumbersAfter, begun, is_still_open}
 use Rattle.rq_model.specs.Fronts.{Why, restarted}
 use Rattle.rq_model.proofs.Restarts.{run_join, lawful_join}
-use Rattle.rq_model.proofs.Lists.{by_cases}
+use Rattle.rq_model.proofs.WellFormedRuns.{fewer}
 
 -- a record begins one unit at most
 few_begun : (rs : List Record) → length (begun rs) ≤ length rs
 few_begun [] = omega arith
 few_begun (Begin unit ∷ rs) = omega (arith, few_begun rs)
 few_begun (r ∷ rs) = omega (arith, few_begun rs)
-
-few_kept : (p : ℕ → Bool) (xs : List ℕ) → length (filter p xs) ≤ length xs
-few_kept p [] = omega arith
-few_kept p (x ∷ xs) = by_cases (p x) (λ b. length (if b then x ∷ filter p xs else filter p xs) ≤ suc (length xs))
-    (λ _. omega (arith, few_kept p xs)) (λ _. omega (arith, few_kept p xs))
 
 -- so no more units are open after records than were open before, and records
 pub few_open : (version : Version) → NumbersAfter → (s : State) (rs : List Record) → IsWellFormed s
@@ -38,7 +32,7 @@ few_open version law s rs well lawful =
     omega (
       arith,
       ap length (law version s rs well lawful).units,
-      few_kept is_open (s.units ++ begun rs),
+      fewer is_open (s.units ++ begun rs),
       length-append s.units (begun rs),
       few_begun rs,
     )
