@@ -1,11 +1,15 @@
 //! What is poured into the fields of a state.
 
-ghost use Rattle.std.specs.Prelude.{◌≡◌, ◌≤◌, ◌<◌, ◌+◌, ◌++◌, vec_len, vec_capacity, IfErr, OnOk};
+ghost use Rattle.std.specs.Prelude.{◌≡◌, ◌≤◌, ◌<◌, ◌+◌, ◌++◌, vec_len, vec_capacity, IfErr, OnOk, map};
 ghost use Rattle.rq_queue.specs.Pouring.{Joins, KeepsRest};
+ghost use Rattle.rq_queue.specs.Roll.{registrant_of};
 ghost use Rattle.rq_record.specs.declared.fault.Fault.TheVariants.{Resources};
 
-use rq_record::Fault;
-use rq_state::{FieldsOf, Note};
+use crate::notes::Notes;
+use crate::registrants::Registrants;
+use rq_record::{Fault, QueueNo};
+use rq_state::{FieldsOf, KeptElement, KeptFields, Note};
+use std::alloc::Global;
 
 // Makes room for so many members behind those of a list. None is needed if it has none: then it
 // takes over the list that comes.
@@ -60,4 +64,45 @@ pub(crate) fn add_members<E: Drop, R: Drop>(
     join(&mut fields.registrants, registrants);
     join(&mut fields.notes, notes);
     Ok(())
+}
+
+/// The same, with the notes of a queue, which are listed first.
+pub(crate) fn add_listed<E: Drop, R: Drop>(
+    alloc: Global,
+    fields: &mut FieldsOf<E, R>,
+    elements: Vec<E>,
+    registrants: Vec<R>,
+    notes: Notes,
+) -> Result<(), Fault>
+    ensures elements { Joins fields.old.elements.items
+        elements.items fields.new.elements.items result }
+    ensures registrants { Joins fields.old.registrants.items
+        registrants.items fields.new.registrants.items result }
+    ensures notes { Joins fields.old.notes.items notes fields.new.notes.items result }
+    ensures rest { KeepsRest fields.old fields.new }
+    ensures refused { IfErr result (λ e. e ≡ Resources) }
+{
+    let notes = notes.list(alloc)?;
+    add_members(fields, elements, registrants, notes)
+}
+
+/// The same, with the registrants of the queue too.
+pub(crate) fn add_kept(
+    alloc: Global,
+    fields: &mut KeptFields,
+    queue: QueueNo,
+    elements: Vec<KeptElement>,
+    registrants: Registrants,
+    notes: Notes,
+) -> Result<(), Fault>
+    ensures elements { Joins fields.old.elements.items
+        elements.items fields.new.elements.items result }
+    ensures registrants { Joins fields.old.registrants.items
+        (map (registrant_of queue.0) registrants) fields.new.registrants.items result }
+    ensures notes { Joins fields.old.notes.items notes fields.new.notes.items result }
+    ensures rest { KeepsRest fields.old fields.new }
+    ensures refused { IfErr result (λ e. e ≡ Resources) }
+{
+    let registrants = registrants.list(alloc, queue)?;
+    add_listed(alloc, fields, elements, registrants, notes)
 }

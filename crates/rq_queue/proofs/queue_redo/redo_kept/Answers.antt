@@ -16,6 +16,6 @@ pub returns-clause-redone : goal.returns-clause-redone
 returns-clause-redone c = λ version s rs k.
     let ops = c.args.ops.now in
     let ms = c.args.arrivals.items in (
-      c.in_ok-redone.ensures.part ∙ redone_part c.projection.ensures version s rs c.args.part ops ms k,
-      c.in_ok-redone.ensures.sent ∙ sent_moves c.projection.ensures version s rs c.args.part ops ms k,
+      c.in_ok-redo_in_order.ensures.part ∙ redone_part c.projection.ensures version s rs c.args.part ops ms k,
+      c.in_ok-redo_in_order.ensures.sent ∙ sent_moves c.projection.ensures version s rs c.args.part ops ms k,
     )
