@@ -116,7 +116,14 @@ impl Part {
     {
         let alloc = *fields.elements.allocator();
         let elements = self.elements.list(alloc)?;
-        add_kept(alloc, fields, self.queue, elements, self.registrants, self.notes)
+        add_kept(
+            alloc,
+            fields,
+            self.queue,
+            elements,
+            self.registrants,
+            self.notes,
+        )
     }
 
     /// Adds copies of its elements, registrants and notes to the lists. Refused with Resources: the

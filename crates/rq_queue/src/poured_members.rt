@@ -1,7 +1,7 @@
 //! What is poured into the fields of a state.
 
 ghost use Rattle.std.specs.Prelude.{◌≡◌, ◌≤◌, ◌<◌, ◌+◌, ◌++◌, vec_len, vec_capacity, IfErr, OnOk, map};
-ghost use Rattle.rq_queue.specs.Pouring.{Joins, KeepsRest};
+ghost use Rattle.rq_queue.specs.Pouring.{HasRoom, Joins, KeepsRest};
 ghost use Rattle.rq_queue.specs.Roll.{registrant_of};
 ghost use Rattle.rq_record.specs.declared.fault.Fault.TheVariants.{Resources};
 
@@ -14,10 +14,7 @@ use std::alloc::Global;
 // Makes room for so many members behind those of a list. None is needed if it has none: then it
 // takes over the list that comes.
 fn make_room<M: Drop>(list: &mut Vec<M>, count: usize) -> Result<(), Fault>
-    ensures same { list.new.items ≡ list.old.items }
-    ensures len { vec_len list.new ≡ vec_len list.old }
-    ensures room { OnOk result
-        (0 < vec_len list.new → vec_len list.new + count ≤ vec_capacity list.new) }
+    ensures room { HasRoom list.old list.new count result }
     ensures refused { IfErr result (λ e. e ≡ Resources) }
 {
     if list.is_empty() {
@@ -42,6 +39,25 @@ fn join<M: Drop>(list: &mut Vec<M>, mut members: Vec<M>)
     };
 }
 
+// Makes room for so many members behind those of each list.
+fn make_rooms<E: Drop, R: Drop>(
+    fields: &mut FieldsOf<E, R>,
+    elements: usize,
+    registrants: usize,
+    notes: usize,
+) -> Result<(), Fault>
+    ensures elements { HasRoom fields.old.elements fields.new.elements elements result }
+    ensures registrants { HasRoom
+        fields.old.registrants fields.new.registrants registrants result }
+    ensures notes { HasRoom fields.old.notes fields.new.notes notes result }
+    ensures rest { KeepsRest fields.old fields.new }
+    ensures refused { IfErr result (λ e. e ≡ Resources) }
+{
+    make_room(&mut fields.elements, elements)?;
+    make_room(&mut fields.registrants, registrants)?;
+    make_room(&mut fields.notes, notes)
+}
+
 /// Adds members to the lists. Refused with Resources: the fields are then as before.
 pub(crate) fn add_members<E: Drop, R: Drop>(
     fields: &mut FieldsOf<E, R>,
@@ -57,9 +73,7 @@ pub(crate) fn add_members<E: Drop, R: Drop>(
     ensures rest { KeepsRest fields.old fields.new }
     ensures refused { IfErr result (λ e. e ≡ Resources) }
 {
-    make_room(&mut fields.elements, elements.len())?;
-    make_room(&mut fields.registrants, registrants.len())?;
-    make_room(&mut fields.notes, notes.len())?;
+    make_rooms(fields, elements.len(), registrants.len(), notes.len())?;
     join(&mut fields.elements, elements);
     join(&mut fields.registrants, registrants);
     join(&mut fields.notes, notes);
