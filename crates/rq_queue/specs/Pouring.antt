@@ -10,10 +10,10 @@ use Rattle.rq_state.specs.Inside.{Fields}
 use Rattle.rq_state.specs.declared.fields.FieldsOf.{FieldsOf}
 
 -- the list is as it was; unless refused, it has room for so many members more, if it has any
-abbrev pub HasRoom : {X U : Type 0} → Vec X → Vec X → ℕ → Result U Fault → Type 0
-HasRoom old new count (Ok _) = (new.items ≡ old.items) × (vec_len new ≡ vec_len old)
+abbrev pub MakesRoom : {X U : Type 0} → Vec X → Vec X → ℕ → Result U Fault → Type 0
+MakesRoom old new count (Ok _) = (new.items ≡ old.items) × (vec_len new ≡ vec_len old)
     × (0 < vec_len new → vec_len new + count ≤ vec_capacity new)
-HasRoom old new count (Err _) = new.items ≡ old.items
+MakesRoom old new count (Err _) = new.items ≡ old.items
 
 -- these members are added after what the list had, in some order; refused, it is as it was
 abbrev pub Grows : {X U : Type 0} → List X → List X → List X → Result U Fault → Type 0

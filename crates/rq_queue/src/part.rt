@@ -115,15 +115,9 @@ impl Part {
         ensures refused { IfErr result (λ e. e ≡ Resources) }
     {
         let alloc = *fields.elements.allocator();
+        let queue = self.queue;
         let elements = self.elements.list(alloc)?;
-        add_kept(
-            alloc,
-            fields,
-            self.queue,
-            elements,
-            self.registrants,
-            self.notes,
-        )
+        add_kept(alloc, fields, queue, elements, self.registrants, self.notes)
     }
 
     /// Adds copies of its elements, registrants and notes to the lists. Refused with Resources: the

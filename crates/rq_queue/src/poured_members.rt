@@ -1,7 +1,7 @@
 //! What is poured into the fields of a state.
 
 ghost use Rattle.std.specs.Prelude.{◌≡◌, ◌≤◌, ◌<◌, ◌+◌, ◌++◌, vec_len, vec_capacity, IfErr, OnOk, map};
-ghost use Rattle.rq_queue.specs.Pouring.{HasRoom, Joins, KeepsRest};
+ghost use Rattle.rq_queue.specs.Pouring.{MakesRoom, Joins, KeepsRest};
 ghost use Rattle.rq_queue.specs.Roll.{registrant_of};
 ghost use Rattle.rq_record.specs.declared.fault.Fault.TheVariants.{Resources};
 
@@ -14,7 +14,7 @@ use std::alloc::Global;
 // Makes room for so many members behind those of a list. None is needed if it has none: then it
 // takes over the list that comes.
 fn make_room<M: Drop>(list: &mut Vec<M>, count: usize) -> Result<(), Fault>
-    ensures room { HasRoom list.old list.new count result }
+    ensures room { MakesRoom list.old list.new count result }
     ensures refused { IfErr result (λ e. e ≡ Resources) }
 {
     if list.is_empty() {
@@ -46,10 +46,10 @@ fn make_rooms<E: Drop, R: Drop>(
     registrants: usize,
     notes: usize,
 ) -> Result<(), Fault>
-    ensures elements { HasRoom fields.old.elements fields.new.elements elements result }
-    ensures registrants { HasRoom
+    ensures elements { MakesRoom fields.old.elements fields.new.elements elements result }
+    ensures registrants { MakesRoom
         fields.old.registrants fields.new.registrants registrants result }
-    ensures notes { HasRoom fields.old.notes fields.new.notes notes result }
+    ensures notes { MakesRoom fields.old.notes fields.new.notes notes result }
     ensures rest { KeepsRest fields.old fields.new }
     ensures refused { IfErr result (λ e. e ≡ Resources) }
 {
