@@ -4,7 +4,9 @@ pub mod FrontEnds
 pub mod Gathered
 pub mod Members
 pub mod Puts
+pub mod Queues
 pub mod Scripts
 pub mod ShownFronts
 pub mod Spelled
+pub mod Tokens
 pub mod Words

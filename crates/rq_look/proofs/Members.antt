@@ -1,20 +1,21 @@
 -- Objects that are shown.
-use Rattle.std.proofs.Common.{◌≡◌, ◌∙◌, ℕ, suc, List, [], ◌∷◌, map, length, String, string_bytes, Vec, Global, Bor, Bool, true, false, refl, sym, ap, subst, rules, Result, Ok, Err, IfOk}
+use Rattle.std.proofs.Common.{◌≡◌, ◌∙◌, ℕ, suc, ◌+◌, ◌<◌, ◌++◌, List, [], ◌∷◌, map, length, take, get_or, String, string_bytes, Vec, Global, Bor, Bool, true, false, refl, sym, ap, subst, rules, Result, Ok, Err, IfOk}
 use Rattle.std.specs.Prelude.{Option, Some, None, if◌then◌else◌}
 use Rattle.std.specs.Str.{IsUtf8, is_utf8}
 use Rattle.std.proofs.lemmas.Bool.{or_from}
+use Rattle.std.proofs.lemmas.List.{map-append, take_more}
 use Rattle.std.proofs.lemmas.Str.{IsUtf8-from_is_utf8, is_utf8-from_IsUtf8}
 use Rattle.serde_json.specs.Data.{Data, object, string}
-use Rattle.serde_json.specs.Events.{members_len}
-use Rattle.serde_json.specs.Written.{has_float, members_have_float}
+use Rattle.serde_json.specs.Events.{items_len, members_len}
+use Rattle.serde_json.specs.Written.{has_float, items_have_float, members_have_float}
 use Rattle.rq_model.specs.Fronts.{Restarted}
 use Rattle.rq_model.specs.Reports.{why_text}
 use Rattle.rq_judged.specs.FrontEnds.{IsEndOf}
 use Rattle.rq_judged.specs.Views.{why_of}
 use Rattle.rq_found.specs.declared.ends.End.{End}
 use Rattle.rq_look.specs.Objects.{value_shown, level_shown, as_members, members_shown, member_of, text_in}
-use Rattle.rq_look.specs.Objects.{closing_members, end_members}
-use Rattle.rq_look.specs.declared.objects.Shown.{Shown, Group, Made, the_lemmas}
+use Rattle.rq_look.specs.Objects.{closing_members, end_members, as_items, as_list}
+use Rattle.rq_look.specs.declared.objects.Shown.{Shown, Group, Made, Several, the_lemmas}
 use Rattle.rq_look.specs.declared.objects.Shown.TheOpen.{Shown-F}
 use Rattle.rq_look.specs.declared.objects.Shown.TheFolds.{fold-roll-Shown, ind-Shown, map-Shown}
 
@@ -39,6 +40,15 @@ group_shown v =
     search (rules, the_lemmas) in
     opened ∙ ap (λ ms. object (as_members ms)) (both_shown v.items)
 
+-- as many values
+pub as_many_values : (vs : List Shown) → items_len (as_items (map value_shown vs)) ≡ length vs
+as_many_values [] = refl
+as_many_values (v ∷ vs) = ap suc (as_many_values vs)
+
+-- values in order
+pub several_shown : (v : Vec Shown Global) → value_shown (Several v) ≡ as_list (map value_shown v.items)
+several_shown v = search (rules, the_lemmas)
+
 -- no value that is shown has a float
 abbrev IsWhole : Shown → Type 0
 IsWhole v = has_float (value_shown v) ≡ false
@@ -52,18 +62,31 @@ members_whole : (ms : List (Bor (List ℕ) × Whole))
 members_whole [] = refl
 members_whole (m ∷ ms) = or_from _ _ m.1.1 (members_whole ms)
 
+values_whole : (vs : List Whole)
+    → items_have_float (as_items (map value_shown (map (λ (e : Whole). e.0) vs))) ≡ false
+values_whole [] = refl
+values_whole (v ∷ vs) = or_from _ _ v.1 (values_whole vs)
+
 level_whole : (y : Shown-F Whole)
     → has_float (level_shown (map-Shown Shown Data value_shown (map-Shown Whole Shown (λ (e : Whole). e.0) y))) ≡ false
 level_whole (Shown-F.Number n) = refl
 level_whole (Shown-F.Flag b) = refl
 level_whole (Shown-F.Word text) = refl
 level_whole (Shown-F.Made text) = refl
+level_whole Shown-F.Nothing = refl
 level_whole (Shown-F.Group members) = members_whole members.items
+level_whole (Shown-F.Several values) = values_whole values.items
 
 pub no_float : (v : Shown) → IsWhole v
 no_float = ind-Shown IsWhole (λ x y is.
     ap has_float (fold-roll-Shown Data level_shown x)
     ∙ subst (λ z. has_float (level_shown (map-Shown Shown Data value_shown z)) ≡ false) is (level_whole y))
+
+-- two things that are said of an answer
+pub both_said : {A E : Type 0} (r : Result A E) (P Q R : A → Type 0) → ((x : A) → P x → Q x → R x)
+    → IfOk r P → IfOk r Q → IfOk r R
+both_said (Ok x) P Q R f p q = f x p q
+both_said (Err e) P Q R f p q = tt
 
 -- what is made of an answer
 pub through : {A E F : Type 0} (r : Result A E) (q : Result A F) (P : A → Type 0) → IfOk q (λ x. r ≡ Ok x) → IfOk r P → IfOk q P
@@ -86,3 +109,12 @@ pub same_members : (at : Option ℕ) (r : Restarted) (end : End) (reason : List 
     → end_members at end.front.next end.front.used end.front.total (why_text (why_of end.front.why)) reason
     ≡ closing_members at r reason
 same_members at r end reason e = λ i. end_members at (e.next i) (e.used i) (e.total i) (why_text (e.why i)) reason
+
+-- one more value is shown
+pub shown_more : {X : Type 0} (see : X → Data) (xs : List X) (i : ℕ) (x : X) (old new : List Shown) (v : Shown)
+    → new ≡ old ++ v ∷ [] → map value_shown old ≡ map see (take i xs) → i < length xs → value_shown v ≡ see x
+    → x ≡ get_or xs i x → map value_shown new ≡ map see (take (i + 1) xs)
+shown_more see xs i x old new v put so_far here is at =
+    ap (map value_shown) put ∙ map-append value_shown old (v ∷ [])
+    ∙ ap (λ ds. ds ++ value_shown v ∷ []) so_far ∙ ap (λ d. map see (take i xs) ++ d ∷ []) (is ∙ ap see at)
+    ∙ sym (ap (map see) (take_more xs i x here) ∙ map-append see (take i xs) (get_or xs i x ∷ []))

@@ -5,4 +5,5 @@ pub mod Lines
 pub mod Looks
 pub mod Mendings
 pub mod Objects
+pub mod ReportObjects
 pub mod Scripts

@@ -10,6 +10,7 @@ use Rattle.rq_front.specs.Chains.{IsLog}
 use Rattle.rq_found.specs.Ends.{IsRestartFrom, beginning_text, end_line}
 use Rattle.rq_found.specs.Refusals.{IsBroken, IsRefusal, StaysUnshown}
 use Rattle.rq_look.specs.Objects.{closing_members, object_line}
+use Rattle.rq_look.specs.ReportObjects.{IsReportJson}
 use Rattle.rq_look.specs.Scripts.{LeavesOut}
 use Rattle.rq_found.specs.declared.trouble.Subject.{Subject}
 use Rattle.rq_found.specs.declared.trouble.Trouble.{Trouble}
@@ -24,10 +25,6 @@ AppendsSome old new = (put : List ℕ) × Appends old new put
 abbrev pub Gathers : List ℕ → List ℕ → Option (List ℕ) → List ℕ → Option (List ℕ) → Type 0
 Gathers put text old left new = (written : List ℕ) × Appends old new written
     × (text ++ put ≡ written ++ left)
-
--- a text is appended that ends with the end of a line
-abbrev pub AppendsLine : Option (List ℕ) → Option (List ℕ) → Type 0
-AppendsLine old new = (text : List ℕ) × Appends old new (text ++ codes "\n")
 
 -- the last line of a dump of b, of where its front ends, with some reason: as an object, which says where
 -- b begins if it was carried on, or as a line
@@ -102,11 +99,16 @@ abbrev pub PutsQueue : Restarted → ℕ → Option (List ℕ) → Option (List 
 PutsQueue r queue old new = (text : List ℕ) × AreLinesOf r.state queue (queue + 1) text
     × Appends old new text
 
--- of b, which has the queue that is wanted, one value of JSON is appended, and the end of its line; or
+-- the report of a restart is appended as one value of JSON
+abbrev pub PutsJson : Option ℕ → Restarted → Option ℕ → Option (List ℕ) → Option (List ℕ) → Type 0
+PutsJson at r wanted old new = (text : List ℕ) × IsReportJson at r wanted text × Appends old new text
+
+-- of b, which has the queue that is wanted, the report is appended as one value of JSON; or
 -- its report is; or, if one queue is wanted alone, those lines of it that are of this queue
 abbrev pub PutsReportAs : Bool → Option ℕ → List ℕ → Option ℕ → Option (List ℕ) → Option (List ℕ)
     → Type 0
-PutsReportAs true at b wanted old new = HasWanted at b wanted × AppendsLine old new
+PutsReportAs true at b wanted old new = IsLog b × (r : Restarted) × IsRestartFrom at b r
+    × HasQueue r wanted × PutsJson at r wanted old new
 PutsReportAs false at b None old new = PutsReport at b old new
 PutsReportAs false at b (Some queue) old new = IsLog b × (r : Restarted) × IsRestartFrom at b r
     × HasQueue r (Some queue) × PutsQueue r queue old new

@@ -5,7 +5,8 @@ use Rattle.std.specs.Borrow.{Bor}
 use Rattle.std.specs.Char.Escape.{encode_utf16}
 use Rattle.std.specs.List.{flat_map}
 use Rattle.std.specs.Str.{chars, is_utf8}
-use Rattle.serde_json.specs.Data.{Data, number, unsigned, boolean, string, object, Members, no_members, member}
+use Rattle.serde_json.specs.Data.{Data, null, number, unsigned, boolean, string, array, object}
+use Rattle.serde_json.specs.Data.{Items, no_items, item, Members, no_members, member}
 use Rattle.serde_json.specs.Written.{compact_text}
 use Rattle.rq_model.specs.Fronts.{Restarted}
 use Rattle.rq_model.specs.Records.{Record, Define, Enqueue, Checkpoint, Kill, no_queue}
@@ -41,6 +42,18 @@ Named = List (List ℕ × Data)
 abbrev pub as_members : Named → Members
 as_members [] = no_members
 as_members (m ∷ ms) = member m.0 m.1 (as_members ms)
+
+-- values in order
+abbrev pub as_items : List Data → Items
+as_items [] = no_items
+as_items (d ∷ ds) = item d (as_items ds)
+
+abbrev pub as_list : List Data → Data
+as_list ds = array (as_items ds)
+
+-- an object of members
+abbrev pub object_of : Named → Data
+object_of ms = object (as_members ms)
 
 -- the line of an object: its text with no space, hidden characters by their numbers
 abbrev pub object_line : Named → List ℕ
@@ -170,9 +183,11 @@ member_of m = (m.0.now, m.1)
 abbrev pub level_shown : Shown-F Data → Data
 level_shown (Shown-F.Number n) = whole n
 level_shown (Shown-F.Flag b) = boolean b
+level_shown Shown-F.Nothing = null
 level_shown (Shown-F.Word text) = string text.now
 level_shown (Shown-F.Made text) = string (string_bytes text)
 level_shown (Shown-F.Group members) = object (as_members (map member_of members.items))
+level_shown (Shown-F.Several values) = as_list values.items
 
 -- a value
 abbrev pub value_shown : Shown → Data

@@ -90,8 +90,8 @@ fn put_by<'a>(members: &mut Members<'a>, record: &'a KeptRecord) -> Put
     put_number(members, "tag", by_of(record).map(|by| by.tag))
 }
 
-// The bytes of a payload as an object.
-fn payload_shown<'a>(alloc: Global, bytes: &'a [u8]) -> Result<Shown<'a>, AllocError>
+/// The bytes of a payload as an object.
+pub(crate) fn payload_shown<'a>(alloc: Global, bytes: &'a [u8]) -> Result<Shown<'a>, AllocError>
     ensures { IfOk result
         (λ v. spec.value_shown v ≡ object (spec.as_members (spec.bytes_members bytes.now))) }
 {
@@ -203,8 +203,8 @@ pub(crate) fn put_behind_object(alloc: Global, text: &mut String, found: &Found)
     put_only(alloc, text, "behind", members)
 }
 
-// Puts where a front ends.
-fn put_front<'a>(members: &mut Members<'a>, at: Option<u64>, end: &'a End) -> Put
+/// Puts where a front ends, of a log that begins so.
+pub(crate) fn put_front_members<'a>(members: &mut Members<'a>, at: Option<u64>, end: &'a End) -> Put
     ensures { OnOk result (members_shown members.new.items ≡ members_shown members.old.items
         ++ front_members at end.now.front.next end.now.front.used end.now.front.total
         (why_text (why_of end.now.front.why)) (string_bytes end.now.reason)) }
@@ -230,6 +230,6 @@ pub(crate) fn put_closing_object(
         (why_text (why_of end.now.front.why)) (string_bytes end.now.reason))) }
 {
     let mut members = Vec::new(alloc);
-    put_front(&mut members, at, end)?;
+    put_front_members(&mut members, at, end)?;
     put_only(alloc, text, "front", members)
 }

@@ -15,6 +15,7 @@ mod lines;
 mod log_script;
 mod mendings;
 mod objects;
+mod report_objects;
 mod reports;
 mod salvages;
 mod sheet;

@@ -1,10 +1,12 @@
 //! Objects of JSON, as lists of members in order.
 
-ghost use Rattle.std.specs.Prelude.{◌≡◌, ◌++◌, IfOk, Ok, OnOk, codes, option_map, string_bytes};
+ghost use Rattle.std.specs.Prelude.{◌≡◌, ◌++◌, IfOk, Ok, OnOk, codes, map, option_map, string_bytes};
 ghost use Rattle.serde_json.specs.Data.{object, string};
 ghost use Rattle.serde_json.specs.Events.{SendsValue};
-ghost use Rattle.serde_json.specs.Written.{compact_text};
-ghost use Rattle.rq_look.specs.Objects.{bytes_members, digits, known, as_members, members_shown};
+ghost use Rattle.json.specs.Layout.{pretty};
+ghost use Rattle.json.specs.Tree.{json_tokens};
+ghost use Rattle.serde_json.specs.Written.{compact_text, outline};
+ghost use Rattle.rq_look.specs.Objects.{bytes_members, digits, known, as_list, as_members, members_shown};
 ghost use Rattle.rq_look.specs.Objects.{with_name, object_line, text_in, value_shown, whole};
 
 use crate::escapes::spelled_out;
@@ -20,12 +22,16 @@ pub(crate) enum Shown<'a> {
     Number(u64),
     /// Whether something holds.
     Flag(bool),
+    /// Nothing, where there may be something.
+    Nothing,
     /// A text.
     Word(&'a str),
     /// A text that was made to be shown.
     Made(String),
     /// An object, by its members in order.
     Group(Vec<(&'a str, Shown<'a>)>),
+    /// Values in order.
+    Several(Vec<Shown<'a>>),
 }
 
 /// The members of an object, in order.
@@ -51,7 +57,9 @@ fn send<S: Serializer>(value: &Shown<'_>, out: &mut S) -> Result<(), S::Error>
         Shown::Flag(b) => out.bool(*b),
         Shown::Word(text) => out.str(text),
         Shown::Made(text) => out.str(text.as_str()),
+        Shown::Nothing => out.unit(),
         Shown::Group(members) => send_members(members, out),
+        Shown::Several(values) => send_values(values, out),
     }
 }
 
@@ -66,6 +74,25 @@ fn send_members<S: Serializer>(members: &Members<'_>, out: &mut S) -> Result<(),
         send(value, out)?;
     }
     out.end_map()
+}
+
+#[cycle(send)]
+fn send_values<S: Serializer>(values: &Vec<Shown<'_>>, out: &mut S) -> Result<(), S::Error>
+    ensures { OnOk result (SendsValue (as_list (map value_shown values.now.items))
+        (S.written out.old) (S.written out.new)) }
+{
+    out.begin_seq(Some(values.len()))?;
+    for value in values {
+        send(value, out)?;
+    }
+    out.end_seq()
+}
+
+/// Values in order.
+pub(crate) fn several<'a>(values: Vec<Shown<'a>>) -> Shown<'a>
+    ensures { value_shown result ≡ as_list (map value_shown values.entry.items) }
+{
+    Shown::Several(values)
 }
 
 /// An object of these members.
@@ -144,8 +171,8 @@ pub(crate) fn put_hex_and_text<'a>(alloc: Global, members: &mut Members<'a>, byt
     put_text(members, bytes)
 }
 
-/// What serde answers, where it writes into memory: that fails for want of memory alone.
-pub(crate) fn written(json: Result<String, serde_json::Error>) -> Result<String, AllocError>
+// What serde answers, where it writes into memory: that fails for want of memory alone.
+fn written(json: Result<String, serde_json::Error>) -> Result<String, AllocError>
     ensures { IfOk result (λ text. json ≡ Ok text) }
 {
     match json {
@@ -159,6 +186,14 @@ fn text_of(alloc: Global, value: &Shown<'_>) -> Result<String, AllocError>
     ensures { IfOk result (λ text. string_bytes text ≡ compact_text (value_shown value.now)) }
 {
     written(serde_json::to_string(alloc, value))
+}
+
+/// The text of a value in lines.
+pub(crate) fn pretty_text(alloc: Global, value: &Shown<'_>) -> Result<String, AllocError>
+    ensures { IfOk result (λ text. string_bytes text
+        ≡ pretty (json_tokens (outline (value_shown value.now)))) }
+{
+    written(serde_json::to_string_pretty(alloc, value))
 }
 
 /// Puts an object in a line of its own, with each hidden character spelled by its numbers.
