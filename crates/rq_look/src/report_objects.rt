@@ -56,6 +56,7 @@ fn element_shown(alloc: Global, e: &KeptElement) -> Result<Shown<'_>, AllocError
 }
 
 // The queue's free elements, in the order in which they would be taken.
+#[tactic(auto, using(crate::proofs::Members::shown_more))]
 fn elements_shown(
     alloc: Global,
     state: &State,
@@ -105,6 +106,7 @@ fn registrant_shown<'a>(alloc: Global, r: &RegistrantShown<'a>) -> Result<Shown<
 }
 
 // The queue's registrants, by name.
+#[tactic(auto, using(crate::proofs::Members::shown_more))]
 fn registrants_shown(
     alloc: Global,
     state: &State,
@@ -160,6 +162,7 @@ fn queue_shown(alloc: Global, state: &State, number: usize) -> Result<Shown<'_>,
 }
 
 // The queues from one of them up to another, by number.
+#[tactic(auto, using(crate::proofs::Queues::next_queue))]
 fn queues_shown(
     alloc: Global,
     state: &State,
