@@ -10,12 +10,13 @@ import inspect, os, sys
 sys.dont_write_bytecode = True
 TOP = os.path.dirname(os.path.dirname(os.path.abspath(__file__)))
 sys.path[:0] = [os.path.join(TOP, "bench"), os.path.join(TOP, "tests")]
+from following import follow  # noqa: E402
 from inside import layers, redo, shares, speedup, threads  # noqa: E402
 from making import checkpoints, closing, live, states, upgrading  # noqa: E402
 from restarts import growth, looks, measure, sizes  # noqa: E402
-from served import serve  # noqa: E402
+from served import serve, session  # noqa: E402
 
-WORDS = {it.__name__: it for it in (measure, growth, sizes, shares, speedup, threads, redo, layers, states, checkpoints, closing, upgrading, looks, live, serve)}
+WORDS = {it.__name__: it for it in (measure, growth, sizes, shares, speedup, threads, redo, layers, states, checkpoints, closing, upgrading, looks, live, serve, session, follow)}
 
 
 def main() -> int:

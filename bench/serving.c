@@ -123,20 +123,26 @@ static void send_all(const char *text, size_t length) {
   }
 }
 
-// Reads what is there: how many answers that is.
+// No answer that is hoped for begins as a refusal, an error or a fault do; `queue 0` is one to a definition.
+static void expect_done(const char *line) {
+  if (line[0] == 'r' || line[0] == 's' || (line[0] == 'e' && line[1] == 'r')) expect(0, "refused");
+}
+
+// Reads what is there: how many answers that is. What begins one more is kept for the next time.
 static long answers(void) {
   static char text[1 << 16];
-  static char first = 1, head;
-  ssize_t count = read(from, text, sizeof text);
+  static size_t held;
+  ssize_t count = read(from, text + held, sizeof text - held);
   expect(count > 0, "read");
+  const char *line = text, *end = text + held + count, *found;
   long lines = 0;
-  for (ssize_t at = 0; at < count; at++) {
-    if (first) head = text[at];
-    first = text[at] == '\n';
-    lines += first;
-    // No answer that is hoped for begins as a refusal, an error or a fault do; `queue 0` is one to a definition.
-    if (head == 'r' || (head == 'e' && text[at] == ':') || head == 's') expect(0, "refused");
+  while ((found = memchr(line, '\n', end - line))) {
+    expect_done(line);
+    line = found + 1;
+    lines++;
   }
+  held = end - line;
+  memmove(text, line, held);
   return lines;
 }
 
@@ -144,9 +150,28 @@ static void hear(long lines) {
   while (lines > 0) lines -= answers();
 }
 
+static char *put(char *to, const char *text, size_t length) {
+  memcpy(to, text, length);
+  return to + length;
+}
+
+#define PUT_TEXT(to, text) put(to, text, sizeof(text) - 1)
+
+// The lines of a unit. Nothing here is to cost much beside what the program does for them.
 static int unit_of(char *text, long unit) {
-  if (unit % 2) return sprintf(text, "begin %ld\nenqueue %ld jobs 0 - 0 %s\ncommit %ld%s\n", unit, unit, payload, unit, later);
-  return sprintf(text, "begin %ld\ndequeue %ld jobs - 0\ncommit %ld%s\n", unit, unit, unit, later);
+  char digits[24], *number = digits + sizeof digits, *at = text;
+  for (long rest = unit; rest; rest /= 10) *--number = '0' + rest % 10;
+  size_t length = digits + sizeof digits - number;
+  at = put(PUT_TEXT(at, "begin "), number, length);
+  if (unit % 2) {
+    at = put(PUT_TEXT(at, "\nenqueue "), number, length);
+    at = put(PUT_TEXT(at, " jobs 0 - 0 "), payload, 2 * PAYLOAD);
+  } else {
+    at = PUT_TEXT(put(PUT_TEXT(at, "\ndequeue "), number, length), " jobs - 0");
+  }
+  at = put(PUT_TEXT(at, "\ncommit "), number, length);
+  at = PUT_TEXT(put(at, later, strlen(later)), "\n");
+  return at - text;
 }
 
 // So many units in one write, answered before the next.
@@ -199,13 +224,13 @@ int main(int count, char **words) {
   if (count < 4) return 2;
   const char *how = words[1], *path = words[3];
   long units = atol(words[2]);
-  double begun = now();
+  double begun = now(), took = 0;
   if (strcmp(how, "raw") == 0) raw(units, path);
   else if (strcmp(how, "sqlite-full") == 0) sqlite(units, path, "FULL", 1);
   else if (strcmp(how, "sqlite-off") == 0) sqlite(units, path, "OFF", 1);
   else if (strcmp(how, "sqlite-off-8") == 0) sqlite(units, path, "OFF", 2 * CLIENTS);
-  else begun = now() - served(how, units, words + 4);
-  double took = now() - begun;
+  else took = served(how, units, words + 4);
+  if (took == 0) took = now() - begun;
   struct stat found;
   expect(stat(path, &found) == 0, path);
   printf("%.6f %ld\n", took, (long)found.st_size);

@@ -1,7 +1,10 @@
 """Shared. What all tests share: what is counted, how the programs are run, what they answer, the shim, and the parts of a test."""
 from __future__ import annotations
-import atexit, functools, hashlib, itertools, os, shutil, subprocess, tempfile
-from collections.abc import Callable, Iterable, Iterator
+import atexit, functools, hashlib, itertools, os, random, shutil, subprocess, tempfile
+from collections.abc import Callable, Iterable, Iterator, Sequence
+from typing import TypeVar
+
+It = TypeVar("It")
 
 HERE = os.path.dirname(os.path.abspath(__file__))
 TOP = os.path.dirname(HERE)
@@ -53,6 +56,24 @@ def counted() -> int:
     """Prints the last line, of all that was checked; the exit status."""
     print(f"{passed} passed, {failed} failed")
     return 1 if failed or not passed else 0
+
+
+# --- what is drawn -------------------------------------------------------------------------------------------------
+
+def sum_of_clone() -> bytes:
+    """A sum of all files of the clone, but of what was built, and of their names."""
+    total = hashlib.sha256()
+    for at, folders, names in os.walk(TOP):
+        folders[:] = sorted(it for it in folders if it not in ("out", "build", "__pycache__", ".git"))
+        for path in (os.path.join(at, it) for it in sorted(names)):
+            if os.path.isfile(path):
+                total.update(f"{os.path.relpath(path, TOP)} {sum_of(path)}\n".encode())
+    return total.digest()
+
+
+def drawn(every: Sequence[It], count: int) -> list[It]:
+    """So many of these, in an order: of the same files of the clone the same, of others other ones, so that each gets its turn."""
+    return random.Random(sum_of_clone()).sample(every, min(count, len(every)))
 
 
 # --- files ---------------------------------------------------------------------------------------------------------

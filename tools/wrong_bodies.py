@@ -1,5 +1,5 @@
 #!/usr/bin/env python3
-"""Tries the wrong bodies of the crates, many of different functions in one check, and holds them against receipts.
+"""Tries the wrong bodies of the crates, many in one check, and holds them against receipts.
 
 usage: wrong_bodies.py [--jobs N] [--said FOLDER] [--write] [--due | CRATE | CRATE/EDIT ..]
        wrong_bodies.py --receipt
@@ -8,7 +8,8 @@ A wrong body is an edit of `crates/NAME/must-fail`, which `rt ci` tries too, of 
 that. It must be refused by a goal of a function that it changes: one that stays open, or whose answer no longer proves it. It
 fails if it is not refused, if it is refused only in another function or since a proof file names what it took away, or if it no
 longer applies. An answer that no longer proves its goal may not prove that of a right body either. So an edit may have a twin, a right
-body of the same shape, in its lines `right:`. That is tried too, and a wrong body whose twin is not proved fails.
+body of the same shape, in its lines `right:`. That is tried too, and a wrong body whose twin is not proved fails. Both stand in copies of
+the function, so that one check is enough. Who is not judged there is tried in the function's own place.
 With no words all are tried; with --due those of which no receipt holds. --write then writes the receipt of each crate of which one was
 refused (`crates/NAME/wrong-bodies/receipt`), the only file in the checkout that is written. It tells of each that was refused, and of
 those that were not tried what it told before, as far as that holds. --said keeps what each check said.
@@ -113,7 +114,7 @@ class Run:
                 good.append(edit)
             except ValueError as why:
                 self.found[edit] = Verdict(False, "", f"{'its twin' if edit.is_twin else 'it'} no longer applies: {why}")
-        return [batch for is_twin in (False, True) for batch in batches_of([it for it in good if it.is_twin == is_twin], self.sums.texts(crate))]
+        return batches_of(good, self.sums.texts(crate))
 
     def verdict(self, edit: Edit) -> Verdict:
         """What was found of a wrong body that was tried: it counts for nothing if its twin is not proved."""
@@ -197,7 +198,7 @@ def functions_of(batch: Batch) -> List[str]:
     """The functions that the receipt names for the wrong bodies of the batch; none, if it does not tell of one."""
     lines = receipt_of(TOP, batch.edits[0].crate).lines
     is_told = all(it.name in lines for it in batch.edits)
-    return [lines[it.name].function for it in batch.edits] if is_told else []
+    return [path for it in batch.edits for path in batch.paths(it, lines[it.name].function)] if is_told else []
 
 
 def drawn(run: Run, of: Dict[str, List[Edit]]) -> List[Batch]:

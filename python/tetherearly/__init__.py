@@ -8,11 +8,11 @@
 
 What a unit did is safe once its `with` is left without an exception. `Lost` says that it is in doubt: start again, and register.
 """
-from .errors import (BadLimit, BadRequest, CannotOpen, DefinedOtherwise, Doomed, LogFull, Lost, NoQueue, NoRegistrant, NotServed, NoUnit, OldVersion,
-                     Refused, ServeError, StateTooLarge, TooManyQueues, UnitNotGreater)
+from .errors import (BadLimit, BadRequest, CannotOpen, DefinedOtherwise, Doomed, LogFull, Lost, NoQueue, NoRegistrant, NotCarried, NotServed, NoUnit,
+                     NumbersEnd, OldVersion, Refused, ServeError, StateTooLarge, TooManyQueues, UnitNotGreater)
 from .manager import Manager, Queue, Registrant, Unit
 from .values import Depth, Element, Greeting, Last, Tag
 
 __all__ = ["BadLimit", "BadRequest", "CannotOpen", "DefinedOtherwise", "Depth", "Doomed", "Element", "Greeting", "Last", "LogFull", "Lost", "Manager",
-           "NoQueue", "NoRegistrant", "NotServed", "NoUnit", "OldVersion", "Queue", "Refused", "Registrant", "ServeError", "StateTooLarge", "Tag",
+           "NoQueue", "NoRegistrant", "NotCarried", "NotServed", "NoUnit", "NumbersEnd", "OldVersion", "Queue", "Refused", "Registrant", "ServeError", "StateTooLarge", "Tag",
            "TooManyQueues", "Unit", "UnitNotGreater"]

@@ -67,6 +67,16 @@ class StateTooLarge(Refused):
     word = "large"
 
 
+class NumbersEnd(Refused):
+    """More records were done than a checkpoint may count."""
+    word = "ended"
+
+
+class NotCarried(Refused):
+    """The new log could not be made: what the process said on standard error tells why."""
+    word = "carry"
+
+
 class BadRequest(ServeError):
     """The line was no request: a fault of the caller. Every unit that was open is doomed."""
 

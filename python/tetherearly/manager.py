@@ -124,10 +124,13 @@ class Manager:
     """The queues of one log, which a process `rqlog serve` of this program keeps. Threads share it, each with units of its own.
 
     `log` is made if it is not there, unless `create` is false. `program` is what stands before `serve`: the words of `rqlog`, or the
-    variable RQLOG if none are given. A log that another program holds is tried again for `patience` seconds."""
+    variable RQLOG if none are given. A log that another program holds is tried again for `patience` seconds. A log of `carry_at` bytes goes on
+    in a new one by itself: of 3 GiB, if that is not told."""
 
-    def __init__(self, log: str, create: bool = True, program: Optional[Sequence[str]] = None, patience: float = 5.0) -> None:
-        words = [*(program or [os.environ.get("RQLOG", "rqlog")]), "serve", *["--create"] * create, log]
+    def __init__(self, log: str, create: bool = True, program: Optional[Sequence[str]] = None, patience: float = 5.0,
+                 carry_at: Optional[int] = None) -> None:
+        carries = [] if carry_at is None else ["--carry-at", str(natural(carry_at, 2**32 - 1))]
+        words = [*(program or [os.environ.get("RQLOG", "rqlog")]), "serve", *["--create"] * create, *carries, log]
         until = time.monotonic() + patience
         while (pipes := opened(words, is_last=time.monotonic() > until)) is None:
             time.sleep(PAUSE)
@@ -184,6 +187,10 @@ class Manager:
     def checkpoint(self) -> int:
         """Writes the state into the log, from where a restart may begin; the offset."""
         return int(self.ask("checkpoint").split()[1])
+
+    def carry(self) -> int:
+        """Goes on in a new log, which begins with the state: behind how many records. The old log has that number behind its name."""
+        return int(self.ask("carry").split()[1])
 
     def kill(self) -> None:
         """Ends the process as a crash does: for tests."""

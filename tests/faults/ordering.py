@@ -76,6 +76,26 @@ def order() -> None:
             check(f"{line} behind {len(rest)} bytes: synced, and then told", told, (1 if is_half else 0, True, []))
 
 
+def its_name() -> None:
+    """Whoever gave the log its name may have been killed before the disk knew of it: that is told to the disk before anything is written.
+    If it fails, nothing is."""
+    if not has_shim("to see the order of calls"):
+        return
+    put("more.script", b"register 0 bob\n")
+    put("half.script", b"register 0 bob\ncommit 9\n")
+    before, folder = content(plain("named", OPENED)), Call("d", os.stat(".").st_ino, 0)
+    for line in (*APPENDING, "recover LOG"):
+        put("named.log", before)
+        log = os.stat("named.log").st_ino
+        calls = noted(line, "named.log")[1]
+        written = next((at for at, it in enumerate(calls) if it.letter in "wt" and it.file == log), 0)
+        check(f"{line}: the disk knows of the name, and then it is written", folder in calls[:written], True)
+        put("named.log", before)
+        ended = noted(line, "named.log", fails="d")[0]
+        said = ended[2].endswith(b": nothing was appended\n") or line.startswith("recover")
+        check(f"{line}: the disk does not know of the name", (ended[:2], said, content("named.log") == before), ((3, b""), True, True))
+
+
 def taken_back() -> None:
     """What was appended and could not be written whole is cut off, and that is synced, before it is told."""
     if not has_shim("to see the order of calls"):
@@ -150,4 +170,4 @@ def read_by_another() -> None:
             check(f"{line}, read by another", (said, content(log)), ((3, b"", True), before))
 
 
-PARTS = [order, taken_back, another_writer, read_by_another]
+PARTS = [order, its_name, taken_back, another_writer, read_by_another]

@@ -157,6 +157,7 @@ def of_rqlog(write: str, logs: list[str], carried: str, folder: str) -> int:
         name = os.path.basename(log)
         for word in ("restart", "audit"):
             wrong += sweep.row(f"`rqlog {word}` {name}", [word, log])
+        wrong += sweep.row(f"`rqlog follow` {name}", ["follow", "--from", log])
         for word in ("close", "carry"):
             wrong += sweep.row(f"`rqlog {word}` {name}", [word, log, "{made}/log"])
     return wrong

@@ -23,6 +23,9 @@ or a public method of a type that it exports; a law, which takes and answers not
 functions name that it reaches. So do the programs, whose lines are asked from outside. With --direct a call is reached if a test in memory names
 it itself. Functions are told apart by their names and, if they belong to one, by their types: so this can take a call for reached that shares its
 name with another one, and never the other way round.
+With --tests-alone it lists the public calls that no program and no other library names: tests at most. Only what stands on a library can name its
+calls. It is a table to look at, and the same holds of shared names. What a page of the library offers to callers may stand there, and so may what
+the contracts of the statement ask for.
 """
 from __future__ import annotations
 import argparse, glob, os, re
@@ -419,7 +422,7 @@ class Call(NamedTuple):
         if self.owner:
             owners = "|".join([self.owner, *ALIASES.get(self.owner, [])])
             return re.search(rf"\b(?:(?:{owners})(?:::<[^>]*>)?|Self)::{self.name}\b", text) is not None
-        return re.search(rf"(?<![.\w]){self.name}(?:::<[^>]*>)?\s*\(", text) is not None
+        return re.search(rf"(?:(?<![.\w:])|\b[a-z]\w*::){self.name}(?:::<[^>]*>)?\s*\(", text) is not None
 
 
 class Function(NamedTuple):
@@ -490,12 +493,7 @@ def print_unreached(crates: list[str], direct: bool) -> int:
         seen = {function.call for function in named(functions, tests)}
     else:
         seen = reached(functions, tests + [function.body for crate in sorted(PROGRAMS) for function in functions_of(crate)])
-    public = []
-    for crate in libraries:
-        names = exported(crate)
-        public += [function.call for function in functions
-                   if function.call.crate == crate and function.is_public and not function.is_law()
-                   and (function.call.owner or function.call.name) in names]
+    public = public_calls(libraries, functions)
     missing = [call for call in public if call not in seen]
     for call in missing:
         print(call.title())
@@ -503,16 +501,49 @@ def print_unreached(crates: list[str], direct: bool) -> int:
     return bool(missing)
 
 
+def stands_on() -> dict[str, set[str]]:
+    """What each crate stands on, and what that stands on."""
+    rows = (line.partition(":") for line in text_in(os.path.join(TOP, "crates.txt")).splitlines() if ":" in line and not line.startswith("#"))
+    found: dict[str, set[str]] = {}
+    for head, _, below in rows:
+        direct = set(below.split())
+        found[head.split()[0]] = direct.union(*(found.get(it, set()) for it in direct))
+    return found
+
+
+def public_calls(libraries: list[str], functions: list[Function]) -> list[Call]:
+    """What the libraries export, laws aside."""
+    names = {crate: exported(crate) for crate in libraries}
+    return [it.call for it in functions if it.is_public and not it.is_law() and (it.call.owner or it.call.name) in names[it.call.crate]]
+
+
+def print_tests_alone(crates: list[str]) -> None:
+    """Prints the public calls that no program and no other library names."""
+    libraries, below = [it for it in crates if it not in TESTS | PROGRAMS], stands_on()
+    functions = [function for crate in libraries for function in functions_of(crate)]
+    texts = {crate: "\n".join(it.body for it in functions_of(crate)) for crate in crates if crate not in TESTS}
+    alone = [call for call in public_calls(libraries, functions)
+             if not any(call.is_named_in(text) for crate, text in texts.items() if call.crate in below.get(crate, set()))]
+    for call in alone:
+        inside = "its own library" if call.is_named_in(texts[call.crate]) else "no library"
+        print(f"{call.title()}: {inside}")
+    print(f"{len(alone)} public calls that no program and no other library names")
+
+
 def takes(line: argparse.ArgumentParser) -> None:
     line.add_argument("--files", nargs="*", metavar="CRATE")
     line.add_argument("--untested", action="store_true")
     line.add_argument("--direct", action="store_true")
+    line.add_argument("--tests-alone", action="store_true")
 
 
 def main(options: argparse.Namespace) -> int | None:
     crates = sorted(os.path.basename(os.path.dirname(it)) for it in glob.glob(os.path.join(CRATES, "*", "src")))
     if options.files is not None:
         print_files(options.files or crates)
+        return 0
+    if options.tests_alone:
+        print_tests_alone(crates)
         return 0
     if options.untested:
         return print_unreached(crates, options.direct)

@@ -1,26 +1,32 @@
-"""Quick, of 400 sequences, behind the gate's proofs; by hand of 10,000. Drives a queue manager over memory by random calls, and holds each
-answer, and the log that it writes, beside the second program in Python; then lets it go on from what crashes leave of that log.
+"""Quick, of 400 sequences, in the gate; by hand of 10,000. Drives a queue manager over memory by random calls, and holds each answer, and
+the log that it writes, beside the second program in Python; then lets it go on from what crashes leave of that log.
 
-The program `rqdrive` takes a line a call, and answers each with a line. The first is `new VERSION`. A line of a script is done by the call
-of its kind, and a BEGIN gets the next number whatever it tells; `take LINE` does the record as it is told; `later UNIT` is a COMMIT that
-need not be safe yet; `settle` makes all safe; `look WHAT` shows something; `left SYNCED HEX` lets another manager go on behind these bytes,
-of which so many were synced, and begins a unit there. What is not lawful is answered by a rule that it breaks.
+The program `rqdrive` is built without a proof by tools/tests.py, which needs the toolchain, unless one is named that was built. It takes a line
+a call, and answers each with a line. With `new VERSION`, which has no answer, it begins anew. A line of a script is done by the call of its kind, and a BEGIN gets the
+next number whatever it tells; `take LINE` does the record as it is told; `later UNIT` is a COMMIT that need not be safe yet; `settle` makes
+all safe; `look WHAT` shows something; `left SYNCED HEX` lets another manager go on behind these bytes, of which so many were synced, and
+begins a unit there. What is not lawful is answered by a rule that it breaks.
 """
 from __future__ import annotations
-import argparse, multiprocessing, os, random, struct, subprocess
-from collections.abc import Iterable
+import argparse, multiprocessing, os, pickle, random, re, struct, subprocess, sys
+from collections.abc import Iterable, Iterator
+from typing import NamedTuple
 
 import frames as records
 from frames import HEADER, header_of, listed
 from second import DRAWN, Machine, Note, Restart, record_of
-from trying import TOP, check
+from trying import TOP, check, put
 
 # So many lines a sequence has before crashes.
 LENGTH = 40
 # How often other lines are drawn than those of second.py, which has the kinds of records.
 OTHERS = {"take": 3, "later": 6, "settle": 3, "queues": 1, "units": 3, "first": 6, "last": 4, "logged": 3}
-# So many crashes are tried, but of one sequence of so many a crash at each length; and so long is the garbage that one may leave.
+# So many crashes are tried, but of one sequence of so many a crash at each length; and so long is the garbage
+# that one may leave.
 CRASHES, EACH, GARBAGE = 6, 100, 200
+# Behind answers of so many bytes it begins anew, or another run does: a run may not print more than a MiB. It may take so many seconds. So
+# many sequences are drawn at a time.
+MOST, SECONDS, SOME = 450_000, 60, 50
 GREATEST = 2**64 - 1
 NAMES = [b"ann", b"an", b"b-1", b"c.d_e"]
 
@@ -307,34 +313,126 @@ class Sequence:
         return [left for left in (self.left(*it) for it in crashes) if left is not None]
 
 
-def driven(task: tuple[str, int, bool]) -> list[tuple[str, str, str]]:
-    """Drives a sequence: each line that is answered otherwise, its answer, and the right one."""
-    program, number, tries_each = task
-    it = Sequence(random.Random(number), 1 + number % 2)
-    it.settle()
-    it.logged()
-    lost = it.each_crash() if tries_each else it.crashes(CRASHES)
-    ended = subprocess.run([program], input=b"".join(line + b"\n" for line in it.lines), stdout=subprocess.PIPE)
-    got = ended.stdout.decode().split("\n")[:-1]
-    name = f"sequence {number}"
-    wrong = [(f"{name}: what a crash leaves", left.hex(), "all that was safe") for left in lost]
-    wrong += [(f"{name}: {line.decode()}", answer, " or ".join(right))
-              for line, answer, right in zip(it.lines[1:], got, it.answers) if answer not in right]
-    if (ended.returncode, len(got)) != (0, len(it.answers)):
-        wrong.append((f"{name}: status and count of answers", f"{ended.returncode}, {len(got)}", f"0, {len(it.answers)}"))
-    return wrong
+# --- what is asked of the program --------------------------------------------------------------------------------------
+
+class Asked(NamedTuple):
+    """A line, of which sequence it is, and each answer that is right: none, if it has no answer."""
+    number: int
+    line: bytes
+    right: tuple[str, ...] | None
+
+
+def asked(it: Sequence, number: int) -> Iterator[Asked]:
+    """The lines of a sequence, which begins anew where its crashes are many: these ask nothing of what was done before."""
+    first, *lines = it.lines
+    told = 0
+    for at, (line, right) in enumerate(zip(lines, it.answers)):
+        if at == 0 or told > MOST:
+            told = 0
+            yield Asked(number, first, None)
+        if line.startswith(b"left "):
+            told += len(right[0])
+        yield Asked(number, line, right)
+
+
+def drive(task: tuple[str, range, list[int]]) -> list[tuple[str, str, str]]:
+    """Draws some sequences. They go into the folder, as many for each run of the program as it may answer: what is sent, and beside it what
+    is right. Answers what is wrong of the logs alone."""
+    folder, numbers, each = task
+    lost: list[tuple[str, str, str]] = []
+    lines: list[Asked] = []
+    for number in numbers:
+        it = Sequence(random.Random(number), 1 + number % 2)
+        it.settle()
+        it.logged()
+        found = it.each_crash() if number in each else it.crashes(CRASHES)
+        lost += [(f"sequence {number}: what a crash leaves", left.hex(), "all that was safe") for left in found]
+        lines += asked(it, number)
+    put_runs(folder, lines)
+    return lost
+
+
+def put_runs(folder: str, lines: list[Asked]) -> None:
+    """Puts the lines into files, each for a run of the program. A run begins where it begins anew."""
+    told, run = 0, [lines[0]]
+    for it in lines[1:]:
+        if it.right is None and told > MOST:
+            put_run(folder, run)
+            told, run = 0, []
+        told += len(it.right[0]) if it.right else 0
+        run.append(it)
+    put_run(folder, run)
+
+
+def put_run(folder: str, run: list[Asked]) -> None:
+    name = f"{run[0].number}.{len(os.listdir(os.path.join(folder, 'right')))}"
+    put(os.path.join(folder, "sent", name), b"".join(it.line + b"\n" for it in run))
+    put(os.path.join(folder, "right", name), pickle.dumps([it for it in run if it.right is not None]))
+
+
+def wrong_of(run: list[Asked], status: int, got: list[str]) -> list[tuple[str, str, str]]:
+    """Each line of a run that is answered otherwise, its answer, and the right one."""
+    found = [(f"sequence {it.number}: {it.line.decode()}", answer, " or ".join(it.right or ()))
+             for it, answer in zip(run, got) if answer not in (it.right or ())]
+    if (status, len(got)) != (0, len(run)):
+        found.append((f"sequences {run[0].number} to {run[-1].number}: status and count of answers", f"{status}, {len(got)}", f"0, {len(run)}"))
+    return found
+
+
+# --- what it answers -----------------------------------------------------------------------------------------------------
+
+def ended_of(task: tuple[str, str]) -> tuple[str, int, list[str]]:
+    """How a built program ends over a file."""
+    program, path = task
+    with open(path, "rb") as sent:
+        ended = subprocess.run([program], stdin=sent, stdout=subprocess.PIPE)
+    return os.path.basename(path), ended.returncode, ended.stdout.decode().split("\n")[:-1]
+
+
+def tried(folder: str) -> Iterator[tuple[str, int, list[str]]]:
+    """How the program ends over each file, built without a proof. What else is said of it is told."""
+    words = [sys.executable, os.path.join(TOP, "tools", "tests.py"), "rqdrive", str(SECONDS), folder]
+    with subprocess.Popen(words, stdin=subprocess.DEVNULL, stdout=subprocess.PIPE, text=True, errors="replace") as going:
+        got: list[str] | None = None
+        for line in going.stdout:
+            begun, end = re.match("== [0-9.]+$", line), re.match(r"case=(\S+) run=(\w+) (?:status=(\d+))?", line)
+            if begun:
+                got = []
+            elif end:
+                yield end[1], int(end[3]) if end[2] == "ended" and end[3] else -1, got or []
+                got = None
+            elif got is not None:
+                got.append(line.rstrip("\n"))
+            else:
+                print(line, end="")
+    check("status of tools/tests.py rqdrive", going.returncode, 0)
 
 
 def takes(line: argparse.ArgumentParser) -> None:
     line.add_argument("--sequences", type=int, default=400)
     line.add_argument("--from", dest="first", type=int, default=0, help="the number of the first sequence")
-    line.add_argument("--drive", default=os.path.join(TOP, "crates", "rqdrive", "out", "rqdrive"), help="the built program rqdrive")
+    line.add_argument("--drive", default="", help="a built program rqdrive")
 
 
 def main(options: argparse.Namespace) -> None:
-    program = os.path.abspath(options.drive)
-    tasks = ((program, options.first + number, number % EACH == 0) for number in range(options.sequences))
+    sent, right = (os.path.join(options.folder, it) for it in ("sent", "right"))
+    for it in (sent, right):
+        os.makedirs(it)
+    numbers = range(options.first, options.first + options.sequences)
+    each = [it for it in numbers if it % EACH == 0]
+    tasks = ((options.folder, numbers[at:at + SOME], each) for at in range(0, len(numbers), SOME))
     with multiprocessing.Pool(len(os.sched_getaffinity(0))) as pool:
-        for wrong in pool.imap(driven, tasks, chunksize=8):
-            for name, got, want in wrong or [("all answers", "", "")]:
+        for wrong in pool.imap_unordered(drive, tasks):
+            for name, got, want in wrong or [("what crashes leave", "", "")]:
                 check(name, got, want)
+        left = {*os.listdir(right)}
+        program = os.path.abspath(options.drive)
+        ran = pool.imap_unordered(ended_of, [(program, os.path.join(sent, it)) for it in left]) if options.drive else tried(sent)
+        for name, status, answers in ran:
+            left.discard(name)
+            with open(os.path.join(right, name), "rb") as file:
+                run: list[Asked] = pickle.load(file)
+            wrong = wrong_of(run, status, answers)
+            for what, got, want in wrong or [(f"sequence {it}", "", "") for it in {it.number for it in run}]:
+                check(what, got, want)
+    check("runs that did not end", sorted(left), [])

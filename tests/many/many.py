@@ -1,5 +1,6 @@
 """Quick. Tries rq-many over small logs, with rqlog and with programs that stand in its place: what it tells, skips, refuses and leaves. With
---wrong it tries wrong versions of rq-many: the parts that are named for one must find it."""
+--wrong it tries wrong versions of rq-many: the parts that are named for one must find it. With --draw it tries so many of them, drawn by the sum
+of the clone's files."""
 from __future__ import annotations
 import argparse, hashlib, importlib.machinery, importlib.util, json, os, pty, random, re, resource, shutil, signal, socket, stat
 import subprocess, sys, tempfile, time
@@ -8,7 +9,7 @@ from concurrent.futures import ThreadPoolExecutor
 from contextlib import contextmanager, suppress
 from typing import Any, Callable, Dict, List, NamedTuple, Optional
 
-from trying import EXAMPLES, HERE, TOP, check, program_of
+from trying import EXAMPLES, HERE, TOP, check, drawn, program_of
 import trying
 
 # The report that README shows of this log.
@@ -773,23 +774,26 @@ def try_one(rqlog: str, text: str, wrong: Wrong, folder: str) -> bool:
     return is_found(rqlog, copy, wrong.parts)
 
 
-def try_all(rqlog: str, program: str) -> None:
+def try_some(rqlog: str, program: str, some: List[Wrong]) -> None:
+    """Tries some of the wrong versions; all of them still are versions of the program."""
     with open(program, encoding="utf-8") as file:
         text = file.read()
+    for wrong in WRONG:
+        check(f"{wrong.sin}: its text stands once", text.count(wrong.old), 1)
     with tempfile.TemporaryDirectory(prefix="rq-many-wrong-") as folder, ThreadPoolExecutor(len(os.sched_getaffinity(0))) as pool:
         begun = []
-        for at, wrong in enumerate(WRONG):
-            check(f"{wrong.sin}: its text stands once", text.count(wrong.old), 1)
+        for at, wrong in enumerate(some):
             place = os.path.join(folder, str(at))
             os.mkdir(place)
             begun.append(pool.submit(try_one, rqlog, text, wrong, place))
-        for wrong, found in zip(WRONG, begun):
+        for wrong, found in zip(some, begun):
             check(f"found: {wrong.sin}", found.result(), True)
 
 
 def takes(line: argparse.ArgumentParser) -> None:
     line.add_argument("--program", default=os.path.join(TOP, "rq-many"))
     line.add_argument("--wrong", action="store_true")
+    line.add_argument("--draw", type=int, default=len(WRONG), help="of the wrong versions so many, by the sum of the clone's files")
     line.add_argument("parts", nargs="*", metavar="PART")
 
 
@@ -797,7 +801,7 @@ def main(options: argparse.Namespace) -> None:
     known = {it.__name__: it for it in PARTS}
     Room.rqlog, Room.program = trying.RQLOG or program_of("rqlog"), os.path.abspath(options.program)
     if options.wrong:
-        try_all(Room.rqlog, Room.program)
+        try_some(Room.rqlog, Room.program, drawn(WRONG, options.draw))
     else:
         for name in options.parts or known:
             try_part(known[name])

@@ -5,7 +5,7 @@ rows ask (tables/writing.py).
 """
 from __future__ import annotations
 import json, os, random, re
-from collections.abc import Callable
+from collections.abc import Callable, Iterable
 from itertools import islice
 
 from frames import (CARRIED_AT, HEADER, START_BODIES, Frame, abort, begin, carried_bytes, carried_header_of, chained, checkpoint, commit, define,
@@ -16,9 +16,11 @@ from tables.asking import MAKE
 from tables.lines import TABLES, cases
 from tables.works import SPELLED, with_points
 from tables.writing import Standing, drawn_lines
-from trying import DONE, MORE, START, Ended, appended, check, check_each, content, lines_of, plain, put, refused, rqlog, run, says
+from trying import (DONE, MORE, RQLOOK, START, Ended, appended, check, check_each, content, done, lines_of, plain, put, refused, rqlog, run,
+                    says)
 
-MOST = 2**32 - 1
+# The greatest next record numbers that a log and a carried file spell.
+OF_LOGS, MOST = 2**32 - 1, 2**63 - 1
 
 REPORT = re.compile(rb"front (\d+) records, (\d+) of (\d+) bytes, (\w+)\n(.*)", re.DOTALL)
 
@@ -269,7 +271,7 @@ def by_pipes() -> None:
 
 
 def near_the_end() -> None:
-    """Numbers end at 2^32 - 1: said when a log is carried on that could pass it, and refused at it."""
+    """Numbers end at 2^63 - 1: said when a log is carried on that could pass it, and refused at it."""
     for left in (10**9, 1000, 2, 1, 0):
         state = spelled((MOST - left, 1, 1, 0), [b"jobs"], [])
         log = put("near.carried", carried_bytes(1, bytes(32), [checkpoint(state)])) if left else None
@@ -278,15 +280,85 @@ def near_the_end() -> None:
         script = b"register 0 ann\n" * 3
         room = left - 1
         want = appended(3, len(content(log)) + 3 * 44) if room >= 3 else says(
-            f"script line {room + 1}: register 0 ann: numbers end at 4294967295: begin a new log; nothing was appended")
+            f"script line {room + 1}: register 0 ann: numbers end at 9223372036854775807: begin a new log; nothing was appended")
         check(f"append with {room} left", rqlog("append", log, script=script), want)
         put(log, carried_bytes(1, bytes(32), [checkpoint(state)]))
         ended = rqlog("carry", log, f"near.{left}")
         if room == 0:
-            check("carry with none left", ended, says("numbers end at 4294967295: begin a new log"))
+            check("carry with none left", ended, says("numbers end at 9223372036854775807: begin a new log"))
         else:
             warned = b"rqlog: %d records more, and numbers end: begin a new log before\n" % room if room < 10**8 else b""
             check(f"carry with {room} left", (ended[0], ended[2]), (0, warned))
+
+
+def numbered(next_record: int) -> bytes:
+    """A carried file whose first record has this number, or nearly so: an element stands there that was put in two records before."""
+    return begun_with(spelled((next_record, 1, 1, 0), [b"jobs"], [(next_record - 2, b"a")]), bytes(32))
+
+
+def shown(next_record: int, size: int, units: int, elements: Iterable[tuple[int, bytes]]) -> bytes:
+    """What a restart says of such a file of this size, behind so many units that were committed."""
+    lines = b"".join(b"e %d from 0 priority 5 attempts 0 %s\n" % (id, payload) for id, payload in elements)
+    return b"front %d records, %d of %d bytes, whole\nunits %d committed, 0 aborted, 0 cut off\nqueue 0 jobs limit 0 error -\n" % (
+        next_record, size, size, units) + lines
+
+
+def read_back(name: str, next_record: int, points: bytes, shows: bytes) -> None:
+    """All that reads such a file agrees on it; rq takes it as a log from its checkpoint on if a log can spell that."""
+    check(f"restart of {name}", rqlog("restart", name), (0, shows, b""))
+    check(f"audit of {name}", rqlog("audit", name), (0, b"checkpoint 72 carried\n" + points, b""))
+    looked = done(RQLOOK, "report", name)
+    check(f"rqlook report of {name}", (looked[0], looked[1].endswith(shows)), (0, True))
+    checked = done(RQLOOK, "check", name)
+    check(f"rqlook check of {name}", (checked[0], b"whole, each checkpoint is true" in checked[1]), (0, True))
+    want = (0, shows, b"") if next_record <= OF_LOGS else refused("bad checkpoint")
+    check(f"restart-at of {name}, as a log", run("restart-at", read_as_log(name), CARRIED_AT, 2, 1), want)
+
+
+def beyond_logs() -> None:
+    """A carried file may have more records before it than a log can number: it is restarted, audited, looked at, marked, appended to,
+    closed, recovered and carried on like any other."""
+    for next_record in (OF_LOGS - 1, OF_LOGS, OF_LOGS + 1, 2**32 + 5, 2**40, 2**63 - 100):
+        log, old = put("far.carried", numbered(next_record)), next_record - 2
+        read_back(log, next_record, b"", shown(next_record + 1, len(content(log)), 1, [(old, b"61")]))
+        script = b"begin 2\nenqueue 2 0 5 - 0 62\ncommit 2\n"
+        whole = framed(framed(framed(content(log), begin(2)), enqueue(2, 0, payload=b"b")), commit(2))
+        check(f"append behind {next_record}", (rqlog("append", log, script=script), content(log)), (appended(3, len(whole)), whole))
+        both = [(old, b"61"), (next_record + 2, b"62")]
+        read_back(log, next_record, b"", shown(next_record + 4, len(whole), 2, both))
+        told = checkpoint(spelled((next_record + 4, 2, 2, 0), [b"jobs"], [(old, b"a"), (next_record + 2, b"b")]))
+        check(f"checkpoint behind {next_record}", (rqlog("checkpoint", log), content(log)), ((0, b"%d\n" % len(whole), b""), framed(whole, told)))
+        marked = content(log)
+        read_back(log, next_record, b"checkpoint %d true\n" % len(whole), shown(next_record + 5, len(marked), 2, both))
+        carried_again(log, next_record + 5, both)
+        put(log, framed(marked, begin(3)) + b"\0\0")
+        check(f"recover behind {next_record}", (rqlog("recover", log)[0], content(log)), (0, framed(framed(marked, begin(3)), abort(3))))
+
+
+def carried_again(log: str, next_record: int, elements: list[tuple[int, bytes]]) -> None:
+    """The file goes on in another one, and closed in a third, with the numbers going on."""
+    members = [(id, bytes.fromhex(payload.decode())) for id, payload in elements]
+    want = begun_with(spelled((next_record, 2, 2, 0), [b"jobs"], members), content(log)[-32:])
+    told = 0, b"carried on behind %d records, %d bytes\n" % (next_record, len(want))
+    check(f"carry behind {next_record}", (rqlog("carry", log, "farther.carried")[:2], content("farther.carried")), (told, want))
+    read_back("farther.carried", next_record, b"", shown(next_record + 1, len(want), 2, elements))
+    rqlog("append", "farther.carried", script=b"begin 3\n")
+    check(f"close behind {next_record}", rqlog("close", "farther.carried", "far.closed", "--force"), DONE)
+    check("its bytes", content("far.closed"), framed(framed(want, begin(3)), abort(3)))
+    os.remove("farther.carried")
+
+
+def beyond_all() -> None:
+    """No file begins with a state of a greater next record number; one may come to it, and is restarted, but not carried on."""
+    for line in ("append {}", "checkpoint {}", "carry {} third", "restart {}", "audit {}", "close {} third"):
+        log = put("beyond.carried", numbered(MOST + 1))
+        ended = rqlog(*line.format(log).split(), script=b"register 0 ann\n"), content(log), os.path.exists("third")
+        said = says("beyond.carried: bad checkpoint: rqlook check tells what the file is")
+        check(f"{line} beyond all", ended, (said, numbered(MOST + 1), False))
+    log = put("beyond.carried", framed(framed(numbered(MOST), begin(2)), commit(2)))
+    check("restart past all", rqlog("restart", log), (0, shown(MOST + 3, len(content(log)), 2, [(MOST - 2, b"61")]), b""))
+    for line in ("carry {} third", "checkpoint {}"):
+        check(f"{line} past all", rqlog(*line.format(log).split()), says("numbers end at 9223372036854775807: begin a new log"))
 
 
 # --- carried files ---------------------------------------------------------------------------------------------------
@@ -434,5 +506,5 @@ def closed_behind_a_rest() -> None:
 
 
 PARTS = [words, begins, appends, lawful, drawn_rules, kills, damaged, cut_anywhere, marks, carries, cut_behind_a_carry]
-PARTS += [without_a_beginning, by_pipes, near_the_end]
+PARTS += [without_a_beginning, by_pipes, near_the_end, beyond_logs, beyond_all]
 PARTS += [goes_on, within_a_unit, false_checkpoints, in_pieces, lengths_appended, a_reader, no_log_to_rq, closed_onto_itself, closed_behind_a_rest]

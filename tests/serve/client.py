@@ -34,6 +34,13 @@ def page() -> None:
     check("the page's examples", (found.failed, found.attempted > 20), (0, True))
 
 
+def first_screen() -> None:
+    """The lines that the repository's first page shows do what they say."""
+    lines = PYTHON.findall(text_in(os.path.join(TOP, "README.md")))[0]
+    done = subprocess.run([sys.executable, "-c", lines], env={**os.environ, "PYTHONPATH": PACKAGE}, capture_output=True, text=True)
+    check("the first page's lines", (done.returncode, done.stdout, done.stderr, len(lines.split("\n")) < 13), (0, "b'pack 7 boxes'\n", "", True))
+
+
 def started() -> tuple[Manager, Queue]:
     m = Manager("client.log")
     return m, m.define("jobs", 3, m.define("dead"))
@@ -88,6 +95,30 @@ def units() -> None:
     except Refused as refused:
         check("a refusal that was caught within", refused.word, "doomed")
     check("nothing of it stands", (jobs.depth()[4:], m.checkpoint() > 40), ((0, 0, 0), True))
+    m.close()
+
+
+def carries() -> None:
+    """A log goes on in a new one, with the units that are open; by itself, too."""
+    m, jobs = started()
+    ann = jobs.register("ann")
+    open_unit = m.unit()
+    element = open_unit.enqueue(jobs, b"a", by=ann.next())
+    check("it is carried on", (m.carry(), os.path.exists("client.log.5")), (5, True))
+    open_unit.commit()
+    check("what stands", ([it.id for it in jobs.free()], jobs.last("ann")), ([element], ("enqueue", 1, element)))
+    trying.put("client.log.7", b"another file")
+    check("a name that is taken", (raised(m.carry), jobs.depth().free), ("NotCarried", 1))
+    m.close()
+    m = Manager("client.log", carry_at=500)
+    jobs = m.queue("jobs")
+    for number in range(40):
+        with m.unit(later=True) as u:
+            u.enqueue(jobs, b"x" * 20)
+            u.dequeue(jobs)
+    m.settle()
+    check("by itself", (len(os.listdir(".")) > 4, jobs.depth().free), (True, 1))
+    check("no such length", raised(lambda: Manager("client.log", carry_at=2**32)), "ValueError")
     m.close()
 
 
@@ -233,7 +264,7 @@ def installed() -> None:
     check("what is installed", sorted(set(eval(found.stdout)) - {"__pycache__"}), sorted(files))
 
 
-PARTS = [page, refusals, units, threads, pipes, lost, opening, desk, types, installed]
+PARTS = [page, first_screen, refusals, units, carries, threads, pipes, lost, opening, desk, types, installed]
 
 
 def main(options: object) -> None:

@@ -309,7 +309,11 @@ class Worker(Client):
 
 
 class Operator(Client):
-    """Looks, kills, settles, writes checkpoints; and makes faults, which doom units of others."""
+    """Looks, kills, settles, writes checkpoints, carries the log on if it does so; and makes faults, which doom units of others."""
+
+    def __init__(self, *of: object, carries: bool) -> None:
+        super().__init__(*of)
+        self.lines = ["settle", "settle", "checkpoint", "last jobs ann", *["carry"] * carries]
 
     def talk(self) -> Talk:
         while True:
@@ -317,7 +321,7 @@ class Operator(Client):
             yield from self.rests(6)
 
     def asks(self) -> Talk:
-        yield [(self.draw.choice(["settle", "settle", "checkpoint", "last jobs ann"]), hears_nothing)]
+        yield [(self.draw.choice(self.lines), hears_nothing)]
 
     def looks(self) -> Talk:
         yield [(line, hears_nothing) for line in ("queues", "queue jobs 5", "queue dead 1000")]
@@ -354,9 +358,9 @@ class Operator(Client):
             yield [("abort UNIT", hears_nothing)]
 
 
-def eight(ledger: Ledger, draw: random.Random) -> list[Client]:
+def eight(ledger: Ledger, draw: random.Random, carries: bool) -> list[Client]:
     """The clients, by the queue that each is registered with."""
     given = ledger, draw
     return [Customer("ann", "jobs", *given), Customer("bob", "jobs", *given), Worker("pat", "jobs", *given), Worker("peg", "jobs", *given),
             Worker("pip", "jobs", *given, gives_up=0.8), Worker("kim", "dead", *given), Worker("sam", "done", *given, puts=False),
-            Operator("op", "jobs", *given)]
+            Operator("op", "jobs", *given, carries=carries)]

@@ -6,10 +6,11 @@
 // DISK_IMAGES  where it keeps what is on the disk: `N` is the image of the file with the number N on its file system, `N.dirty` has a byte
 //              for each page that was written and not synced, and `names` the names in the folder when that was synced last, each with
 //              its number. All of it stays when the process is killed, as a disk does.
-// DISK_FAULT   what happens at the call DISK_AT, counted from 1 over writes, cuts and syncs:
+// DISK_FAULT   what happens at the call DISK_AT, counted from 1 over writes, cuts, syncs, and names that files get or lose:
 //              kills   the process is killed before it;     halves  it writes half, or does nothing, and the process is killed;
 //              fails   it fails (EIO), once;                full    it writes half, and from then on there is no room (ENOSPC);
 //              stuck   it fails, and so does each cut of a file from then on.
+// DISK_BEGINS  if it is there, calls are counted from when a file is made whose name ends with it.
 //              A sync that fails drops the pages that it was to write: the system calls them clean, and no later sync writes them.
 #define _GNU_SOURCE
 #include <dirent.h>
@@ -30,7 +31,7 @@
   if (!next) next = (__typeof__(&name))dlsym(RTLD_NEXT, #name)
 #define PAGE 4096
 
-static const char *folder, *images, *fault = "";
+static const char *folder, *images, *fault = "", *begins;
 static unsigned long at, calls;
 static int is_full, is_stuck;
 
@@ -38,6 +39,7 @@ __attribute__((constructor)) static void begin(void) {
   folder = getenv("DISK_FOLDER");
   images = getenv("DISK_IMAGES");
   if (getenv("DISK_FAULT")) fault = getenv("DISK_FAULT");
+  begins = getenv("DISK_BEGINS");
   if (getenv("DISK_AT")) at = strtoul(getenv("DISK_AT"), 0, 10);
 }
 
@@ -114,7 +116,7 @@ static void settle_names(void) {
 
 // Whether this call is the one that ends otherwise than well.
 static int is_met(int halves) {
-  if (++calls != at) return 0;
+  if (begins || ++calls != at) return 0;
   if (is("kills") || (is("halves") && !halves)) kill(getpid(), SIGKILL);
   is_full = is("full");
   is_stuck = is("stuck");
@@ -177,8 +179,30 @@ static int synced(int file, long call) {
 int fsync(int file) { return synced(file, SYS_fsync); }
 int fdatasync(int file) { return synced(file, SYS_fdatasync); }
 
+// Whether a path is of a name in the folder.
+static int is_within(const char *path) {
+  char parent[4096], real[4096];
+  const char *end = strrchr(path, '/');
+  if (!folder || !end) return 0;
+  snprintf(parent, sizeof parent, "%.*s", (int)(end - path), path);
+  return realpath(parent, real) && strcmp(real, folder) == 0;
+}
+
+// Whether a name is refused that is to be given or taken.
+static int is_refused(const char *path) { return is_within(path) && is_met(0) && !is("full"); }
+
+int link(const char *from, const char *to) { return is_refused(to) ? refused(EIO) : syscall(SYS_link, from, to); }
+int rename(const char *from, const char *to) { return is_refused(to) ? refused(EIO) : syscall(SYS_rename, from, to); }
+int unlink(const char *path) { return is_refused(path) ? refused(EIO) : syscall(SYS_unlink, path); }
+
+static int ends_with(const char *path, const char *end) {
+  size_t length = strlen(path), known = strlen(end);
+  return length >= known && strcmp(path + length - known, end) == 0;
+}
+
 // A file that begins has nothing on the disk, also if its number was another's.
 static int opened(const char *path, int flags, mode_t mode) {
+  if (begins && (flags & O_CREAT) && ends_with(path, begins)) begins = 0;
   int file = syscall(SYS_openat, AT_FDCWD, path, flags, mode), is_folder;
   unsigned long number = file >= 0 && (flags & O_CREAT) ? watched(file, &is_folder) : 0;
   if (number && !is_folder && length_of(file) == 0) {

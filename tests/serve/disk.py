@@ -44,9 +44,10 @@ class Disk:
         os.makedirs(folder)
         os.makedirs(images)
 
-    def variables(self, fault: str = "", at: int = 0) -> dict[str, str]:
-        """What a process is given that is to work on this disk."""
-        return {**os.environ, "LD_PRELOAD": self.library, "DISK_FOLDER": os.path.realpath(self.folder), "DISK_IMAGES": self.images,
+    def variables(self, fault: str = "", at: int = 0, begins: str = "") -> dict[str, str]:
+        """What a process is given that is to work on this disk. Calls are counted from when a file is made whose name ends so."""
+        counts = {"DISK_BEGINS": begins} if begins else {}
+        return {**os.environ, **counts, "LD_PRELOAD": self.library, "DISK_FOLDER": os.path.realpath(self.folder), "DISK_IMAGES": self.images,
                 "DISK_FAULT": fault, "DISK_AT": str(at)}
 
     def image(self, number: int) -> bytes:
@@ -54,7 +55,8 @@ class Disk:
 
     def image_of(self, name: str) -> bytes:
         """What of a file is on the disk for sure."""
-        return self.image(os.stat(os.path.join(self.folder, name)).st_ino)
+        path = os.path.join(self.folder, name)
+        return self.image(os.stat(path).st_ino) if os.path.exists(path) else b""
 
     def numbers(self) -> dict[str, int]:
         return {it: os.stat(os.path.join(self.folder, it)).st_ino for it in os.listdir(self.folder)}
@@ -63,27 +65,41 @@ class Disk:
         lines = (content(os.path.join(self.images, "names")) or b"").decode().splitlines()
         return {name: int(number) for number, name in (it.split(" ", 1) for it in lines)}
 
-    def cut_power(self, draw: random.Random) -> str:
-        """Leaves what is on the disk, and some of what was on its way there: what kind of rest that was."""
-        now = self.numbers()
-        files = {number: content(os.path.join(self.folder, name)) for name, number in now.items()}
-        names = draw.choice([now, self.synced_names() or now])
+    def cut_power(self, draw: random.Random, log: str) -> str:
+        """Leaves what is on the disk, and some of what was on its way there: what kind of rest that was. More may be on its way to the log alone than
+        there is."""
+        files = {number: content(os.path.join(self.folder, name)) for name, number in self.numbers().items()}
+        names = self.names_left(draw)
         how = draw.choice([None, some_pages, garbage])
         left = {}
-        for name, number in names.items():
+        for number in sorted({*names.values()}):
             image = self.image(number)
-            left[name] = how(image, files.get(number, image), draw) if how else image
-        self.begin_with(left)
+            file = files.get(number, image)
+            left[number] = how(image, file, draw) if how and (file != image or number == names[log]) else image
+        self.begin_with(names, left)
         return how.__name__ if how else "what was synced"
 
-    def begin_with(self, files: dict[str, bytes]) -> None:
-        """The folder has these files, all of them on the disk."""
+    def names_left(self, draw: random.Random) -> dict[str, int]:
+        """The names on the disk: all that are there, or those that were synced, or of each whichever of both."""
+        now = self.numbers()
+        synced = self.synced_names() or now
+        which = draw.choice([[now], [synced], [now, synced]])
+        found = {name: draw.choice(which).get(name) for name in sorted({*now, *synced})}
+        return {name: number for name, number in found.items() if number is not None}
+
+    def begin_with(self, names: dict[str, int], files: dict[int, bytes]) -> None:
+        """The folder has these names, of files that are on the disk."""
         for folder in (self.folder, self.images):
             shutil.rmtree(folder)
             os.makedirs(folder)
-        for name, it in files.items():
-            put(os.path.join(self.folder, name), it)
-        for number, it in ((number, files[name]) for name, number in self.numbers().items()):
+        first: dict[int, str] = {}
+        for name, number in names.items():
+            path = os.path.join(self.folder, name)
+            if number in first:
+                os.link(first[number], path)
+            else:
+                first[number] = put(path, files[number])
+        for number, it in ((os.stat(path).st_ino, files[number]) for number, path in first.items()):
             put(os.path.join(self.images, str(number)), it)
         lines = "".join(f"{number} {name}\n" for name, number in self.numbers().items())
         put(os.path.join(self.images, "names"), lines.encode())

@@ -1,19 +1,22 @@
 """Shared. The protocol of docs/SERVE.md on one thread: what each line answers, and which bytes the log has behind it; and what a start makes of
-a file. It stands on the second program in Python, and knows nothing of how lines come, and when they are written and synced."""
+a file, a plain log or one that was carried on. It stands on the second program in Python, and knows nothing of how lines come, and when they are
+written and synced."""
 from __future__ import annotations
-import re
+import re, struct
 from collections.abc import Callable, Iterator
 from typing import NamedTuple
 
 import frames as records
 from driven import body_of, spelling
-from frames import HEADER, chained, header_of, right_at
-from second import NAME, Machine, Restart, dashed
+from frames import CARRIED_AT, HEADER, carried_bytes, carried_header_of, chained, header_of, right_at
+from second import NAME, Element, Machine, Note, Restart, dashed
 
-# The longest line, before its LF; the longest log; the most bytes that a checkpoint's state may have.
-LONGEST_LINE, LONGEST_LOG, LARGEST_STATE = 131_254, 2**32 - 1, 268_435_455
+# The longest line, before its LF; the longest log; the most bytes that a checkpoint's state may have, and the most records that it counts.
+LONGEST_LINE, LONGEST_LOG, LARGEST_STATE, MOST_RECORDS = 131_254, 2**32 - 1, 268_435_455, 2**63 - 1
 # So many bytes at most are written and not synced; and so long is the frame of a COMMIT or an ABORT.
 WINDOW, END = 1_048_576, 45
+# A log of so many bytes is carried on, if nothing else is told.
+CARRY_AT = 3_221_225_472
 NUMBER = re.compile(rb"0|[1-9][0-9]*")
 HEX = re.compile(rb"(?:[0-9a-f]{2}){1,65535}")
 
@@ -77,7 +80,7 @@ FORMS: dict[bytes, tuple[tuple[Callable, ...], tuple[Callable, ...]]] = {
     b"define": ((name, number(65_535), error_name), ()), b"register": ((name, name), ()), b"deregister": ((name, name), ()),
     b"begin": ((), (U64,)), b"enqueue": ((U64, name, number(255), who, U64, payload), ()), b"dequeue": ((U64, name, who, U64), ()),
     b"commit": ((U64,), (later,)), b"settle": ((), ()), b"abort": ((U64,), ()), b"kill": ((name, U64), ()), b"checkpoint": ((), ()),
-    b"last": ((name, name), ()), b"queues": ((), ()), b"queue": ((name, U64), ()), b"close": ((), ()),
+    b"carry": ((), ()), b"last": ((name, name), ()), b"queues": ((), ()), b"queue": ((name, U64), ()), b"close": ((), ()),
 }
 
 
@@ -99,9 +102,29 @@ class Model:
         self.machine, self.log = machine, bytearray(log)
         self.doomed: set[int] = set()
         self.is_closed = False
+        # The logs that it went on from, each with the number of records behind it; and at which length the log is carried on by itself.
+        self.past: list[tuple[int, bytes]] = []
+        self.least, self.due = CARRY_AT, LONGEST_LOG + 1
+        # Makes the file of a new log, behind so many records: refused if that can't be made.
+        self.put_on: Callable[[int, bytes], None] = lambda records, new: None
+
+    def carries_at(self, least: int) -> Model:
+        """A log of so many bytes is carried on, if it has twice as many as it began with."""
+        self.least, self.due = least, max(least, 2 * begun(self.log))
+        return self
 
     def answer(self, line: bytes) -> Answer:
-        """Does what a line asks for, and answers it."""
+        """Does what a line asks for, and answers it; carries the log on behind it, if that is due."""
+        answer = self.answered(line)
+        if self.is_due():
+            self.carry_by_itself()
+        return answer
+
+    def is_due(self) -> bool:
+        """Whether the log is carried on now, behind a line."""
+        return not self.is_closed and len(self.log) >= self.due
+
+    def answered(self, line: bytes) -> Answer:
         try:
             kind, words = request_of(line)
             return getattr(self, kind)(*words)
@@ -251,12 +274,43 @@ class Model:
         self.write(("kill", queue, element))
         return Answer("ok", True)
 
-    def checkpoint(self) -> Answer:
-        at, state = len(self.log), spelling(self.machine)
+    def spelled(self) -> bytes:
+        """The state, as a checkpoint has it."""
+        if self.machine.place > MOST_RECORDS:
+            raise Refusal("ended", "no checkpoint counts so many records")
+        state = spelling(self.machine)
         if len(state) > LARGEST_STATE:
             raise Refusal("large", "the state is too large")
+        return state
+
+    def checkpoint(self) -> Answer:
+        at, state = len(self.log), self.spelled()
         self.write(("checkpoint",), b"\x09" + state)
         return Answer(f"checkpoint {at}", True)
+
+    def carry(self) -> Answer:
+        return Answer(f"carried {self.carry_on()}", True)
+
+    def carry_on(self) -> int:
+        """Goes on in a new log, which begins with the state: behind how many records."""
+        records = self.machine.place
+        new = carried_bytes(self.machine.version, bytes(self.log[-32:]), [b"\x09" + self.spelled()])
+        self.put_on(records, new)
+        self.machine.takes(("checkpoint",))
+        self.past.append((records, bytes(self.log)))
+        self.log = bytearray(new)
+        self.carries_at(self.least)
+        return records
+
+    def carry_by_itself(self) -> None:
+        try:
+            self.carry_on()
+        except Refusal:
+            self.put_off()
+
+    def put_off(self) -> None:
+        """It was not carried on: it is tried again when it has more than a tenth of what was left."""
+        self.due = len(self.log) + (LONGEST_LOG - len(self.log)) // 10 + 1
 
     def queues(self) -> Answer:
         def lines() -> Iterator[str]:
@@ -286,6 +340,94 @@ def listed(lines: Iterator[str] | list[str]) -> Answer:
     return Answer("\n".join([f"lines {len(found)}", *found]))
 
 
+# --- states --------------------------------------------------------------------------------------------------------
+
+class Spelled:
+    """The bytes of a state, read from the front."""
+
+    def __init__(self, bytes_: bytes) -> None:
+        self.bytes, self.at = bytes_, 0
+
+    def take(self, form: str) -> tuple:
+        self.at += struct.calcsize(form)
+        return struct.unpack(form, self.bytes[self.at - struct.calcsize(form):self.at])
+
+    def text(self, form: str) -> bytes:
+        """Bytes behind their count."""
+        (count,) = self.take(form)
+        self.at += count
+        return self.bytes[self.at - count:self.at]
+
+    def number(self, none: int, form: str) -> int | None:
+        (found,) = self.take(form)
+        return None if found == none else found
+
+    def list(self) -> range:
+        return range(*self.take(">I"))
+
+    def said(self, kind: int) -> tuple[str, int, int | None]:
+        return ("enqueue", "dequeue")[kind - 1], *self.take(">Q"), self.number(2**64 - 1, ">Q")
+
+    def registrant(self, machine: Machine) -> None:
+        at = (*self.take(">I"), self.text(">B"))
+        (kind,) = self.take(">B")
+        machine.registrants[at] = Note(*self.take(">Q"), 0, at, self.said(kind)) if kind else None
+
+    def element(self, machine: Machine) -> None:
+        id, home, origin, priority, attempts, mark = self.take(">QIIBQB")
+        (unit,) = self.take(">Q") if mark else (None,)
+        holds = {0: {}, 1: {"fresh": unit}, 2: {"held": unit}}[mark]
+        machine.elements[id] = Element(home, origin, priority, self.text(">H"), attempts, **holds)
+
+    def note(self, machine: Machine) -> None:
+        place, unit, queue = self.take(">QQI")
+        at = (queue, self.text(">B"))
+        machine.notes.append(Note(place, unit, at, self.said(*self.take(">B"))))
+
+    def put(self, machine: Machine) -> None:
+        """Puts the state into an empty machine."""
+        machine.place, machine.greatest, machine.committed, machine.aborted = self.take(">QQQQ")
+        for _ in self.list():
+            limit, error = self.take(">H")[0], self.number(2**32 - 1, ">I")
+            machine.queues.append((self.text(">B"), limit, error))
+        machine.open = {unit for _ in self.list() for unit in self.take(">Q")}
+        for one in (self.registrant, self.element, self.note):
+            for _ in self.list():
+                one(machine)
+
+
+class CarriedRestart(Restart):
+    """The front of a carried file: the state that it begins with, and what is behind that."""
+
+    def take(self, log: bytes) -> str:
+        if self.used > HEADER:
+            return super().take(log)
+        self.used = CARRIED_AT
+        why = super().take(log)
+        if why != "whole" or self.begins(self.bodies[0]):
+            return why
+        self.bodies = []
+        return "no checkpoint"
+
+    def begins(self, body: bytes) -> bool:
+        """Begins in the state that a checkpoint spells, if it is one."""
+        self.machine = Machine(self.machine.version)
+        try:
+            Spelled(body[1:]).put(self.machine)
+        except (struct.error, KeyError, IndexError):
+            return False
+        is_checkpoint = body == b"\x09" + spelling(self.machine)
+        self.machine.place += 1
+        return is_checkpoint
+
+
+def begun(log: bytes) -> int:
+    """How many bytes a log began with: its header, and of a carried file the frame of the state."""
+    if log[5] == 0:
+        return HEADER
+    return CARRIED_AT + 36 + int.from_bytes(log[CARRIED_AT:CARRIED_AT + 4], "big")
+
+
 # --- starts --------------------------------------------------------------------------------------------------------
 
 class Start:
@@ -294,14 +436,17 @@ class Start:
 
     def __init__(self, log: bytes) -> None:
         self.model: Model | None = None
-        if log[:HEADER] not in (header_of(1), header_of(2)) or len(log) > LONGEST_LOG:
+        is_carried = log[:HEADER] in (carried_header_of(1), carried_header_of(2))
+        if not is_carried and log[:HEADER] not in (header_of(1), header_of(2)) or len(log) > LONGEST_LOG:
             self.why = "not a log"
             return
-        found = Restart(log)
+        found = CarriedRestart(log) if is_carried else Restart(log)
         self.why, self.front, self.cut, self.aborted = found.why, log[:found.used], log[found.used:], found.cut_off
+        if is_carried and not found.bodies:
+            return
         if self.is_left_by_crash():
             found.machine.place += len(found.cut_off)
-            self.model = Model(found.machine, found.closed)
+            self.model = Model(found.machine, chained(self.front, map(records.abort, found.cut_off)))
 
     def has_right(self) -> bool:
         """Whether a frame that is right in itself stands behind the front."""

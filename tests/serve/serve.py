@@ -5,7 +5,7 @@ from __future__ import annotations
 import argparse, fcntl, functools, itertools, os, signal, subprocess, time
 
 import trying
-from frames import (HEADER, abort, begin, chained, checkpoint, commit, define, dequeue, enqueue, flipped, framed, header_of, register, spans_of,
+from frames import (CARRIED_AT, HEADER, abort, begin, chained, checkpoint, commit, define, dequeue, enqueue, flipped, framed, header_of, register, spans_of,
                     write_log)
 from model import LONGEST_LINE, WINDOW, Start, new_model
 from ordering import calls_of, unsynced
@@ -38,6 +38,8 @@ def session(name: str, given: Session, one_by_one: bool) -> None:
         model.abort_all()
     check(f"{name}: its end", (status, len(answers) - 1), (0, len(questions)))
     check(f"{name}: its log", content(log), bytes(model.log))
+    kept = {it: content(it) for it in os.listdir(".") if it.startswith(f"{log}.")}
+    check(f"{name}: the logs before it", kept, {f"{log}.{records}": it for records, it in model.past})
 
 
 def sessions() -> None:
@@ -69,6 +71,24 @@ def long_lines() -> None:
     check("a long line of no request", first_words(it.ask(["x" * LONGEST_LINE])[0]), "error")
     check("what it is behind these", it.ask([f"queue {name} 9"])[0].split("\n")[0], "lines 2")
     check("the end", it.end(), (0, [], ""))
+
+
+def digits() -> None:
+    """A payload is pairs of digits in lower case, whatever byte stands at any place of a short or a long one."""
+    for size, place in ((2, 0), (2, 1), (130, 0), (130, 1), (130, 63), (130, 64), (130, 129)):
+        lines, want, right = ["define jobs 0 -"], ["queue"], []
+        for unit, byte in enumerate((it for it in range(256) if it != 10), 1):
+            text = bytearray(b"7e" * (size // 2))
+            text[place] = byte
+            is_right = byte in b"0123456789abcdef"
+            lines += [f"begin {unit}", b"enqueue %d jobs 5 - 0 %s" % (unit, text), f"commit {unit}" if is_right else f"abort {unit}"]
+            want += ["unit", "element" if is_right else "error:", "ok"]
+            right += [text.decode()] if is_right else []
+        answers, status = session_of(f"digits{size}.{place}.log", [*lines, "queue jobs 99"], "--create")
+        check(f"digits, place {place} of {size}", ([it.split(" ")[0] for it in answers[1:-1]], status), (want, 0))
+        check(f"payloads, place {place} of {size}", [it.split(" ")[-1] for it in answers[-1].split("\n")[1:]], right)
+    odd = session_of("odd.log", ["define jobs 0 -", "begin 1", *(f"enqueue 1 jobs 5 - 0 {'a' * size}" for size in (1, 3, 129))], "--create")[0]
+    check("a digit that is left over", [it.split(" ")[0] for it in odd[3:]], ["error:"] * 3)
 
 
 def strange_bytes() -> None:
@@ -133,7 +153,7 @@ def syncs() -> None:
     """Which answers come behind a sync: those that say that all before them is safe."""
     if not has_shim("to see the order of calls"):
         return
-    safe = ["define more 0 -", "define jobs 0 -", "register jobs bob", "register jobs ann", "deregister jobs ann", "commit 1", "settle", "kill jobs 9",
+    safe = ["carry", "define more 0 -", "define jobs 0 -", "register jobs bob", "register jobs ann", "deregister jobs ann", "commit 1", "settle", "kill jobs 9",
             "kill jobs 3", "checkpoint", "close"]
     for line in safe:
         put("syncs.log", chained(header_of(2), [define(b"jobs"), register(0, b"ann"), begin(1), enqueue(1, 0), commit(1)]))
@@ -141,6 +161,8 @@ def syncs() -> None:
         script = f"begin 7\nenqueue 7 jobs 5 - 0 61\ncommit 7 later\nbegin 8\n{line.replace('commit 1', 'commit 8')}\n".encode()
         ended, told = noted("syncs.log", script)
         check(f"{line}: synced, and then told", (ended[0], unsynced(calls_of(told))), (0, []))
+        if line == "carry":
+            check("carry: each log is there", sorted(os.listdir(".")), ["syncs.log", "syncs.log.9"])
 
 
 # --- starts --------------------------------------------------------------------------------------------------------
@@ -151,23 +173,23 @@ WHOLE = {version: chained(header_of(version), SMALL) for version in (1, 2)}
 CUT_OFF = {version: chained(header_of(version), OPEN) for version in (1, 2)}
 
 
-def left_behind(version: int) -> dict[str, bytes]:
-    """What a crash may leave of a log."""
-    log = CUT_OFF[version]
-    frame = framed(log, commit(2))[len(log):]
+def left_behind(log: bytes, body: bytes) -> dict[str, bytes]:
+    """What a crash may leave of a log, and of a record behind it."""
+    frame = framed(log, body)[len(log):]
     torn = {f"{size} bytes of a frame": log + frame[:size] for size in (1, 3, 4, 5, 13, 44)}
     behind = {"zeros": bytes(40), "a zero": bytes(4), "a page of zeros": bytes(4096), "garbage": b"\xa5" * 77, "a length that is too large": b"\x10\0\0\1",
-              "a frame that is not chained": chained(header_of(1), [commit(2)])[HEADER:], "a flipped bit": flipped(frame, 9),
+              "a frame that is not chained": chained(header_of(1), [body])[HEADER:], "a flipped bit": flipped(frame, 9),
               "a length and less": b"\0\0\x10\0" + b"a" * 300}
     written = log + bytes(500) + chained(frame, [abort(2), abort(7)])
-    ends = {f"{number} frames": log[:end] for number, end in enumerate([HEADER, *(end for _, end in spans_of(log))])}
+    first = CARRIED_AT if log[5] else HEADER
+    ends = {f"{number} frames": log[:end] for number, end in enumerate([first, *(end for _, end in spans_of(log, first))])}
     return {**torn, **{name: log + it for name, it in behind.items()}, **ends, "right frames behind a hole": written,
             "a record that was changed": flipped(log, len(log) - 50), "right frames behind a length that was changed": longer(log)}
 
 
 def longer(log: bytes) -> bytes:
     """The log with a length in its third record that is greater than the rest of the log, so that the front ends by `cut` there."""
-    at = [end for _, end in spans_of(log)][1]
+    at = [end for _, end in spans_of(log, CARRIED_AT if log[5] else HEADER)][1]
     return log[:at] + bytes([log[at] | 8]) + log[at + 1:]
 
 
@@ -194,7 +216,7 @@ def starts() -> None:
     for version in (1, 2):
         start(f"version {version}, whole", WHOLE[version])
         start(f"version {version}, only a header", header_of(version))
-        for name, left in left_behind(version).items():
+        for name, left in left_behind(CUT_OFF[version], commit(2)).items():
             start(f"version {version}, {name}", left)
 
 
@@ -439,7 +461,7 @@ def full_log() -> None:
     check("a full log", ([first_words(it) for it in answers[1:]], status), (want, 0))
 
 
-PARTS = [sessions, line_by_line, long_lines, strange_bytes, halves, in_pieces, many_at_once, syncs, starts, long_starts, no_crash, kept_before,
+PARTS = [sessions, line_by_line, long_lines, digits, strange_bytes, halves, in_pieces, many_at_once, syncs, starts, long_starts, no_crash, kept_before,
          killed_starts, creations, killed_creations, words, ends, behind_a_close, nobody_reads, locks, bounds]
 LONG = [large_state, full_log]
 

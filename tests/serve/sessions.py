@@ -810,6 +810,10 @@ error
 error
 > checkpoint 1
 error
+> carry 1
+error
+> carry later
+error
 > queues 1
 error
 """,
@@ -882,6 +886,114 @@ checkpoint 281
 ok
 > close
 closed 471
+""",
+    # --- a new log -------------------------------------------------------------------------------------------------
+    "a log goes on in a new one": JOBS + """
+> begin
+unit 1
+> enqueue 1 jobs 5 - 0 6869
+element 2
+> carry
+carried 3
+> commit 1
+ok
+> carry
+carried 5
+> carry
+carried 6
+> queue jobs 9
+lines 1
+e 2 from 0 priority 5 attempts 0 6869
+> begin
+unit 2
+> dequeue 2 jobs - 0
+element 2 jobs 5 0 6869
+> commit 2
+ok
+> enqueue 2 jobs 5 - 0 61
+refused no-unit
+> begin 2
+refused unit
+> begin
+unit 3
+> enqueue 3 jobs 5 - 0 61
+element 11
+> checkpoint
+checkpoint 455
+> close
+closed 645
+""",
+    "an empty log goes on": """
+> carry
+carried 0
+> carry
+carried 1
+> define jobs 0 -
+queue 0
+> close
+closed 208
+""",
+    "what is held, fresh, doomed and tagged stays so in a new log": TWO + """
+> register jobs ann
+last none
+> begin
+unit 1
+> enqueue 1 jobs 5 ann 4 61
+element 4
+> enqueue 1 jobs 5 - 0 62
+element 5
+> commit 1 later
+later
+> begin
+unit 2
+> dequeue 2 jobs ann 5
+element 4 jobs 5 0 61
+> enqueue 2 nowhere 5 - 0 61
+refused no-queue
+> begin
+unit 3
+> enqueue 3 dead 9 ann 6 -
+refused no-registrant
+> begin
+unit 4
+> enqueue 4 dead 9 - 0 -
+element 11
+> carry
+carried 12
+> queues
+lines 2
+queue 0 dead limit 0 error - free 0 fresh 1 held 0
+queue 1 jobs limit 2 error 0 free 1 fresh 0 held 1
+> register jobs ann
+last enqueue 4 4
+> commit 2
+refused doomed
+> commit 3
+refused doomed
+> abort 2
+ok
+> abort 3
+ok
+> begin
+unit 5
+> dequeue 5 jobs ann 7
+element 4 jobs 5 1 61
+> carry
+carried 17
+> abort 5
+ok
+> commit 4
+ok
+> queue dead 9
+lines 2
+e 11 from 0 priority 9 attempts 0 -
+e 4 from 1 priority 5 attempts 0 61
+> kill dead 11
+ok
+> kill jobs 5
+ok
+> last jobs ann
+last enqueue 4 4
 """,
     # --- what is shown ---------------------------------------------------------------------------------------------
     "queues": """
@@ -1003,6 +1115,22 @@ refused no-queue
 refused limit
 > define more 3 dead
 queue 2
+""", 1),
+    "a log of version 1 goes on": Session(TWO + """
+> carry
+carried 2
+> define more 3 jobs
+refused limit
+> kill jobs 0
+refused version
+> begin
+unit 1
+> enqueue 1 jobs 5 - 0 61
+element 4
+> carry
+carried 5
+> commit 1
+ok
 """, 1),
 }
 

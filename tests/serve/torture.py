@@ -1,9 +1,12 @@
 """Quick, of 30 kills; by hand of 1,000 before a release, and if serve or what it stands on changes. Eight clients ask a served log, whose process is
 killed anywhere, whose writes and syncs fail, whose disk is full, and whose host loses power: then that stands which was synced, or some pages more, or
-garbage. Two judges look on. One is the model, which knows what each line answers and writes; the other knows only what the clients know.
+garbage. Each second life has a log that goes on in new files. Two judges look on. One is the model, which knows what each line answers and writes;
+the other knows only what the clients know.
 
-With --wrong it tries wrong programs, which are made of the stand-in: each is caught. With --kills so many runs end by a crash. With --first it begins
-with the life of this number: each life is a log that outlives so many crashes, and the same number makes the same life, but for when a kill comes.
+With --wrong it tries wrong programs, which are made of the stand-in: each is caught. With --draw it tries so many of them, drawn by the sum of the
+clone's files. With --kills so many runs end by a crash. With --first it begins with the life of this number: each life is a log that outlives so many
+crashes, and the same number makes the same life, but for when a kill comes.
+With --carry each life has a log that goes on in new files.
 """
 from __future__ import annotations
 import argparse, itertools, multiprocessing, os, random, shutil, tempfile, threading, time
@@ -15,13 +18,19 @@ import trying
 import wrong_programs
 from clients import DEFINITIONS, STAGES, Client, Ledger, Line, Talk, Wrong, eight, must
 from disk import Disk
-from model import Model, Start
+from frames import CARRIED_AT, carried_header_of
+from model import CARRY_AT, Model, Start, begun
 from served import UNANSWERED, Served
-from trying import HERE, check, content
+from standin import is_left
+from trying import HERE, check, content, drawn
 
 LOG = "orders.log"
 # Runs of a life; the most turns of a run, and of calls on files before one of them fails.
 RUNS, TURNS, CALLS = 20, 30, 40
+# At so many bytes a log goes on in a new file, in a life in which it does. Of the faults of such a life so many come when that is made, at one of so
+# many calls.
+LEASTS = [1_500, 6_000, 30_000]
+OF_CARRIES, CARRY_CALLS = 0.6, 16
 # What ends a run, and how often: a signal, a call on a file that ends otherwise than well, the end of input, a close.
 ENDS = {"signal": 10, "kills": 4, "halves": 3, "fails": 5, "stuck": 3, "full": 3, "input": 1, "close": 1}
 FAILING = ("fails", "stuck", "full")
@@ -33,10 +42,12 @@ HANGS = 120
 
 
 class Told(NamedTuple):
-    """A line that was sent: who hears its answer, what that must be, how long the log is then, and whether it says that this is safe."""
+    """A line that was sent: who hears its answer, what that must be, how many logs were carried on then, how long the log is, and whether it says
+    that this is safe."""
     line: str
     hear: Callable[[str], None]
     want: str
+    number: int
     length: int
     is_safe: bool
 
@@ -51,35 +62,78 @@ class Run:
     def __init__(self, life: "Life", end: str = "") -> None:
         self.life, self.draw = life, life.draw
         self.end = end or self.draw.choices([*ENDS], [*ENDS.values()])[0]
-        self.at = self.draw.randrange(1, CALLS) if self.end not in ("signal", "input", "close") else 0
+        is_of_carry = life.carries and self.draw.random() < OF_CARRIES
+        self.begins, calls = (".next", CARRY_CALLS) if is_of_carry else ("", CALLS)
+        self.at = self.draw.randrange(1, calls) if self.end not in ("signal", "input", "close") else 0
         self.sent: deque[Told] = deque()
         self.is_spent = False
+        self.status = 0
         before = content(life.log)
         self.start = Start(before)
         if self.start.model is None:
             raise Wrong(f"no crash leaves this: its front ends by {self.start.why}")
-        self.model: Model = self.start.model
+        self.model: Model = self.start.model.carries_at(life.least)
         self.opened = bytes(self.model.log)
         fault = self.end if self.at else ""
-        self.served = Served(life.log, env=life.disk.variables(fault, self.at))
+        self.served = Served(life.log, "--carry-at", str(life.least), env=life.disk.variables(fault, self.at, self.begins))
 
     # --- lines and answers -----------------------------------------------------------------------------------------
 
     def tell(self, lines: list[Line]) -> bytes:
         """Lines as they are sent; the model does them."""
         for line, hear in lines:
-            want = self.model.answer(line.encode())
-            self.sent.append(Told(line, hear, want.text, len(self.model.log), want.is_safe))
+            want = self.model.answered(line.encode())
+            self.sent.append(Told(line, hear, want.text, len(self.model.past), len(self.model.log), want.is_safe))
+            if self.model.is_due():
+                self.model.carry_on()
         return b"".join(line.encode() + b"\n" for line, _ in lines)
 
     def ask(self, lines: list[Line]) -> None:
         """Sends lines, as many at once as may be unanswered, and hears the answers."""
+        if self.life.carries and self.end in FAILING:
+            for line, hear in lines:
+                self.ask_one(line, hear)
+            return
         while lines:
             count = max(1, fitting(lines))
             self.served.send(self.tell(lines[:count]))
             lines = lines[count:]
             while self.sent:
                 self.hear()
+
+    def ask_one(self, line: str, hear: Callable[[str], None]) -> None:
+        """Sends a line to a process that may fail to carry its log on, and sees whether it did."""
+        if line == "carry":
+            self.see_carry(line, hear)
+            return
+        want = self.model.answered(line.encode())
+        self.sent.append(Told(line, hear, want.text, len(self.model.past), len(self.model.log), want.is_safe))
+        self.served.send(line.encode() + b"\n")
+        self.hear()
+        if self.model.is_due():
+            # What is answered behind it comes when it was carried on, or not.
+            self.see_carry("settle", lambda _: None)
+
+    def see_carry(self, line: str, hear: Callable[[str], None]) -> None:
+        self.served.send(line.encode() + b"\n")
+        answer, records = self.served.answer(), self.model.machine.place
+        self.is_spent = answer is not None and answer.startswith("spent: ")
+        if answer is None or self.is_spent:
+            # Perhaps it was carried on.
+            self.model.carry_on()
+            raise Over
+        kept = f"{self.life.log}.{records}"
+        is_carried = os.path.exists(kept) and not os.path.samefile(kept, self.life.log)
+        if is_carried:
+            self.model.carry_on()
+        else:
+            self.model.put_off() if line == "settle" else None
+            self.life.counted["carries that failed"] += 1
+        want = f"carried {records}" if is_carried else "refused carry"
+        must(answer.partition(": ")[0] == (want if line == "carry" else "ok"), f"{line}: {answer} in place of {want}")
+        hear(answer)
+        if is_carried or line == "settle":
+            self.life.is_safe([*self.model.past], bytes(self.model.log))
 
     def hear(self) -> None:
         """Hears the next answer, if there is one."""
@@ -96,7 +150,12 @@ class Run:
         must(is_same, f"{it.line[:60]}: {answer[:60]} in place of {it.want[:60]}")
         it.hear(answer)
         if it.is_safe:
-            self.life.is_safe(bytes(self.model.log[:it.length]))
+            self.life.is_safe(*self.log_at(it))
+
+    def log_at(self, it: Told) -> tuple[list[tuple[int, bytes]], bytes]:
+        """The logs before the log, and the log, as they were behind a line."""
+        logs = [*self.model.past, (0, bytes(self.model.log))]
+        return logs[:it.number], logs[it.number][1][:it.length]
 
     # --- what is said ----------------------------------------------------------------------------------------------
 
@@ -106,7 +165,7 @@ class Run:
         kept = content(f"{self.life.log}.cut-{len(self.start.front)}") or b""
         must(kept == self.start.kept(), f"{len(kept)} bytes were kept in place of {len(self.start.kept())}")
         must(content(self.life.log) == self.opened, "the log is not that of the greeting")
-        self.life.is_safe(self.opened)
+        self.life.is_safe([], self.opened)
 
     def come_back(self) -> None:
         """Each client registers, and all is found that must be there."""
@@ -199,7 +258,7 @@ class Run:
 
     def judge(self, status: int) -> None:
         """Whether the process ended as it must, and the log has what it must have."""
-        after, said = content(self.life.log), self.served.errors()
+        after, said, self.status = content(self.life.log), self.served.errors(), status
         is_killed = status == -9 and self.end in ("signal", "kills", "halves")
         is_failed = status == 3 and self.end in FAILING and said != ""
         must(is_killed or is_failed or (status == 0 and self.end != "signal"), f"status {status} behind {self.end}: {said}")
@@ -207,7 +266,9 @@ class Run:
         if status == 0:
             must(after == bytes(self.model.log), f"the log has {len(after)} bytes, not the {len(self.model.log)} of the model")
         if self.served.greeting:
-            must(bytes(self.model.log).startswith(after), f"the log has {len(after)} bytes that are no beginning of the model's {len(self.model.log)}")
+            logs = [*(it for _, it in self.model.past), bytes(self.model.log)]
+            must(any(it.startswith(after) for it in logs), f"the log has {len(after)} bytes that are no beginning of the model's {len(self.model.log)}")
+            self.life.counted["carries"] += len(self.model.past)
         self.life.counted["kills" if is_killed else "failed writes and syncs" if is_failed else "ends"] += 1
 
 
@@ -240,13 +301,16 @@ class Turn:
 class Life:
     """A log that outlives many crashes, and its clients."""
 
-    def __init__(self, number: int, folder: str, library: str) -> None:
+    def __init__(self, number: int, folder: str, library: str, carries: bool) -> None:
         self.draw = random.Random(number)
+        self.carries = carries or number % 2 == 1
+        self.least = self.draw.choice(LEASTS) if self.carries else CARRY_AT
         self.disk = Disk(os.path.join(folder, f"log{number}"), os.path.join(folder, f"disk{number}"), library)
         self.log = os.path.join(self.disk.folder, LOG)
         self.ledger = Ledger()
-        self.clients: list[Client] = eight(self.ledger, self.draw)
-        self.safe = b""
+        self.clients: list[Client] = eight(self.ledger, self.draw, self.carries)
+        # What is safe: of the log, and each log before it that is looked for.
+        self.safe, self.past = b"", []
         self.counted: Counter[str] = Counter()
 
     def begin(self) -> None:
@@ -254,9 +318,9 @@ class Life:
         must(it.end()[0] == 0, "a new log can't be made")
         must(self.disk.synced_names() == self.disk.numbers(), "a new log is not on the disk")
 
-    def is_safe(self, log: bytes) -> None:
+    def is_safe(self, past: list[tuple[int, bytes]], log: bytes) -> None:
         """It was answered that so much is safe."""
-        self.safe = log
+        self.past, self.safe = past, log
         self.ledger.is_safe()
         for it in self.clients:
             it.is_safe()
@@ -265,22 +329,44 @@ class Life:
         """A run and what comes behind it: how it ended."""
         run = Run(self)
         run.go()
-        is_written = run.end in ("signal", "kills", "halves", "input", "close")
-        how = run.end + f" at call {run.at}" * bool(run.at)
-        after, image = content(self.log), self.disk.image_of(LOG)
-        must(after.startswith(self.safe), f"of {len(self.safe)} safe bytes the log lost some, behind {how}")
-        must(image.startswith(self.safe), f"of {len(self.safe)} safe bytes the disk lacks some, behind {how}")
+        is_written = run.end in ("signal", "kills", "halves", "input", "close") or run.status == 0
+        how = run.end + f" at call {run.at}" * bool(run.at) + f" from {run.begins}" * bool(run.at and run.begins)
+        self.must_hold(run.model, self.disk.image_of, f"the disk lacks some, behind {how}")
+        left = self.must_hold(run.model, self.content, f"the log lost some, behind {how}")
         if self.draw.random() < POWER_CUTS:
-            how, is_written = f"{how}, power cut: {self.disk.cut_power(self.draw)}", False
+            how, is_written = f"{how}, power cut: {self.disk.cut_power(self.draw, LOG)}", False
             self.counted["power cuts"] += 1
-            must(content(self.log).startswith(self.safe), f"the test's own disk lost what was synced, behind {how}")
+            left = self.must_hold(run.model, self.content, f"the power cut took some, behind {how}")
         for it in self.clients:
             it.crashed()
         self.ledger.crashed(is_written, sum(it.line.startswith("dequeue") for it in run.sent))
-        for name in os.listdir(self.disk.folder):
-            if name != LOG:
-                os.remove(os.path.join(self.disk.folder, name))
+        self.past, self.safe = [], left
+        self.clear()
         return how
+
+    def content(self, name: str) -> bytes | None:
+        return content(os.path.join(self.disk.folder, name))
+
+    def must_hold(self, model: Model, read: Callable[[str], bytes | None], what: str) -> bytes:
+        """All that is safe is there: in the log, or in the one that it went on from, and each log before has its name. What of the log is safe."""
+        later = model.past[len(self.past):]
+        logs = [self.safe, *(it for _, it in later[1:]), bytes(model.log)] if later else [self.safe]
+        found = read(LOG) or b""
+        at = next((at for at, it in enumerate(logs) if at and found[:CARRIED_AT] == it[:CARRIED_AT]), 0)
+        safe = logs[at] if at == 0 else logs[at][:begun(logs[at])]
+        must(found.startswith(safe), f"of {len(safe)} safe bytes {what}")
+        for records, it in [*self.past, *later[:at]]:
+            must(read(f"{LOG}.{records}") == it, f"of the log before, of {records} records, {what}")
+        return safe
+
+    def clear(self) -> None:
+        """What an operator does between two runs: he moves old logs away, and what no crash left of a new one. A name of the log itself he may
+        overlook."""
+        for name in os.listdir(self.disk.folder):
+            path = os.path.join(self.disk.folder, name)
+            is_log = name != LOG and os.path.samefile(path, self.log) and self.draw.random() < 0.5
+            if not is_log and name != LOG and not (name == f"{LOG}.next" and is_left(path, carried_header_of(2))):
+                os.remove(path)
 
     def last(self) -> None:
         """What all of it comes to: each request is there, once."""
@@ -293,11 +379,11 @@ class Life:
         self.counted["done"] += len(self.ledger.over)
 
 
-def lived(task: tuple[int, int, str, str]) -> tuple[int, str, Counter[str]]:
+def lived(task: tuple[int, int, str, str, bool]) -> tuple[int, str, Counter[str]]:
     """Goes through a life: what was wrong, if something was."""
-    number, runs, folder, library = task
+    number, runs, folder, library, carries = task
     folder = tempfile.mkdtemp(dir=folder)
-    life, ends = Life(number, folder, library), ["the beginning"]
+    life, ends = Life(number, folder, library, carries), ["the beginning"]
     try:
         life.begin()
         while life.counted["kills"] + life.counted["failed writes and syncs"] < runs:
@@ -311,11 +397,11 @@ def lived(task: tuple[int, int, str, str]) -> tuple[int, str, Counter[str]]:
         return number, f"behind run {len(ends) - 1} ({ends[-1]}), {folder}: {fault!r}", life.counted
 
 
-def caught(task: tuple[str, str, str]) -> tuple[str, str]:
+def caught(task: tuple[str, str, str, bool]) -> tuple[str, str]:
     """How a wrong program is caught; not at all, if no life shows it."""
-    name, folder, library = task
+    name, folder, library, carries = task
     trying.RQLOG = wrong_programs.program_of(name, folder)
-    lives = map(lived, ((it, RUNS, folder, library) for it in range(wrong_programs.LIVES)))
+    lives = map(lived, ((it, RUNS, folder, library, carries) for it in range(wrong_programs.LIVES)))
     return name, next((how for _, how, _ in lives if how), "")
 
 
@@ -323,7 +409,9 @@ def takes(line: argparse.ArgumentParser) -> None:
     line.add_argument("--kills", type=int, default=30)
     line.add_argument("--first", type=int, default=0, help="the number of the first life")
     line.add_argument("--jobs", type=int, default=len(os.sched_getaffinity(0)))
+    line.add_argument("--carry", action="store_true", help="each log goes on in new files")
     line.add_argument("--wrong", nargs="*", metavar="NAME", help="tries wrong programs: these, or all")
+    line.add_argument("--draw", type=int, default=len(wrong_programs.PROGRAMS), help="tries so many of all wrong programs")
 
 
 def tortured(options: argparse.Namespace, library: str) -> None:
@@ -331,7 +419,7 @@ def tortured(options: argparse.Namespace, library: str) -> None:
     lives = range(options.first, options.first + -(-options.kills // runs))
     total: Counter[str] = Counter()
     with multiprocessing.Pool(options.jobs) as pool:
-        for number, how, counted in pool.imap_unordered(lived, ((it, runs, options.folder, library) for it in lives)):
+        for number, how, counted in pool.imap_unordered(lived, ((it, runs, options.folder, library, options.carry) for it in lives)):
             check(f"life {number}", how, "")
             total += counted
     print(", ".join(f"{count} {what}" for what, count in sorted(total.items())))
@@ -346,7 +434,8 @@ def main(options: argparse.Namespace) -> None:
         tortured(options, library)
         return
     with multiprocessing.Pool(options.jobs) as pool:
-        for name, how in pool.imap_unordered(caught, ((it, options.folder, library) for it in options.wrong or wrong_programs.PROGRAMS)):
+        names = options.wrong or drawn([*wrong_programs.PROGRAMS], options.draw)
+        for name, how in pool.imap_unordered(caught, ((it, options.folder, library, options.carry) for it in names)):
             if options.wrong:
                 print(f"{name}: {how}")
             check(f"{name} is caught", how != "", True)

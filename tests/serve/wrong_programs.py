@@ -98,6 +98,53 @@ class RefusesGarbage(StandIn):
         super().__init__(path, creates)
 
 
+# --- a new log -----------------------------------------------------------------------------------------------------
+
+class NamesBeforeItSyncs(StandIn):
+    """A new log has the log's name before it is on the disk."""
+
+    def fill(self, file: int, new: bytes) -> None:
+        write_all(file, new)
+
+
+class SyncsNoNames(StandIn):
+    """The disk is not told of the new log's name."""
+
+    def sync_names(self) -> None:
+        pass
+
+
+class TrustsItsName(StandIn):
+    """A start does not tell the disk of the log's name, which a process that was killed may have given it."""
+
+    def keep_name(self) -> None:
+        pass
+
+
+class KeepsNoOldLog(StandIn):
+    """The log that it went on from is gone."""
+
+    def name_old(self, kept: str) -> None:
+        pass
+
+
+class CarriesBeforeItSettles(StandIn):
+    """The new log has what was not written to the old one."""
+
+    def settle_old(self) -> None:
+        pass
+
+
+class WritesBehindTheOldLog(StandIn):
+    """It goes on in the file that was the log."""
+
+    def put_on(self, records: int, new: bytes) -> None:
+        old = os.dup(self.file)
+        super().put_on(records, new)
+        os.dup2(old, self.file)
+        os.lseek(self.file, 0, os.SEEK_END)
+
+
 # --- lines ---------------------------------------------------------------------------------------------------------
 
 class DoesHalfALine(StandIn):
@@ -214,6 +261,32 @@ class NewestFirst(WithModel):
         return model
 
 
+class ForgetsOpenUnits(WithModel):
+    """A new log has no open units, nor what they did."""
+
+    class made(Model):
+        def carry_on(self) -> int:
+            for unit in sorted(self.machine.open):
+                self.machine.abort(unit)
+            return super().carry_on()
+
+
+class LosesTheLink(StandIn):
+    """A new log is chained to nothing."""
+
+    def opened(self) -> Model:
+        model = super().opened()
+        carry_on = model.carry_on
+
+        def unlinked() -> int:
+            end, model.log[-32:] = bytes(model.log[-32:]), bytes(32)
+            records = carry_on()
+            model.past[-1] = (records, model.past[-1][1][:-32] + end)
+            return records
+        model.carry_on = unlinked
+        return model
+
+
 class SpendsNothing(StandIn):
     """A write that failed is forgotten, and it goes on."""
 
@@ -227,7 +300,8 @@ class SpendsNothing(StandIn):
 PROGRAMS: dict[str, type[StandIn]] = {it.__name__: it for it in (
     AnswersBeforeItSyncs, SettlesNothing, SyncsAgain, GreetsBeforeItSyncs, TrustsWhatItReads, WritesAtTheSync, KeepsWhatIsBehind, KeepsNothingBeside,
     AbortsNothing, RefusesGarbage, DoesHalfALine, DropsAnAnswer, ForgetsAnElement, TakesTwice, CommitsWhatIsDoomed, ErrorsDoomNobody, ForgetsHowFar,
-    NeverMoves, NewestFirst, SpendsNothing)}
+    NeverMoves, NewestFirst, SpendsNothing, NamesBeforeItSyncs, SyncsNoNames, TrustsItsName, KeepsNoOldLog, CarriesBeforeItSettles,
+    WritesBehindTheOldLog, ForgetsOpenUnits, LosesTheLink)}
 # So many lives are tried at most until one shows it. TrustsWhatItReads is seen in one of some 24: what a sync lost shows only if nothing is
 # written to its pages later. All others are seen in the first few.
 LIVES = 150

@@ -8,7 +8,7 @@ from trying import TOP, check
 
 sys.path.insert(0, os.path.join(TOP, "tools"))
 from wrong.checks import Verdict, judged, read  # noqa: E402
-from wrong.edits import Batch, Edit, Texts, applied  # noqa: E402
+from wrong.edits import Batch, Calls, Edit, Texts, applied, batches_of  # noqa: E402
 from wrong.readings import Readings, crates_of, not_taken  # noqa: E402
 import wrong_bodies  # noqa: E402
 
@@ -28,6 +28,38 @@ WRONG = Edit("high", "sum_is_less", "sum_is_less.edit", (("src/lib.rt", "    mor
 ANSWER = "proofs/sum/Answers.antt:4:1: error: unsolved goal in `returns`: 1 is not 2\nfn high::sum: no proof\nonly=1 proved=0\n"
 OPEN = "fn high::sum: no proof: `search` did not prove `returns`\nonly=1 proved=0\n"
 PROVED = "fn high::sum: proved\nonly=1 proved=1\n"
+
+
+# The same of copies: the answer refuses the one with the wrong body, and the other is proved or not.
+COPIES = "proofs/sum_beside_0/Answers.antt:4:1: error: unsolved goal in `returns`: 1 is not 2\nfn high::sum_beside_0: no proof\n"
+COPIES += "fn high::sum_beside_1: {}\nonly=2 proved=1\n"
+# A function with a proof of its own, one that calls itself, and one of a trait.
+CODE = HIGH["src/lib.rt"].replace("pub fn sum", "#[tactic(auto)]\npub fn sum") + """
+fn again(n: u8) -> u8 {
+    again(n)
+}
+
+fn below(n: u8) -> u8 {
+    n + 3
+}
+
+fn above(n: u8) -> u8 {
+    below(n)
+}
+
+impl More for Low {
+    fn most(&self) -> u8 {
+        7
+    }
+}
+
+impl Low {
+    fn least(&self) -> u8 {
+        1
+    }
+}
+"""
+OWN: Texts = {**HIGH, "src/lib.rt": CODE, "proofs/sum/Answers.antt": "use Rattle.high.proofs.sum.Goals as goal\n" + HIGH["proofs/sum/Answers.antt"]}
 
 
 def loaded_test() -> Any:
@@ -63,7 +95,7 @@ def parts() -> None:
 
 
 def verdict_on(edit: Edit, said: str) -> Verdict:
-    batch = Batch(HIGH)
+    batch = Batch(HIGH, Calls(HIGH))
     check(f"a batch takes {edit.name}", batch.takes(edit), True)
     return judged(read(said), batch)[edit]
 
@@ -76,6 +108,52 @@ def twins() -> None:
     for what, said, want in (("a twin that is proved", PROVED, True), ("a twin that fails", ANSWER, False)):
         run.found = {WRONG: verdict_on(WRONG, ANSWER), twin: verdict_on(twin, said)}
         check(f"a wrong body beside {what}", [it.is_well for it in run.judged().values()], [want])
+
+
+def edit(name: str, old: str, new: str) -> Edit:
+    return Edit("high", name, f"{name}.edit", (("src/lib.rt", old, new),))
+
+
+def sum_named(name: str, more: str) -> str:
+    """The function `sum` of this name, with this as its last line."""
+    return f"#[tactic(auto)]\npub fn {name}(n: u8) -> u8\n    ensures {{ result ≡ n }}\n{{\n    let more = add(n);\n    {more}\n}}\n"
+
+
+def copies() -> None:
+    """A wrong body and its twin stand in copies of their function, beside it."""
+    both = [WRONG, *WRONG.twin()]
+    found = batches_of(both, OWN)
+    check("both stand in one check", [it.edits for it in found], [both])
+    batch, names = found[0], ["sum", "sum_beside_0", "sum_beside_1"]
+    functions = map(sum_named, names, ["more", "more - 1", "more - 0"])
+    check("the function and its copies", [batch.texts["src/lib.rt"].count(it) for it in functions], [1] * 3)
+    proof = OWN["proofs/sum/Answers.antt"]
+    check("their proofs", [batch.texts[f"proofs/{it}/Answers.antt"] == proof.replace(".sum.", f".{it}.") for it in names], [True] * 3)
+    check("what is checked", batch.paths(WRONG, "sum"), names[1:])
+    for what, said, want in (("is proved", "proved", [(True, "sum"), (True, "")]), ("fails", "no proof", [(False, ""), (False, "")])):
+        verdicts = judged(read(COPIES.format(said)), batch)
+        check(f"copies, if the right one {what}", [(verdicts[it].is_well, verdicts[it].function) for it in both], want)
+        check("no copy is named", [it for it in verdicts.values() if "_beside_" in it.told], [])
+
+
+def rivals() -> None:
+    """Two wrong bodies of one function stand in one check, if a right copy of it may stand there too."""
+    for what, old, new, other, is_one in (
+        ("a function", "add(n);", "add(0);", "add(1);", True),
+        ("a method", "        1", "        2", "        0", True),
+        ("a method of a trait", "        7", "        8", "        9", False),
+        ("a function that calls itself", "    again(n)", "    again(0)", "    again(1)", False),
+    ):
+        found = batches_of([edit("one", old, new), edit("other", old, other)], OWN)
+        count = 1 if is_one else 2
+        check(f"two wrong bodies of {what}", [len(it.edits) for it in found], [2 // count] * count)
+        left = [found[0].texts["src/lib.rt"].count(it) for it in (old, new, other)]
+        check(f"what stands in the first check of {what}", left, [1, 1, 1] if is_one else [0, 1, 0])
+    # (no function is proved that calls one that is not)
+    above = edit("above", "    below(n)\n", "    below(0)\n")._replace(right=(("src/lib.rt", "    below(n)\n", "    below(n + 0)\n"),))
+    below = edit("below", "    n + 3\n", "    n + 4\n")
+    found = batches_of([below, above, *above.twin()], OWN)
+    check("a wrong body of what a copy calls", [found[0].texts["src/lib.rt"].count(it) for it in ("    n + 3\n", "    n + 4\n")], [2, 1])
 
 
 def changed(texts: Dict[str, Texts], crate: str, path: str, old: str, new: str) -> bool:
@@ -121,4 +199,4 @@ def heads() -> None:
     check("another text", not_taken(text, built.replace("<q>", "<s>")) != [], True)
 
 
-PARTS = [parts, twins, readings, heads]
+PARTS = [parts, twins, copies, rivals, readings, heads]

@@ -335,9 +335,11 @@ def releasing(clone: Clone) -> None:
     status, out, _ = clone.run("tools/release", folder)
     check("what is not released", (status, "not done: changes: " in out, "1 steps are not done" in out), (1, True, True))
     check("the steps", [it[3:] for it in out.splitlines() if it.startswith("== ")][:-1],
-          ["tree", "versions", "changes", "dist", "test", "shipped", "package", "image", "packages"])
+          ["tree", "versions", "changes", "dist", "test", "wrong programs", "wrong versions", "driven", "shipped", "package", "image",
+           "packages"])
     check("their commands", [it for it in out.splitlines() if it.split(" ")[0] in STEPS.values()],
-          ["tests documents versions", "dist --check", "test", "test --shipped", "package", "image", "tests packages"])
+          ["tests documents versions", "dist --check", "test", "tests torture --wrong", "tests many --wrong", "tests driven", "test --shipped",
+           "package", "image", "tests packages"])
     check("what is left to people", [it for it in out.splitlines() if it.startswith("left to you")],
           ["left to you: a licence: package and image say that they are not licensed for distribution", "left to you: the tag: git tag v1.0"])
     check("what it leaves", files_below(folder), ["SHA256SUMS", "a_1.0_amd64.deb", "a_1.0_amd64.oci.tar"])
@@ -382,14 +384,15 @@ def order(_: Clone) -> None:
     check("order of checks", sorted(ranks, key=ranks.get, reverse=True), [LOW, SIDE, HIGH, PROGRAM, WRONG, WRONG_TOO])
     check("chain of a program", ranks[PROGRAM], (True, 30.0))
 
-    def jobs(processors: int, memory: float, is_fixed: bool, *keys: Any) -> List[int]:
-        shares = proofs.Shares(processors, memory, is_fixed, ranks)
+    def jobs(processors: int, memory: float, is_fixed: bool, *keys: Any, is_sparing: bool = False) -> List[int]:
+        shares = proofs.Shares(processors, memory, is_fixed, ranks, is_sparing)
         return [shares.begin(it, 2, False) for it in keys]
 
     check("on two processors", jobs(2, 100, False, LOW, SIDE, WRONG), [1, 1, 0])
     check("on four", jobs(4, 100, False, SIDE, WRONG, LOW), [3, 2, 3])
     check("of one rank", jobs(4, 100, False, WRONG, WRONG_TOO), [3, 2])
-    check("alone", proofs.Shares(4, 100, False, ranks).begin(PROGRAM, 2, True), 4)
+    check("alone", [proofs.Shares(4, 100, False, ranks, it).begin(PROGRAM, 2, True) for it in (False, True)], [4, 1])
+    check("sparing", jobs(2, 100, False, SIDE, PROGRAM, WRONG, LOW, is_sparing=True), [1, 1, 0, 1])
     check("with little memory", jobs(4, 4, False, LOW, SIDE, WRONG), [2, 0, 0])
     check("with less, of so many processors", jobs(2, 1, True, LOW, SIDE, WRONG), [1, 1, 0])
 
@@ -424,7 +427,7 @@ def side_by_side(_: Clone) -> None:
     for number in ("", "0", "1", "4"):
         begun.clear()
         with set_to("RT_JOBS", number):
-            given = proofs.side_by_side(rt, {it: task(it) for it in CHECKS})
+            given = proofs.side_by_side(rt, {it: task(it) for it in CHECKS}, number == "1")
         check(f"what checks gave, of RT_JOBS={number}", given, {it: it for it in CHECKS})
         check(f"checks that began, of RT_JOBS={number}", sorted(begun, key=str), sorted(((it, True) for it in CHECKS), key=str))
 

@@ -136,9 +136,12 @@ def judged(said: Said, batch: Batch) -> Dict[Edit, Verdict]:
     """The verdict on each wrong body and each twin of the batch."""
     found = {}
     for edit in batch.edits:
-        changed = batch.changed[edit]
+        changed, sound = batch.changed[edit], batch.sound.get(edit)
         wrong = own_goal(said, changed) or Verdict(False, "", why_not(said, changed))
-        found[edit] = of_twin(said, changed) if edit.is_twin else wrong
+        if sound and not of_twin(said, frozenset([sound])).is_well:
+            wrong = Verdict(False, "", f"a right copy of {batch.named[sound.name]} is not proved beside it")
+        verdict = of_twin(said, changed) if edit.is_twin else wrong
+        found[edit] = verdict._replace(function=batch.as_before(verdict.function), told=batch.as_before(verdict.told))
     return found
 
 

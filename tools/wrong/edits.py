@@ -1,13 +1,15 @@
 """Wrong bodies: their files, the functions that they change, and which of them are tried in one check."""
 from __future__ import annotations
 import os, re
-from typing import Dict, FrozenSet, Iterator, List, NamedTuple, Tuple
+from typing import Callable, Dict, FrozenSet, Iterator, List, NamedTuple, Optional, Tuple
 
 # The head of a function, and of what its methods stand in.
 HEAD = re.compile(r"^( *)(?:pub(?:\([^)]*\))? )?(?:const )?(?:unsafe )?fn (\w+)", re.M)
 HOLDER = re.compile(r"^(?:(?:unsafe )?impl\b|(?:pub )?trait (?P<trait>\w+))[^{;]*\{", re.M)
 CONST = re.compile(r"^(?:pub(?:\([^)]*\))? )?(?:const|static) (\w+)")
 CLAUSE = re.compile(r"^\s*(?:ghost|requires|ensures)\b", re.M)
+# Lines before the head of a function that are of it.
+ATTRIBUTES = re.compile(r"(?:^ *#\[[^\n]*\]\n)+\Z", re.M)
 # As many wrong bodies are tried in one check at most.
 MOST = 32
 # The folder of a crate's wrong bodies, and that in it of the ones that the gate tries in each run.
@@ -174,38 +176,142 @@ def applied(edit: Edit, texts: Texts) -> Applied:
     return Applied(made, frozenset(changed), reaches_out)
 
 
-class Batch:
-    """Wrong bodies of different functions of one crate, for one check."""
+def is_own(text: str, at: int) -> bool:
+    """Whether a function there stands in no trait, nor in an impl of one: there another may stand beside it."""
+    holder = next((it for it in HOLDER.finditer(text) if it.start() < at < text.find("\n}", it.end())), None)
+    return not holder or not holder["trait"] and " " not in holder_of(holder[0])
 
-    def __init__(self, texts: Texts):
-        self.texts, self.edits, self.changed = texts, [], {}  # type: Texts, List[Edit], Dict[Edit, FrozenSet[Function]]
+
+def proof_of(texts: Texts, function: Function) -> List[str]:
+    """The files of the function's proof. ValueError, if it is not plain which these are."""
+    module = [it for it in function.path[len("src/") : -len(".rt")].split("/") if (it, function.path) != ("lib", "src/lib.rt")]
+    ending = "/".join(["", *([function.holder] if function.holder else module), function.name, ""])
+    files = [it for it in texts if it.startswith("proofs/") and ending in it]
+    folders = {it[: it.index(ending)] for it in files}
+    if len(folders) > 1 or folders - {"proofs"} and not function.holder:
+        raise ValueError(f"the proof of {function.name} stands in several places")
+    return files
+
+
+def copied(texts: Texts, text: str, function: Function, name: str) -> Texts:
+    """The texts with the function as it stands in this text of its file beside the one of its name: under another name, with the same
+    proof. ValueError, if it may not stand there, or would say something else there, as it calls itself."""
+    files, found = proof_of(texts, function), [it for it in functions_of(function.path, text) if it.function == function]
+    of = found[0]
+    if len(found) > 1 or not is_own(text, of.begin) or re.search(rf"\b{function.name}\b", text[of.body : of.end]):
+        raise ValueError(f"no other function stands in the place of {function.name}")
+    before = ATTRIBUTES.search(text, 0, of.begin)
+    head = re.sub(rf"\bfn {function.name}\b", f"fn {name}", text[of.begin : of.body], count=1)
+    own = (before[0] if before else "") + head + text[of.body : of.end]
+    here = texts[function.path]
+    end = next(it.end for it in functions_of(function.path, here) if it.function == function)
+    made = {**texts, function.path: f"{here[:end]}\n\n{own}{here[end:]}"}
+    for path in files:
+        at = path.index(f"/{function.name}/") + 1
+        old, rest = path[:at].replace("/", "."), path[at + len(function.name) :]
+        made[f"{path[:at]}{name}{rest}"] = re.sub(rf"\b{re.escape(old + function.name)}\b", old + name, texts[path])
+    return made
+
+
+class Batch:
+    """Wrong bodies of one crate, and twins, for one check. Each stands in the function that it changes, which no other does, or in a copy
+    of that beside it. Then a copy has to be proved, since nothing else shows that a copy is checked as the function would be: that with
+    the twin, or one of the function as it stands. What it calls has to be right: no function is proved that calls one that is not."""
+
+    def __init__(self, texts: Texts, calls: "Calls"):
+        self.before = self.texts = texts
+        # Which function calls which, and what the copies call.
+        self.calls, self.called = calls, frozenset()  # type: Calls, FrozenSet[Function]
+        self.edits: List[Edit] = []
+        self.changed: Dict[Edit, FrozenSet[Function]] = {}
+        # Of each copy the name that it had; of each edit in one the copy that has to be proved.
+        self.named: Dict[str, str] = {}
+        self.sound: Dict[Edit, Function] = {}
         self.is_full = False
 
+    def in_place(self) -> List[Edit]:
+        """The edits that stand in the functions that they change."""
+        return [it for it in self.edits if it not in self.sound]
+
     def takes(self, edit: Edit) -> bool:
-        """Takes the edit, unless it changes a function that another one changes, or meets another one's text. One that reaches
-        beyond the functions that it changes stands alone."""
+        """Takes the edit in its function, unless another one changes that, or meets its text. One that reaches beyond the functions
+        that it changes stands alone, and twins stand with twins."""
         try:
             made = applied(edit, self.texts)
         except ValueError:
             return False
-        if self.is_full or self.edits and made.reaches_out or any(made.changed & it for it in self.changed.values()):
+        others = self.in_place()
+        is_apart = not any(made.changed & self.changed[it] or it.is_twin != edit.is_twin for it in others) and not made.changed & self.called
+        if self.is_full or self.edits and made.reaches_out or not is_apart:
             return False
         self.texts, self.changed[edit] = made.texts, made.changed
         self.edits.append(edit)
-        self.is_full = made.reaches_out or len(self.edits) == MOST
+        self.is_full = made.reaches_out or len(self.edits) >= MOST
         return True
+
+    def takes_beside(self, edit: Edit, twin: Optional[Edit]) -> bool:
+        """Takes the edit and its twin, each in a copy of the function that they change, if that can have one."""
+        both = [edit, *([twin] if twin else [])]
+        made = [applied(it, self.before) for it in both]
+        functions = frozenset(it for one in made for it in one.changed)
+        called = self.calls.below(functions) - functions
+        is_apart = not any(self.changed[it] & called for it in self.in_place())
+        if self.is_full or len(functions) > 1 or any(it.reaches_out for it in made) or not is_apart:
+            return False
+        (function,), texts, names = functions, self.texts, []
+        for one in [*(it.texts for it in made), *([] if twin else [self.before])]:
+            names.append(f"{function.name}_beside_{len(self.named) + len(names)}")
+            try:
+                texts = copied(texts, one[function.path], function, names[-1])
+            except ValueError:
+                return False
+        self.texts, self.edits, self.called = texts, self.edits + both, self.called | called
+        self.named.update(dict.fromkeys(names, function.name))
+        self.changed.update({it: frozenset([function._replace(name=name)]) for it, name in zip(both, names)})
+        self.sound.update(dict.fromkeys(both, function._replace(name=names[-1])))
+        self.is_full = len(self.edits) >= MOST
+        return True
+
+    def paths(self, edit: Edit, path: str) -> List[str]:
+        """The paths in this check of the function that a receipt names for the edit: of its copy, too, that has to be proved."""
+        if edit not in self.sound:
+            return [path]
+        (own,), sound = self.changed[edit], self.sound[edit]
+        return [re.sub(rf"(^|::){self.named[it.name]}$", rf"\g<1>{it.name}", path) for it in (own, sound)]
+
+    def as_before(self, text: str) -> str:
+        """What is said of copies, by the names that they had."""
+        return re.sub(r"\w+_beside_\d+", lambda it: self.named.get(it[0], it[0]), text)
 
 
 def batches_of(edits: List[Edit], texts: Texts) -> List[Batch]:
-    """The edits in few batches: those whose functions others change too go first. Each of them applies alone."""
+    """The edits in few batches: those whose functions others change too go first. Each of them applies alone. A wrong body stands with
+    its twin in copies of its function, if it has one, and in one too if others stand in the function."""
     functions = {it: applied(it, texts).changed for it in edits}
     rivals = {it: sum(1 for other in edits if functions[other] & functions[it]) for it in edits}
+    twins = {it.label(): it for it in edits if it.is_twin}
     made: List[Batch] = []
-    for edit in sorted(edits, key=lambda it: (-rivals[it], it.name)):
-        if not any(batch.takes(edit) for batch in made):
-            made.append(Batch(texts))
-            if not made[-1].takes(edit):
-                raise ValueError(f"{edit.label()} applies to nothing")
+    calls = Calls(texts)
+
+    def has_place(takes: Callable[[Batch], bool], may_be_new: bool = True) -> bool:
+        """Whether a batch takes it, or a new one."""
+        new = Batch(texts, calls)
+        if any(map(takes, made)):
+            return True
+        made.extend([new] if may_be_new and takes(new) else [])
+        return made[-1:] == [new]
+
+    left = []
+    for edit in sorted(edits, key=lambda it: (it.is_twin, -rivals[it], it.name)):
+        twin = twins.get(edit.label())
+        if edit.is_twin or not twin or not has_place(lambda it: it.takes_beside(edit, twin)):
+            left.append(edit)
+        else:
+            functions.pop(twin)
+    for edit in (it for it in left if it in functions):
+        if not (has_place(lambda it: it.takes(edit), False) or has_place(lambda it: not edit.is_twin and it.takes_beside(edit, None), False)
+                or has_place(lambda it: it.takes(edit))):
+            raise ValueError(f"{edit.label()} applies to nothing")
     return made
 
 
@@ -233,7 +339,8 @@ class Calls:
 def few_of(edits: List[Edit], texts: Texts, most: int, wide: int) -> Batch:
     """Of these edits the first, and as many others as one check takes with it: `most` in all, and so that it proves no more than
     `wide` functions, or those that the first needs."""
-    made, calls = Batch(texts), Calls(texts)
+    calls = Calls(texts)
+    made = Batch(texts, calls)
     below: FrozenSet[Function] = frozenset()
     for edit in edits:
         more = below | calls.below(applied(edit, texts).changed)

@@ -3,6 +3,7 @@
 ghost use Rattle.std.specs.Prelude.{◌≡◌, ◌≤◌, [], false, length, Some, true};
 
 use crate::device::Device;
+use crate::successor::{Successor, Unmade};
 use rq_record::Fault;
 use std::alloc::Global;
 
@@ -103,5 +104,33 @@ impl Device for Memory {
         self.synced = self.synced.min(len);
         self.bytes.truncate(len);
         Ok(())
+    }
+}
+
+/// Makes logs in memory that go on from others.
+#[derive(Drop)]
+pub struct NewMemory {
+    alloc: Global,
+}
+
+impl NewMemory {
+    /// Where memory is asked for.
+    pub fn new(alloc: Global) -> NewMemory {
+        NewMemory { alloc }
+    }
+}
+
+impl Successor<Memory> for NewMemory {
+    fn put(&mut self, _records: u64, first: &[u8]) -> Result<Memory, Unmade> {
+        let mut bytes = Vec::new(self.alloc);
+        match bytes.extend_from_slice(first) {
+            Ok(()) => Ok(Memory {
+                bytes,
+                synced: first.len(),
+                doubted: false,
+                failed: false,
+            }),
+            Err(_) => Err(Unmade::Kept),
+        }
     }
 }

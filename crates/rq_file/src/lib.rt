@@ -2,11 +2,13 @@
 #![tactic(auto)]
 
 mod late;
+mod leftovers;
 mod named;
 mod names;
 mod patient;
 mod predecessors;
 mod standard;
+mod successions;
 mod version;
 mod whole_files;
 
@@ -16,5 +18,6 @@ pub use names::Names;
 pub use patient::Patient;
 pub use predecessors::Replaces;
 pub use standard::hold_standard;
+pub use successions::{NotNamed, Succession};
 pub use version::VERSION;
 pub use whole_files::{LIMIT, read_limited};

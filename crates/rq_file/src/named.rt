@@ -111,6 +111,16 @@ impl<F> NamedFile<F> {
         Ok(NamedFile { file, name })
     }
 
+    /// The file that got this name, which is one behind all symbolic links.
+    pub fn with_name(file: F, name: String) -> NamedFile<F> {
+        NamedFile { file, name }
+    }
+
+    /// Its name.
+    pub fn real_name(&self) -> &str {
+        &self.name
+    }
+
     /// The file.
     pub fn file(&self) -> &F {
         &self.file

@@ -19,7 +19,7 @@ const NAMES: u32 = 100;
 
 // The mode of a file while it is written that is to take the place of another: nobody else reads
 // it, whoever may read that.
-const OWN_MODE: u32 = 0o600;
+pub(crate) const OWN_MODE: u32 = 0o600;
 
 // What of an old file's mode says who may do what with it. A new file never gets the rest, by which
 // a program runs as its owner.
@@ -62,7 +62,7 @@ pub(crate) fn file_under<R: Files>(rt: &R, name: &str) -> io::Result<Option<Meta
 // Gives the open file the owner and the group of the old one, or the group alone, as far as the
 // system lets us, and then its permissions. Whoever may write the folder can put something else
 // under any name in it, so no name is used.
-fn give_to<F: OpenFile + AsFd>(file: &F, old: &Metadata) -> io::Result<()> {
+pub(crate) fn give_to<F: OpenFile + AsFd>(file: &F, old: &Metadata) -> io::Result<()> {
     let (owner, group) = (Some(old.uid()), Some(old.gid()));
     if fchown(file, owner, group).is_err() {
         let _ = fchown(file, None, group);

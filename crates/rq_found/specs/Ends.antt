@@ -4,17 +4,17 @@ use Rattle.std.specs.Fmt.{decimal}
 use Rattle.rq_model.specs.Frames.{Whole}
 use Rattle.rq_model.specs.Fronts.{Why, Ends, Restarted, IsRestart}
 use Rattle.rq_model.specs.Reports.{why_text}
-use Rattle.rq_model.specs.Checkpoints.{IsRestartAt}
+use Rattle.rq_model.specs.Carrying.{IsCarriedRestart}
 
 -- nothing follows the front
 abbrev pub is_whole : Why → Bool
 is_whole (Ends Whole) = true
 is_whole _ = false
 
--- the restart of b, or that from the checkpoint at an offset
+-- the restart of b, or that of a carried file that is read as b, from the checkpoint at an offset
 abbrev pub IsRestartFrom : Option ℕ → List ℕ → Restarted → Type 0
 IsRestartFrom None b r = IsRestart b r
-IsRestartFrom (Some at) b r = IsRestartAt b at r
+IsRestartFrom (Some at) b r = IsCarriedRestart b at r
 
 -- the line that says at which offset the checkpoint stands that a log begins with
 abbrev pub beginning_text : Option ℕ → List ℕ

@@ -6,7 +6,7 @@ use Rattle.rq_model.specs.Frames.{stated, body_in, HasHeader}
 use Rattle.rq_model.specs.Records.{Version, Record, Define, Register, Deregister, Begin, Enqueue, Dequeue}
 use Rattle.rq_model.specs.Records.{Commit, Abort, Checkpoint, Kill}
 use Rattle.rq_model.specs.Reports.{kind_text}
-use Rattle.rq_model.specs.StateSpelling.{SpellsState}
+use Rattle.rq_model.specs.StateSpelling.{SpellsCarried}
 use Rattle.rq_model.specs.States.{Last, Registrant, State}
 use Rattle.rq_found.specs.declared.frames.Placed.{Placed}
 use Rattle.rq_found.specs.declared.frames.PlacedFrames.{PlacedFrames}
@@ -18,9 +18,9 @@ abbrev pub front_at : Option ℕ → ℕ
 front_at None = 40
 front_at (Some at) = at
 
--- the state that the bytes spell in a log of the version that the header of b names
+-- the state that the bytes spell in a carried file of the version that the header of b names
 abbrev pub SpelledIn : List ℕ → List ℕ → State → Type 0
-SpelledIn b kept s = (version : Version) × HasHeader version b × SpellsState version s kept
+SpelledIn b kept s = (version : Version) × HasHeader version b × SpellsCarried version s kept
 
 -- they are the frames of the first `used` bytes of b, from an offset on; the first has the number
 abbrev pub StandFrom : List ℕ → ℕ → ℕ → ℕ → PlacedFrames → Type 0

@@ -3,14 +3,14 @@ use Rattle.std.specs.Prelude.{◌≡◌, ℕ, ◌+◌, ◌⊎◌, ⊤, List, Opt
 use Rattle.rq_record.specs.declared.fault.Fault.{Fault}
 use Rattle.rq_record.specs.declared.fault.Fault.TheVariants.{Resources, WriteFailed}
 use Rattle.rq_front.specs.Chains.{IsLog, Refused}
-use Rattle.rq_restart.specs.Restarts.{RestartsAt}
+use Rattle.rq_restart.specs.Restarts.{RestartsCarried}
 use Rattle.rq_found.specs.declared.trouble.Trouble.{Trouble}
 use Rattle.rq_found.specs.declared.trouble.Trouble.TheVariants.{Log}
 
 -- b is refused as this restart of it is
 abbrev pub RefusedFrom : Option ℕ → List ℕ → Fault → Type 0
 RefusedFrom None b e = Refused b e
-RefusedFrom (Some at) b e = RestartsAt b at (Err e)
+RefusedFrom (Some at) b e = RestartsCarried b at (Err e)
 
 -- b is refused as a restart of it is
 abbrev pub IsRefusal : Option ℕ → List ℕ → Trouble → Type 0

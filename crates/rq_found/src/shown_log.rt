@@ -15,8 +15,8 @@ ghost use Rattle.rq_found.specs.Records.{SpelledIn, StandFrom, front_at};
 use crate::frames::{PlacedFrames, first_frame};
 use rq_front::{CARRIED_AT, HEADER_LEN, read_as_log, version};
 use rq_record::Fault;
-use rq_restart::{Open, Plan, Restarted, restart, restart_at};
-use rq_state::{State, read_in};
+use rq_restart::{Open, Plan, Restarted, restart, restart_carried};
+use rq_state::{State, read_up_to};
 use std::alloc::Global;
 use std::thread::Threads;
 
@@ -54,7 +54,7 @@ fn state_at(alloc: Global, bytes: &[u8], at: u64) -> Option<State>
     let version = version(bytes)?;
     let (frame, _) = first_frame(bytes.get(at as usize..)?)?;
     let spelled = frame.body.get(1..)?;
-    match read_in(alloc, version, spelled) {
+    match read_up_to(alloc, version, State::CARRIED_RECORDS, spelled) {
         Ok(state) => Some(state),
         Err(_) => None,
     }
@@ -114,7 +114,7 @@ impl ShownLog<'_> {
     {
         match self.at {
             None => restart(rt, alloc, self.bytes, self.plan, &Open),
-            Some(at) => restart_at(rt, alloc, self.bytes, at, self.plan, &Open),
+            Some(at) => restart_carried(rt, alloc, self.bytes, at, self.plan, &Open),
         }
     }
 }

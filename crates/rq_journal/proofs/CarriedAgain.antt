@@ -8,13 +8,14 @@ use Rattle.rq_model.specs.Frames.{start, frame, frames_of, bodies_of, last_of, b
 use Rattle.rq_model.specs.LogLaws.{BytesSpellOneState}
 use Rattle.rq_model.specs.States.{State, empty}
 use Rattle.rq_model.specs.Machine.{run}
-use Rattle.rq_model.specs.StateSpelling.{state_bytes, SpellsState}
+use Rattle.rq_model.specs.StateSpelling.{carried_next, state_bytes, SpellsCarried}
 use Rattle.rq_model.specs.Appending.{MayFollow}
 use Rattle.rq_model.specs.Fronts.{IsLongest}
-use Rattle.rq_model.specs.Carrying.{IsFrontAt, carried_at, carried_file, as_log, StartsAnew, IsNoLog, ReadsAsLog, FilesJoin}
+use Rattle.rq_model.specs.Carrying.{IsCarriedFront, carried_at, carried_file, as_log, StartsAnew, IsNoLog, ReadsAsLog, FilesJoin}
 use Rattle.rq_model.proofs.Runs.{last_at_end}
 use Rattle.rq_model.proofs.Longest.{last_of_join}
 use Rattle.rq_model.proofs.Restarts.{both_follow, run_join, spelt_after}
+use Rattle.rq_model.proofs.StateCodes.{short_is_counted}
 use Rattle.rq_record.specs.Views.{version_of}
 use Rattle.rq_record.specs.declared.fault.Fault.{Fault}
 use Rattle.rq_record.specs.declared.fault.Fault.TheVariants as faults
@@ -41,11 +42,13 @@ module _ (b : List ℕ) (f : RedoneFront) (h : IsRedoneAt b carried_at f) where
   may : MayFollow version h.base xs
   may = record { records = h.front.front.begins.records; lawful = h.front.front.begins.lawful }
 
-  spelt : f.state.next ≤ 4294967295 → SpellsState version state (state_bytes state)
-  spelt low =
+  spelt : f.state.next ≤ carried_next → length (state_bytes state) ≤ 268435455
+      → SpellsCarried version state (state_bytes state)
+  spelt low small =
       let spells = h.front.spells in
-      spelt_after version h.base xs spells.keeps spells.fits spells.deep may
-      (subst (λ (z : State). z.next ≤ 4294967295) h.state low)
+      let next = subst (λ (z : State). z.next ≤ carried_next) h.state low in
+      spelt_after carried_next version h.base xs spells.keeps spells.fits spells.deep may next
+      (short_is_counted state (omega (arith, next)) (omega (arith, small)))
 
   long : length link ≡ 32
   long =
@@ -62,14 +65,14 @@ module _ (b : List ℕ) (f : RedoneFront) (h : IsRedoneAt b carried_at f) where
   -- the checkpoint that the file begins with is read again, whatever stands behind it
   joins : BytesSpellOneState → ReadsAsLog → FilesJoin → (new : List ℕ) → IsBegunIn version link state new
       → (records : List Record) → MayFollow version empty records → before carried_at b ≡ last_of (start version) records
-      → SpellsState version (run empty records) h.kept → JoinsBehind version (records ++ xs) new
+      → SpellsCarried version (run empty records) h.kept → JoinsBehind version (records ++ xs) new
   joins one reads join new begun records old linked spelled = λ more s kept after left read.
       let all : List Record = records ++ xs in
       let log = as_log version new in
       let grown : as_log version (new ++ more) ≡ log ++ more = reads.more version new more begun.headed in
-      let at = subst (λ (z : List ℕ). IsFrontAt z carried_at version s kept after left) grown read in
+      let at = subst (λ (z : List ℕ). IsCarriedFront z carried_at version s kept after left) grown read in
       let base_is : h.base ≡ run empty records =
-      one version version h.base (run empty records) h.kept h.front.spells spelled in
+      one carried_next carried_next version version h.base (run empty records) h.kept h.front.spells spelled in
       let follow = both_follow version empty records xs old (subst (λ (z : State). MayFollow version z xs) base_is may) in
       let state_is : state ≡ run empty all = ap (λ (z : State). run z xs) base_is ∙ sym (run_join empty records xs) in
       let link_is : link ≡ last_of (start version) all =
@@ -81,21 +84,21 @@ module _ (b : List ℕ) (f : RedoneFront) (h : IsRedoneAt b carried_at f) where
       ap (drop 1)
       (sym at.checkpoint.body ∙ ap body_in (drop-append-le carried_at log more high)
       ∙ (frame_more (drop carried_at log) more first.frame.whole).body ∙ first.body) in
-      let spells = subst (SpellsState version state) (sym kept_is) begun.there.spells in
-      let joined = join (log ++ more) carried_at version s kept all after left follow at (ahead ∙ link_is)
-      (subst (λ (z : State). SpellsState version z kept) state_is spells) in (
+      let spells = subst (SpellsCarried version state) (sym kept_is) begun.there.spells in
+      let joined = join carried_next carried_next (log ++ more) carried_at version s kept all after left follow at (ahead ∙ link_is)
+      (subst (λ (z : State). SpellsCarried version z kept) state_is spells) in (
         subst (λ (z : List ℕ). IsLongest version empty (start version) (frames_of (start version) all ++ drop carried_at z)
             (all ++ Checkpoint kept ∷ after) left) (sym grown) joined.0,
         joined.1,
       )
 
-  carried_again : (new body : List ℕ) → f.state.next ≤ 4294967295 → IsCheckpointOf f.state body → BytesSpellOneState
+  carried_again : (new body : List ℕ) → f.state.next ≤ carried_next → IsCheckpointOf f.state body → BytesSpellOneState
       → StartsAnew → IsNoLog → ReadsAsLog → FilesJoin → new ≡ carried_file version f.last (frame f.last body)
       → IsCarriedAgain b new
   carried_again new body low is one starts apart reads join new_is =
       let here = subst (λ (z : State). IsCheckpointOf z body) h.state is in
       let all = new_is ∙ ap (λ (z : List ℕ). carried_file version z (frame z body)) h.last in
-      let begun = begun_in version link state body long here (spelt low) starts apart reads new all in
+      let begun = begun_in version link state body long here (spelt low here.small) starts apart reads new all in
       record {
         version = version;
         base = h.base;
@@ -107,7 +110,7 @@ module _ (b : List ℕ) (f : RedoneFront) (h : IsRedoneAt b carried_at f) where
         joins = joins one reads join new begun;
       }
 
-  pub carries_again : (body : List ℕ) → f.state.next ≤ 4294967295 → IsCheckpointOf f.state body
+  pub carries_again : (body : List ℕ) → f.state.next ≤ carried_next → IsCheckpointOf f.state body
       → (result : Result (Vec ℕ) Fault) → BytesSpellOneState → StartsAnew → IsNoLog → ReadsAsLog → FilesJoin
       → BeginsFile version f.last body result → CarriesAgain b result
   carries_again body low is (Ok v) one starts apart reads join begun =

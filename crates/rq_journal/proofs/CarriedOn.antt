@@ -10,7 +10,7 @@ use Rattle.rq_model.specs.Frames.{log_limit, header, start, frame, frames_of, la
 use Rattle.rq_model.specs.LogLaws.{FrontsAreSpelt}
 use Rattle.rq_model.specs.States.{State, empty}
 use Rattle.rq_model.specs.Machine.{run}
-use Rattle.rq_model.specs.StateSpelling.{state_bytes, SpellsState}
+use Rattle.rq_model.specs.StateSpelling.{carried_next, state_bytes, SpellsCarried}
 use Rattle.rq_model.specs.Fronts.{IsFront}
 use Rattle.rq_model.specs.Carrying.{carried_file, as_log, begun_anew, StartsAnew, IsNoLog, ReadsAsLog, AnewJoins}
 use Rattle.rq_model.proofs.Runs.{frame_long}
@@ -46,7 +46,7 @@ anew_short reads version p s long small =
 
 -- what begins anew with the body of a checkpoint
 module _ (version : Version) (p : List ℕ) (s : State) (body : List ℕ) (long : length p ≡ 32) (is : IsCheckpointOf s body)
-    (spelt : SpellsState version s (state_bytes s)) where
+    (spelt : SpellsCarried version s (state_bytes s)) where
   abbrev anew : List ℕ
   anew = begun_anew version p s
 
@@ -57,7 +57,7 @@ module _ (version : Version) (p : List ℕ) (s : State) (body : List ℕ) (long 
   pub begun_in : StartsAnew → IsNoLog → ReadsAsLog → (new : List ℕ) → new ≡ carried_file version p (frame p body)
       → IsBegunIn version p s new
   begun_in starts apart reads new new_is =
-      let made = starts version p s (as_log version anew) long spelt is.small (anew_short reads version p s long is.small) refl in
+      let made = starts carried_next version p s (as_log version anew) long spelt is.small (anew_short reads version p s long is.small) refl in
       let head = reads.headed version p (frames_of p (Checkpoint (state_bytes s) ∷ [])) in
       subst (IsBegunIn version p s) (sym (new_is ∙ whole)) (record {
         bytes = refl;
@@ -92,9 +92,19 @@ module _ (b : List ℕ) (f : RedoneFront) (body : List ℕ) (h : IsRedoneFront b
   abbrev link : List ℕ
   link = last_of (start version) h.records
 
-  spelt_here : FrontsAreSpelt → SpellsState version state (state_bytes state)
-  spelt_here law = law b version h.records [] (drop f.end.used b)
-      (subst (λ (z : List Record). IsFront b version z (drop f.end.used b)) (sym (append-nil h.records)) h.front)
+  -- what a log spells a carried file spells
+  spelt_here : FrontsAreSpelt → SpellsCarried version state (state_bytes state)
+  spelt_here law =
+      let is = law b version h.records [] (drop f.end.used b)
+      (subst (λ (z : List Record). IsFront b version z (drop f.end.used b)) (sym (append-nil h.records)) h.front) in
+      record {
+        next = omega (arith, is.next);
+        counted = is.counted;
+        keeps = is.keeps;
+        fits = is.fits;
+        deep = is.deep;
+        spelling = is.spelling;
+      }
 
   pub carried_on : (new : List ℕ) → FrontsAreSpelt → StartsAnew → IsNoLog → ReadsAsLog → AnewJoins
       → new ≡ carried_file version f.last (frame f.last body) → IsCarriedOn b new
@@ -109,7 +119,7 @@ module _ (b : List ℕ) (f : RedoneFront) (body : List ℕ) (h : IsRedoneFront b
         rest = drop f.end.used b;
         front = h.front;
         begun = begun;
-        joins = λ more s kept after left at. join b (new ++ more) more version h.records (drop f.end.used b)
+        joins = λ more s kept after left at. join carried_next b (new ++ more) more version h.records (drop f.end.used b)
             s kept after left h.front here.small (ap (λ (z : List ℕ). z ++ more) begun.bytes) at;
       }
 

@@ -6,15 +6,14 @@ use Rattle.rq_model.specs.Records.{Record, Checkpoint, Version}
 use Rattle.rq_model.specs.Frames.{log_limit, start, frame, frames_of, last_of, before, Whole}
 use Rattle.rq_model.specs.States.{State, empty}
 use Rattle.rq_model.specs.Machine.{run}
-use Rattle.rq_model.specs.StateSpelling.{state_bytes, SpellsState}
+use Rattle.rq_model.specs.StateSpelling.{state_bytes, SpellsCarried, carried_next}
 use Rattle.rq_model.specs.Fronts.{IsLongest, IsFront, Ends, restarted}
-use Rattle.rq_model.specs.Checkpoints.{IsRestartAt}
 use Rattle.rq_model.specs.Appending.{MayFollow}
-use Rattle.rq_model.specs.Carrying.{IsFrontAt, HasCarriedHeader, carried_file, carried_at, as_log, begun_anew}
+use Rattle.rq_model.specs.Carrying.{IsCarriedFront, IsCarriedRestart, HasCarriedHeader, carried_file, carried_at, as_log, begun_anew}
 use Rattle.rq_record.specs.declared.fault.Fault.{Fault}
 use Rattle.rq_record.specs.declared.fault.Fault.TheVariants.{Resources, TooLarge, TooLong}
 use Rattle.rq_front.specs.Chains.{IsHeaded, Refused}
-use Rattle.rq_judged.specs.Refusals.{RefusedAt}
+use Rattle.rq_judged.specs.Refusals.{RefusedCarried}
 use Rattle.rq_restart.specs.Audits.{IsAuditAt, audited_of}
 use Rattle.rq_journal.specs.declared.carried_logs.Truth.{Truth}
 use Rattle.rq_journal.specs.declared.carried_logs.Truth.TheVariants.{Carried, True, False}
@@ -30,8 +29,8 @@ pub record IsBegunIn (version : Version) (link : List ℕ) (s : State) (new : Li
   pub bytes : new ≡ begun_anew version link s
   pub headed : HasCarriedHeader version new
   pub linked : before carried_at (as_log version new) ≡ link
-  pub there : IsFrontAt (as_log version new) carried_at version s (state_bytes s) [] []
-  pub restart : IsRestartAt (as_log version new) carried_at
+  pub there : IsCarriedFront (as_log version new) carried_at version s (state_bytes s) [] []
+  pub restart : IsCarriedRestart (as_log version new) carried_at
       (restarted (run s (Checkpoint (state_bytes s) ∷ [])) 0 (length new) (Ends Whole))
   pub apart : IsHeaded new → ⊥
 
@@ -40,7 +39,7 @@ pub record IsBegunIn (version : Version) (link : List ℕ) (s : State) (new : Li
 abbrev pub JoinsBehind : Version → List Record → List ℕ → Type 0
 JoinsBehind version records new =
     (more : List ℕ) (s : State) (kept : List ℕ) (after : List Record) (left : List ℕ) →
-    IsFrontAt (as_log version (new ++ more)) carried_at version s kept after left
+    IsCarriedFront (as_log version (new ++ more)) carried_at version s kept after left
     → IsLongest version empty (start version)
     (frames_of (start version) records ++ drop carried_at (as_log version (new ++ more)))
     (records ++ Checkpoint kept ∷ after) left
@@ -75,12 +74,12 @@ pub record IsCarriedAgain (b new : List ℕ) : Type 0 where
   pub kept : List ℕ
   pub after : List Record
   pub rest : List ℕ
-  pub front : IsFrontAt b carried_at version base kept after rest
+  pub front : IsCarriedFront b carried_at version base kept after rest
   pub begun : IsBegunIn version (last_of (before carried_at b) (Checkpoint kept ∷ after))
       (run base (Checkpoint kept ∷ after)) new
   pub joins : (records : List Record) → MayFollow version empty records
       → before carried_at b ≡ last_of (start version) records
-      → SpellsState version (run empty records) kept
+      → SpellsCarried version (run empty records) kept
       → JoinsBehind version (records ++ Checkpoint kept ∷ after) new
 
 -- the state behind the front of b, as which a carried file is read
@@ -90,17 +89,17 @@ pub record IsCarriedState (b : List ℕ) (s : State) : Type 0 where
   pub kept : List ℕ
   pub after : List Record
   pub rest : List ℕ
-  pub front : IsFrontAt b carried_at version base kept after rest
+  pub front : IsCarriedFront b carried_at version base kept after rest
   pub state : s ≡ run base (Checkpoint kept ∷ after)
 
 -- why b is not carried again: the spelling of that state would be too long, or it numbers too many
 -- records; or else as it is refused
 abbrev pub StaysThere : List ℕ → Fault → Type 0
-StaysThere b TooLarge = (s : State) × IsCarriedState b s × (s.next ≤ 4294967295)
+StaysThere b TooLarge = (s : State) × IsCarriedState b s × (s.next ≤ carried_next)
     × (268435455 < length (state_bytes s))
 StaysThere b TooLong = (log_limit < length b)
-    ⊎ ((s : State) × IsCarriedState b s × (4294967295 < s.next))
-StaysThere b e = RefusedAt b carried_at e
+    ⊎ ((s : State) × IsCarriedState b s × (carried_next < s.next))
+StaysThere b e = RefusedCarried b carried_at e
 
 abbrev pub CarriesAgain : List ℕ → Result (Vec ℕ) Fault → Type 0
 CarriesAgain b (Ok v) = IsCarriedAgain b v.items

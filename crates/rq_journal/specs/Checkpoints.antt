@@ -6,7 +6,7 @@ use Rattle.rq_model.specs.Spelling.{body_of}
 use Rattle.rq_model.specs.Frames.{AreBytes, IsBodyLength, log_limit, log_of}
 use Rattle.rq_model.specs.States.{State, empty}
 use Rattle.rq_model.specs.Machine.{aborts, run}
-use Rattle.rq_model.specs.StateSpelling.{state_bytes}
+use Rattle.rq_model.specs.StateSpelling.{carried_next, state_bytes}
 use Rattle.rq_model.specs.Fronts.{IsFront}
 use Rattle.rq_model.specs.Reports.{IsReport}
 use Rattle.rq_model.specs.Checkpoints.{TrueAt, IsReportAt}
@@ -27,14 +27,14 @@ use Rattle.rq_journal.specs.Growths.{GrowsBy, IsGrownAt}
 -- why a state has no checkpoint: it numbers too many records, or its spelling is too long; or memory
 -- was refused
 abbrev pub HasNoCheckpointOf : State → Fault → Type 0
-HasNoCheckpointOf s faults.TooLong = 4294967295 < s.next
-HasNoCheckpointOf s faults.TooLarge = (s.next ≤ 4294967295) × (268435455 < length (state_bytes s))
+HasNoCheckpointOf s faults.TooLong = carried_next < s.next
+HasNoCheckpointOf s faults.TooLarge = (s.next ≤ carried_next) × (268435455 < length (state_bytes s))
 HasNoCheckpointOf s faults.Resources = ⊤
 HasNoCheckpointOf s _ = ⊥
 
 -- a checkpoint of it, or why it has none
 abbrev pub MakesCheckpoint : State → Result rt.Record Fault → Type 0
-MakesCheckpoint s (Ok r) = (s.next ≤ 4294967295) × (length (state_bytes s) ≤ 268435455)
+MakesCheckpoint s (Ok r) = (s.next ≤ carried_next) × (length (state_bytes s) ≤ 268435455)
     × (record_of r ≡ Checkpoint (state_bytes s))
 MakesCheckpoint s (Err e) = HasNoCheckpointOf s e
 
@@ -46,7 +46,7 @@ pub record IsCheckpointOf (s : State) (body : List ℕ) : Type 0 where
 
 -- that, or why it has none
 abbrev pub SpellsBody : State → Result (Vec ℕ) Fault → Type 0
-SpellsBody s (Ok body) = (s.next ≤ 4294967295) × IsCheckpointOf s body.items
+SpellsBody s (Ok body) = (s.next ≤ carried_next) × IsCheckpointOf s body.items
 SpellsBody s (Err e) = HasNoCheckpointOf s e
 
 -- wherever a stood, b stands behind the ABORTs of the units that are open in s too, which lead from s
@@ -64,7 +64,7 @@ IsCrowdedBy a ys Large = ⊥
 
 -- why not: so many records would be numbered, or the log would be too long; or memory was refused
 abbrev pub StaysUnended : Growth → State → NotMarked → Type 0
-StaysUnended a s Ended = 4294967295 < s.next + length s.units
+StaysUnended a s Ended = carried_next < s.next + length s.units
 StaysUnended a s why = IsCrowdedBy a (aborts s) why
 
 -- the record that spells the state
@@ -96,7 +96,7 @@ MarksTruly a b s offset = (whole : List ℕ) (version : Version) (rs xs : List R
 -- why there is no checkpoint: so many records are numbered, the spelling would be too long, or the log;
 -- or memory was refused
 abbrev pub StaysUnmarked : Growth → State → NotMarked → Type 0
-StaysUnmarked a s Ended = 4294967295 ≤ s.next
+StaysUnmarked a s Ended = carried_next ≤ s.next
 StaysUnmarked a s Large = 268435455 < length (state_bytes s)
 StaysUnmarked a s why = IsCrowdedBy a (checkpoint_in s ∷ []) why
 

@@ -4,7 +4,7 @@ use Rattle.rq_model.specs.Records.{Record, Checkpoint, Version}
 use Rattle.rq_model.specs.Frames.{log_of, frames_of, last_of, before}
 use Rattle.rq_model.specs.States.{State}
 use Rattle.rq_model.specs.Fronts.{IsFront}
-use Rattle.rq_model.specs.Carrying.{IsFrontAt}
+use Rattle.rq_model.specs.Carrying.{IsCarriedFront}
 use Rattle.rq_model.specs.Appending.{HasGrown}
 use Rattle.rq_front.specs.Framers.{Place, behind_header, at_checkpoint}
 use Rattle.rq_journal.specs.Appenders.{IsAppenderAt, IsRefused}
@@ -24,13 +24,13 @@ pub record IsGrownBehind (b : List ℕ) (xs : List Record) (g : Growth) : Type 0
   pub used : g.end.used ≡ length (log_of version records)
   pub grown : IsGrownAt (behind_header version) records xs g
 
--- the same of the front of b from the checkpoint at an offset
+-- the same of the front of a carried file that is read as the log b, from the checkpoint at an offset
 pub record IsGrownFrom (b : List ℕ) (offset : ℕ) (xs : List Record) (g : Growth) : Type 0 where
   pub version : Version
   pub base : State
   pub kept : List ℕ
   pub after : List Record
-  pub front : IsFrontAt b offset version base kept after (drop g.end.used b)
+  pub front : IsCarriedFront b offset version base kept after (drop g.end.used b)
   pub used : g.end.used ≡ offset + length (frames_of (before offset b) (Checkpoint kept ∷ after))
   pub grown : IsGrownAt (at_checkpoint version base b offset) (Checkpoint kept ∷ after) xs g
 
@@ -40,14 +40,15 @@ abbrev pub AreWrittenAt : Place → List Record → List Record → List ℕ →
 AreWrittenAt at rs xs written = (part missing : List ℕ) → written ≡ part ++ missing
     → HasGrown at.version at.state at.link rs xs part
 
--- so it is behind the front of b from the checkpoint at an offset
+-- so it is behind the front of a carried file that is read as the log b, from the checkpoint at an
+-- offset
 pub record AreWrittenFrom (b : List ℕ) (offset : ℕ) (xs : List Record) (written : List ℕ) : Type 0 where
   pub version : Version
   pub base : State
   pub kept : List ℕ
   pub after : List Record
   pub rest : List ℕ
-  pub front : IsFrontAt b offset version base kept after rest
+  pub front : IsCarriedFront b offset version base kept after rest
   pub crash : AreWrittenAt (at_checkpoint version base b offset) (Checkpoint kept ∷ after) xs written
 
 -- wherever a stood, b stands behind these records too, and holds their frames

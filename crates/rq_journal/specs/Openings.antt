@@ -5,12 +5,12 @@ use Rattle.rq_model.specs.Frames.{start, log_of, frames_of, last_of, before}
 use Rattle.rq_model.specs.States.{State, empty}
 use Rattle.rq_model.specs.Machine.{run}
 use Rattle.rq_model.specs.Fronts.{IsFront, IsWhy}
-use Rattle.rq_model.specs.Carrying.{IsFrontAt, carried_at}
+use Rattle.rq_model.specs.Carrying.{IsCarriedFront, carried_at}
 use Rattle.rq_model.specs.Appending.{IsLeftOf}
 use Rattle.rq_record.specs.declared.fault.Fault.{Fault}
 use Rattle.rq_front.specs.Chains.{Refused}
 use Rattle.rq_front.specs.Framers.{behind_header, at_checkpoint}
-use Rattle.rq_judged.specs.Refusals.{RefusedAt}
+use Rattle.rq_judged.specs.Refusals.{RefusedCarried}
 use Rattle.rq_judged.specs.Views.{why_of}
 use Rattle.rq_journal.specs.Appenders.{IsAppenderAt}
 use Rattle.rq_journal.specs.declared.appender.Opened.{Opened}
@@ -31,14 +31,14 @@ abbrev pub Opens : List ℕ → Result Opened Fault → Type 0
 Opens b (Ok o) = IsOpened b o
 Opens b (Err e) = Refused b e
 
--- the appender stands behind the front of b from the checkpoint at an offset, which ends here for
--- this reason
+-- the appender stands behind the front of a carried file that is read as the log b, from the
+-- checkpoint at an offset, which ends here for this reason
 pub record IsOpenedAt (b : List ℕ) (offset : ℕ) (o : Opened) : Type 0 where
   pub version : Version
   pub base : State
   pub kept : List ℕ
   pub after : List Record
-  pub front : IsFrontAt b offset version base kept after (drop o.end.used b)
+  pub front : IsCarriedFront b offset version base kept after (drop o.end.used b)
   pub ends : IsWhy version (run base (Checkpoint kept ∷ after))
       (last_of (before offset b) (Checkpoint kept ∷ after)) (drop o.end.used b) (why_of o.end.why)
   pub used : o.end.used
@@ -50,7 +50,7 @@ pub record IsOpenedAt (b : List ℕ) (offset : ℕ) (o : Opened) : Type 0 where
 -- that, at the checkpoint of a carried file that is read as the log b, or why b is refused
 abbrev pub OpensCarried : List ℕ → Result Opened Fault → Type 0
 OpensCarried b (Ok o) = IsOpenedAt b carried_at o
-OpensCarried b (Err e) = RefusedAt b carried_at e
+OpensCarried b (Err e) = RefusedCarried b carried_at e
 
 -- the frames of these records behind the front of b: whatever beginning of them stands there, the
 -- front is the old one and the records whose frames are wholly there

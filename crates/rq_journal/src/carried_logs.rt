@@ -4,7 +4,7 @@ ghost use Rattle.std.specs.Prelude.{◌≡◌, ℕ, List, length, IfErr, IfOk};
 ghost use Rattle.rq_model.specs.Frames.{IsBodyLength};
 ghost use Rattle.rq_model.specs.Carrying.{carried_at};
 ghost use Rattle.rq_record.specs.Views.{version_of};
-ghost use Rattle.rq_judged.specs.Refusals.{RefusedAt};
+ghost use Rattle.rq_judged.specs.Refusals.{RefusedCarried};
 ghost use Rattle.rq_restart.specs.RedoneFronts.{IsRedoneAt, IsRedoneFront};
 ghost use Rattle.rq_journal.specs.Carries.{BeginsFile, Carries, CarriesAgain, TellsAudit, truth_of};
 
@@ -34,7 +34,8 @@ fn begun(alloc: Global, version: Version, link: &[u8; 32], body: &[u8]) -> Resul
 /// that of a log, or that of another carried file as it is read.
 ///
 /// Refuses with `TooLarge` a state whose spelling has more than 268,435,455 bytes, with `TooLong` one
-/// with more than 4,294,967,295 records over all files, and with `Resources` if memory is refused.
+/// with more than 9,223,372,036,854,775,807 records over all files, and with `Resources` if memory is
+/// refused.
 pub fn carried(alloc: Global, front: &RedoneFront) -> Result<Vec<u8>, Fault>
     ensures carries { (b : List ℕ) → IsRedoneFront b front.now → Carries b result }
     ensures again { (b : List ℕ) → IsRedoneAt b carried_at front.now → CarriesAgain b result }
@@ -82,7 +83,7 @@ pub fn audit_carried<R: Threads + Sync>(
     plan: &Plan,
 ) -> Result<Vec<(usize, Truth)>, Fault>
     ensures told { IfOk result (λ told. TellsAudit bytes.now told.items) }
-    ensures refused { IfErr result (RefusedAt bytes.now 72) }
+    ensures refused { IfErr result (RefusedCarried bytes.now 72) }
 {
     let found = audit_at(rt, alloc, bytes, CARRIED_AT as u64, plan)?;
     let mut told = Vec::new(alloc);

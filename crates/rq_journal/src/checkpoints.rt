@@ -13,22 +13,22 @@ use crate::growths::Growth;
 use rq_front::LOG_LIMIT;
 use rq_record::{CheckBytes, Fault, KeptRecord, Record, UnitNo, encode};
 use rq_standing::{Machine, Taken};
-use rq_state::{State, spell};
+use rq_state::{State, spell_carried};
 use std::alloc::Global;
 
 // What the frame of an ABORT has: 36 bytes, and the 9 of its body.
 const ABORT_LEN: usize = 45;
 
-/// A checkpoint of a state. `TooLong` if it numbers more than 4,294,967,295 records, `TooLarge` if
-/// its spelling has more than 268,435,455 bytes, and `Resources` if memory is refused.
+/// A checkpoint of a state. `TooLong` if it numbers more than 9,223,372,036,854,775,807 records,
+/// `TooLarge` if its spelling has more than 268,435,455 bytes, and `Resources` if memory is refused.
 #[tactic(auto, using(crate::proofs::WithCheckpoint::unspelled))]
 pub fn checkpoint_of(alloc: Global, state: &State) -> Result<Record, Fault>
     ensures { MakesCheckpoint state.now result }
 {
-    if state.next() > State::RECORDS {
+    if state.next() > State::CARRIED_RECORDS {
         return Err(Fault::TooLong);
     }
-    match CheckBytes::new(spell(alloc, state)?) {
+    match CheckBytes::new(spell_carried(alloc, state)?) {
         Some(bytes) => Ok(Record::Checkpoint { bytes }),
         None => Err(Fault::TooLarge),
     }
@@ -49,7 +49,7 @@ pub(crate) fn checkpoint_body(alloc: Global, state: &State) -> Result<Vec<u8>, F
 #[derive(Clone, Copy, PartialEq, Eq, Debug)]
 pub enum NotMarked {
     /// So many records would be numbered that no state behind one more can be spelled:
-    /// 4,294,967,295.
+    /// 9,223,372,036,854,775,807.
     Ended,
     /// With it the log would have more than 4,294,967,295 bytes.
     Full,
@@ -123,7 +123,7 @@ impl Growth {
     {
         let units = state.units();
         let count = units.len();
-        if count as u64 > State::RECORDS.saturating_sub(state.next()) {
+        if count as u64 > State::CARRIED_RECORDS.saturating_sub(state.next()) {
             return Err(NotMarked::Ended);
         }
         if count > LOG_LIMIT.saturating_sub(self.len()) / ABORT_LEN {
@@ -152,7 +152,7 @@ impl Growth {
         rq_model::appended_logs();
         rq_model::appended_checkpoints();
         rq_model::true_checkpoints_report_the_same();
-        if state.next() >= State::RECORDS {
+        if state.next() >= State::CARRIED_RECORDS {
             return Err(NotMarked::Ended);
         }
         let checkpoint = match checkpoint_of(alloc, state) {

@@ -13,7 +13,7 @@ use Rattle.rq_front.specs.declared.spans.Chain.{Chain}
 use Rattle.rq_front.specs.Chains.{bodies_at, rest_of, spans_from}
 use Rattle.rq_record.specs.declared.fault.Fault.{Fault}
 use Rattle.rq_record.specs.declared.fault.Fault.TheVariants as faults
-use Rattle.rq_state.specs.Spelling.{ReadsState}
+use Rattle.rq_state.specs.Spelling.{ReadsUpTo}
 use Rattle.rq_model.specs.Machine.{run, is_lawful}
 use Rattle.rq_model.proofs.Runs.{no_right, frame_reads}
 use Rattle.rq_judged.proofs.Starts.{started, last_there}
@@ -22,7 +22,7 @@ use Rattle.rq_judged.specs.Checkpoints.{BeginsAt, kept_of, kept_in, chain_start,
 use Rattle.rq_model.specs.Spelling.{body_of}
 use Rattle.rq_model.specs.States.{State}
 use Rattle.rq_model.specs.Fronts.{Begins, IsWhy, Why, Ends, Form, Law}
-use Rattle.rq_model.specs.Carrying.{IsFrontAt}
+use Rattle.rq_model.specs.Carrying.{IsFrontUpTo}
 use Rattle.rq_model.proofs.RecordReaders.{body_fits, one_record}
 use Rattle.rq_record.specs.Views.{version_of}
 use Rattle.rq_catalog.specs.declared.judge.Judge.{Judge}
@@ -101,11 +101,12 @@ none_at right b offset c kept chain h is =
     (rest_of c.rest) chain_here.run.run chain_here.run.follows h is.frame is.body
 
 -- what reading the checkpoint answers
-pub read_begins : (version : Version) (b : List ℕ) (offset : ℕ) (kept : List ℕ) (e : Fault) → length b ≤ log_limit
-    → HasHeader version b → IsCheckpointAt b offset kept → ReadsState version kept (Err e) → BeginsAt b offset (Err e)
-read_begins version b offset kept faults.BadCheckpoint short head is h = (short, version, head, kept, is, h)
-read_begins version b offset kept faults.Resources short head is h = tt
-read_begins version b offset kept _ short head is h = absurd h
+pub read_begins : (most : ℕ) (version : Version) (b : List ℕ) (offset : ℕ) (kept : List ℕ) (e : Fault)
+    → length b ≤ log_limit → HasHeader version b → IsCheckpointAt b offset kept → ReadsUpTo most version kept (Err e)
+    → BeginsAt most b offset (Err e)
+read_begins most version b offset kept faults.BadCheckpoint short head is h = (short, version, head, kept, is, h)
+read_begins most version b offset kept faults.Resources short head is h = tt
+read_begins most version b offset kept _ short head is h = absurd h
 
 -- the chain from that place
 pub chain_at : (version : Version) → LogEnds → (b : List ℕ) (offset place : ℕ) (c : Chain)
@@ -158,25 +159,25 @@ first_is version s p bytes rest kept (r ∷ after) why right body few begins end
     (after, ap (λ (z : Record). z ∷ after) same)
 
 -- a front from a checkpoint on, and where it ends
-pub record IsFromCheckpoint (version : Version) (s : State) (b : List ℕ) (offset : ℕ) (kept : List ℕ)
+pub record IsFromCheckpoint (most : ℕ) (version : Version) (s : State) (b : List ℕ) (offset : ℕ) (kept : List ℕ)
     (after : List Record) (end : ℕ) (why : Why) : Type 0 where
-  pub front : IsFrontAt b offset version s kept after (drop end b)
+  pub front : IsFrontUpTo most b offset version s kept after (drop end b)
   pub ends : IsWhy version (run s (Checkpoint kept ∷ after)) (last_of (before offset b) (Checkpoint kept ∷ after))
       (drop end b) why
   pub used : end ≡ offset + length (frames_of (before offset b) (Checkpoint kept ∷ after))
   pub last : before end b ≡ last_of (before offset b) (Checkpoint kept ∷ after)
 
 -- the records of a front from a checkpoint on, and all of that
-pub record HasFrom (b : List ℕ) (offset : ℕ) (x : Begun) (kept : List ℕ) (rs : List Record) (end : ℕ) (why : Why)
-    : Type 0 where
+pub record HasFrom (most : ℕ) (b : List ℕ) (offset : ℕ) (x : Begun) (kept : List ℕ) (rs : List Record) (end : ℕ)
+    (why : Why) : Type 0 where
   pub after : List Record
   pub are : rs ≡ Checkpoint kept ∷ after
-  pub from : IsFromCheckpoint (version_of x.version) x.state b offset kept after end why
+  pub from : IsFromCheckpoint most (version_of x.version) x.state b offset kept after end why
 
-pub from_checkpoint : (b : List ℕ) (offset : ℕ) (x : Begun) (is : IsBegun b offset x) (rs : List Record) (end : ℕ)
-    (why : Why) → IsFrontFrom (version_of x.version) x.state b offset rs end why
-    → HasFrom b offset x is.kept rs end why
-from_checkpoint b offset x is rs end why h =
+pub from_checkpoint : (most : ℕ) (b : List ℕ) (offset : ℕ) (x : Begun) (is : IsBegun most b offset x)
+    (rs : List Record) (end : ℕ) (why : Why) → IsFrontFrom (version_of x.version) x.state b offset rs end why
+    → HasFrom most b offset x is.kept rs end why
+from_checkpoint most b offset x is rs end why h =
     let version = version_of x.version in
     let kept = is.kept in
     let at = is.checkpoint in
@@ -216,25 +217,25 @@ from_checkpoint b offset x is rs end why h =
 
 -- Judged.
 
-pub record IsJudgedFrom (b : List ℕ) (offset : ℕ) (x : Begun) (kept : List ℕ) (j : Judge) (records end : ℕ) (why : Why)
-    : Type 0 where
+pub record IsJudgedFrom (most : ℕ) (b : List ℕ) (offset : ℕ) (x : Begun) (kept : List ℕ) (j : Judge)
+    (records end : ℕ) (why : Why) : Type 0 where
   pub after : List Record
-  pub from : IsFromCheckpoint (version_of x.version) x.state b offset kept after end why
+  pub from : IsFromCheckpoint most (version_of x.version) x.state b offset kept after end why
   pub past : 40 ≤ end
   pub within : end ≤ length b
   pub few : records ≤ length b
   pub count : records ≡ length (Checkpoint kept ∷ after)
   pub judge : StandsIn (version_of x.version) j (run x.state (Checkpoint kept ∷ after))
 
-pub judged_from : FrameIsRight → FramesJoin → RunGivesFront → (b : List ℕ) (offset : ℕ) (x : Begun)
-    (is : IsBegun b offset x) (j : Judge) (reach : Reach)
+pub judged_from : FrameIsRight → FramesJoin → RunGivesFront → (most : ℕ) (b : List ℕ) (offset : ℕ) (x : Begun)
+    (is : IsBegun most b offset x) (j : Judge) (reach : Reach)
     → AreJudged (version_of x.version) x.state (bodies_at b x.found.spans.items) j reach → (e : ℕ × Why)
     → e ≡ end_at x.found.spans.items x.found.end (rest_of x.found.rest) reach.read reach.lawful
-    → IsJudgedFrom b offset x is.kept j reach.lawful e.0 e.1
-judged_from right join law b offset x is j reach are e e_is =
+    → IsJudgedFrom most b offset x is.kept j reach.lawful e.0 e.1
+judged_from right join law most b offset x is j reach are e e_is =
     let version = version_of x.version in
     let front = front_in version right join law x.state b offset x.found j reach is.chain are e e_is in
-    let has = from_checkpoint b offset x is are.kept e.0 e.1 front in
+    let has = from_checkpoint most b offset x is are.kept e.0 e.1 front in
     record {
       after = has.after;
       from = has.from;

@@ -10,11 +10,11 @@ use Rattle.rq_model.specs.Fronts.{IsLongest, IsWhy, Why, Ends, Form, Law, Restar
 use Rattle.rq_front.specs.declared.spans.Chain.{Chain}
 use Rattle.rq_front.specs.declared.spans.Span.{Span}
 use Rattle.rq_front.specs.Chains.{bodies_at, rest_of, spans_from, IsHeaded, Refused}
-use Rattle.rq_model.specs.Checkpoints.{IsRestartAt}
+use Rattle.rq_model.specs.Carrying.{IsCarriedRestart}
 use Rattle.rq_record.specs.declared.fault.Fault.{Fault}
 use Rattle.rq_lawful.specs.declared.rules.Rule.{Rule}
 use Rattle.rq_judged.specs.declared.ends.FrontEnd.{FrontEnd}
-use Rattle.rq_judged.specs.Refusals.{RefusedAt}
+use Rattle.rq_judged.specs.Refusals.{RefusedCarried}
 use Rattle.rq_judged.specs.Views.{why_of}
 
 -- the chain of a log of lawful length, from an offset on
@@ -66,8 +66,9 @@ FindsEnd b (Ok x) = (length b ≤ log_limit) × IsHeaded b
     × (r : Restarted) × IsRestart b r × IsRuledEnd r x
 FindsEnd b (Err e) = Refused b e
 
--- the end of the front of b from the checkpoint at an offset, or why there is none
+-- the end of the front of a carried file that is read as the log b, from the checkpoint at an offset,
+-- or why there is none
 abbrev pub FindsEndAt : List ℕ → ℕ → Result (FrontEnd × Option Rule) Fault → Type 0
 FindsEndAt b offset (Ok x) = (length b ≤ log_limit) × IsHeaded b
-    × (r : Restarted) × IsRestartAt b offset r × IsRuledEnd r x
-FindsEndAt b offset (Err e) = RefusedAt b offset e
+    × (r : Restarted) × IsCarriedRestart b offset r × IsRuledEnd r x
+FindsEndAt b offset (Err e) = RefusedCarried b offset e

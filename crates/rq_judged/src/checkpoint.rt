@@ -8,7 +8,7 @@ use crate::front_pass::grain_of;
 use rq_front::{Chain, HEADER_LEN, Span, chain, log_version};
 use rq_plan::Plan;
 use rq_record::{Fault, Version};
-use rq_state::{State, read_in};
+use rq_state::{State, read_up_to};
 use std::alloc::Global;
 use std::marker::Sync;
 use std::thread::Threads;
@@ -48,15 +48,17 @@ fn chain_start(offset: u64, len: usize) -> usize
 }
 
 impl Begun {
-    /// The chain from an offset on, and the state that the checkpoint there spells.
+    /// The chain from an offset on, and the state that the checkpoint there spells, whose next record
+    /// number is at most this.
     pub fn begun_at<R: Threads + Sync>(
         rt: &R,
         alloc: Global,
         bytes: &[u8],
         offset: u64,
+        most: u64,
         plan: &Plan,
     ) -> Result<Begun, Fault>
-        ensures { BeginsAt bytes.now offset result }
+        ensures { BeginsAt most bytes.now offset result }
     {
         rq_model::frames_are_right();
         rq_model::frames_join();
@@ -66,7 +68,7 @@ impl Begun {
         let Some(kept) = kept_in(bytes, &found.spans) else {
             return Err(Fault::NoCheckpoint);
         };
-        let state = read_in(alloc, version, kept)?;
+        let state = read_up_to(alloc, version, most, kept)?;
         Ok(Begun {
             version,
             found,

@@ -19,6 +19,7 @@ use rq_catalog::Judge;
 use rq_lawful::Rule;
 use rq_plan::Plan;
 use rq_record::{Fault, decode_kept};
+use rq_state::State;
 use std::alloc::Global;
 use std::marker::Sync;
 use std::thread::Threads;
@@ -158,10 +159,10 @@ impl FrontEnd {
         Ok((numbers_of(&front, front.end.records as u64, bytes), rule))
     }
 
-    /// The same of the front from the checkpoint at an offset on, as the restart from there says it: it
-    /// begins in the state that the checkpoint spells.
+    /// The same of the front of a carried file that is read as a log, from the checkpoint at an offset
+    /// on, as the restart from there says it: it begins in the state that the checkpoint spells.
     ///
-    /// Refused as `restart_at` is.
+    /// Refused as `restart_at` is, but for states of greater record numbers.
     pub fn ended_at<R: Threads + Sync>(
         rt: &R,
         alloc: Global,
@@ -172,7 +173,8 @@ impl FrontEnd {
         ensures { FindsEndAt bytes.now offset result }
     {
         rq_model::numbers_after();
-        let begun = Begun::begun_at(rt, alloc, bytes, offset, plan)?;
+        let most = State::CARRIED_RECORDS;
+        let begun = Begun::begun_at(rt, alloc, bytes, offset, most, plan)?;
         let front = judged_behind(alloc, &begun, bytes)?;
         let rule = rule_behind(alloc, &front, bytes)?;
         let number = begun.state.next() + front.end.records as u64;

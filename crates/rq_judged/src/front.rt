@@ -6,6 +6,7 @@ ghost use Rattle.std.specs.Thread.{IsSync};
 ghost use Rattle.rq_model.specs.Frames.{bodies_of, log_limit};
 ghost use Rattle.rq_model.specs.Records as records;
 ghost use Rattle.rq_model.specs.States as model;
+ghost use Rattle.rq_model.specs.StateSpelling.{carried_next};
 ghost use Rattle.rq_record.specs.Views.{record_of, version_of};
 ghost use Rattle.rq_record.specs.declared.fault.Fault.TheVariants.{Resources};
 ghost use Rattle.rq_front.specs.Chains.{bodies_at, rest_of};
@@ -68,7 +69,7 @@ fn known_of(
     parts: PartedRecords,
     state: &State,
 ) -> Result<Known, Fault>
-    requires next { state.now.next ≤ 4294967295 }
+    requires next { state.now.next ≤ carried_next }
     ensures { KnowsBodies (version_of version) state.now parts result }
 {
     let records = put_together(parts)?;
@@ -84,7 +85,7 @@ fn keep_first(
     count: usize,
     state: &State,
 ) -> Result<(), Fault>
-    requires next { state.now.next ≤ 4294967295 }
+    requires next { state.now.next ≤ carried_next }
     ensures known { OnOk result ((bodies : List (List ℕ)) →
         IsKnownOfBodies (version_of version) state.now bodies known.old
         → IsKnownOfBodies (version_of version) state.now (take count bodies) known.new) }
@@ -142,7 +143,7 @@ fn check_meanwhile<R: Threads + Sync>(
     grain: u32,
 ) -> (Chain, Result<Known, Fault>)
     requires walk { (from : ℕ) × Walks bytes.now from walk }
-    requires next { state.now.next ≤ 4294967295 }
+    requires next { state.now.next ≤ carried_next }
     requires grain { 1 ≤ grain }
     ensures chain { (from : ℕ) → Walks bytes.now from walk
         → IsChecked bytes.now from walk result.0 }
@@ -157,7 +158,7 @@ fn check_meanwhile<R: Threads + Sync>(
                 → IsChecked slice.entry.now from walk result }
         { walk.checked(rt, slice, grain) },
         move || -> Result<Known, Fault>
-            requires { state.now.next ≤ 4294967295 }
+            requires { state.now.next ≤ carried_next }
             ensures { KnowsBodies (version_of version) state.entry.now parts result }
         { known_of(alloc, version, parts, state) },
     )
@@ -182,7 +183,7 @@ impl Front {
         requires walk { (offset : ℕ) × Walks bytes.now offset walk }
         requires inside { All (λ s. s.start + s.len ≤ length bytes.now) (spans_of walk) }
         requires short { length bytes.now ≤ log_limit }
-        requires next { state.now.next ≤ 4294967295 }
+        requires next { state.now.next ≤ carried_next }
         ensures front { IfOk result (λ f. (offset : ℕ) → Walks bytes.now offset walk
             → IsFrontFrom (version_of version) state.now bytes.now offset
             (map record_of f.records.items) f.end (why_of f.why)) }
@@ -215,7 +216,7 @@ impl Front {
         plan: &Plan,
     ) -> Result<Front, Fault>
         requires chain { (offset : ℕ) × IsChain bytes.now offset found.now }
-        requires next { state.now.next ≤ 4294967295 }
+        requires next { state.now.next ≤ carried_next }
         ensures front { IfOk result (λ f. (offset : ℕ) → IsChain bytes.now offset found.now
             → IsFrontFrom (version_of version) state.now bytes.now offset
             (map record_of f.records.items) f.end (why_of f.why)) }

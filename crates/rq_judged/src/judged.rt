@@ -2,6 +2,7 @@
 
 ghost use Rattle.std.specs.Prelude.{◌≡◌, ℕ, IfOk, IfErr};
 ghost use Rattle.rq_record.specs.declared.fault.Fault.TheVariants.{Resources};
+ghost use Rattle.rq_model.specs.StateSpelling.{carried_next};
 ghost use Rattle.rq_judged.specs.Checkpoints.{IsBegun};
 ghost use Rattle.rq_judged.specs.JudgedFronts.{IsJudgedBehind, JudgesFront, JudgesFrontAt};
 
@@ -14,6 +15,7 @@ use rq_catalog::Judge;
 use rq_front::{HEADER_LEN, log_version};
 use rq_plan::Plan;
 use rq_record::Fault;
+use rq_state::State;
 use std::alloc::Global;
 use std::marker::Sync;
 use std::thread::Threads;
@@ -67,10 +69,11 @@ impl JudgedFront {
         })
     }
 
-    /// The front of a log from the checkpoint at an offset on, with a judge of what may stand behind it:
-    /// it begins in the state that the checkpoint spells. No record is kept, and no queue is redone.
+    /// The front of a carried file that is read as a log, from the checkpoint at an offset on, with a
+    /// judge of what may stand behind it: it begins in the state that the checkpoint spells. No record
+    /// is kept, and no queue is redone.
     ///
-    /// Refused as `restart_at` is.
+    /// Refused as `restart_at` is, but for states of greater record numbers.
     pub fn judged_at<R: Threads + Sync>(
         rt: &R,
         alloc: Global,
@@ -80,7 +83,8 @@ impl JudgedFront {
     ) -> Result<JudgedFront, Fault>
         ensures { JudgesFrontAt bytes.now offset result }
     {
-        let begun = Begun::begun_at(rt, alloc, bytes, offset, plan)?;
+        let most = State::CARRIED_RECORDS;
+        let begun = Begun::begun_at(rt, alloc, bytes, offset, most, plan)?;
         let front = judged_behind(alloc, &begun, bytes)?;
         Ok(front)
     }
@@ -92,8 +96,8 @@ pub(crate) fn judged_behind(
     begun: &Begun,
     bytes: &[u8],
 ) -> Result<JudgedFront, Fault>
-    requires { (offset : ℕ) × IsBegun bytes.now offset begun.now }
-    ensures judged { IfOk result (λ front. (offset : ℕ) → IsBegun bytes.now offset begun.now
+    requires { (offset : ℕ) × IsBegun carried_next bytes.now offset begun.now }
+    ensures judged { IfOk result (λ front. (offset : ℕ) → IsBegun carried_next bytes.now offset begun.now
         → IsJudgedBehind bytes.now offset begun.now.state front) }
     ensures refused { IfErr result (λ e. e ≡ Resources) }
 {

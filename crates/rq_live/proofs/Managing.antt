@@ -12,16 +12,18 @@ use Rattle.std.proofs.lemmas.List.{append-nil, take-take, take_at}
 use Rattle.rq_model.specs.Records.{Record, Begin, Commit, Abort, Version}
 use Rattle.rq_model.specs.Spelling.{body_of}
 use Rattle.rq_model.specs.Frames.{log_limit, log_of, header}
-use Rattle.rq_model.specs.States.{State, Element, empty, is_free}
+use Rattle.rq_model.specs.States.{State, Element, is_free}
 use Rattle.rq_model.specs.WellFormed.{IsWellFormed, IsElement, IsIn}
 use Rattle.rq_model.specs.Laws.{EmptyIsWellFormed, RunsAreWellFormed}
 use Rattle.rq_model.specs.Queues.{elements_at}
 use Rattle.rq_model.specs.Reports.{IsListing}
-use Rattle.rq_model.specs.Machine.{aborts, is_free_at, run}
+use Rattle.rq_model.specs.Machine.{aborts, is_free_at}
 use Rattle.rq_model.specs.Fronts.{IsFront}
-use Rattle.rq_model.specs.LogLaws.{FrontStops}
+use Rattle.rq_model.specs.LogLaws.{FrontStops, FrameIsRight}
 use Rattle.rq_model.specs.Checkpoints.{TrueAt}
-use Rattle.rq_model.specs.Appending.{AppendedIsFront, CheckpointIsTrue}
+use Rattle.rq_model.specs.Appending.{AppendedIsFront, CheckpointIsTrue, FitsCheckpoint, with_checkpoint}
+use Rattle.rq_model.specs.StateSpelling.{carried_next}
+use Rattle.rq_model.specs.Carrying.{LaterSaysTheSame}
 use Rattle.rq_record.specs.declared.record.ElemId.{ElemId}
 use Rattle.rq_queue.specs.Firsts.{AreFirst}
 use Rattle.rq_live.proofs.PartListings.{lists_all}
@@ -31,19 +33,22 @@ use Rattle.rq_live.specs.declared.kernel.NotDone.{NotDone}
 use Rattle.rq_live.specs.declared.kernel.NotDone.TheVariants.{Unlawful, Full, Large, Ended, Spent}
 use Rattle.rq_live.specs.Kernels.{KernelTakes, KernelStays, KernelRefuses, KernelMarks, IsWhyNotTaken, HasRoomForEnds}
 use Rattle.rq_live.specs.Kernels.{HasNoRoom, KernelAborts}
-use Rattle.rq_live.specs.Kernels.{IsKernelBehind, checkpoint_in, length_with_ends}
+use Rattle.rq_live.specs.Kernels.{IsKernelBehind, length_with_ends}
+use Rattle.rq_live.specs.Starts.{Start, Plain, Carried, file_of, state_reached, checkpoint_in}
 use Rattle.rq_live.specs.Managers.{Stand, IsManaged, Does, DoesTaking, ManagerStops, StopsEnd, StopsBegin}
-use Rattle.rq_live.specs.Managers.{Serves, Settles}
+use Rattle.rq_live.specs.Managers.{Serves, Settles, AllIsSafe}
 use Rattle.rq_live.specs.Managers.{AreFirstFree, AbortsAll, Secures, Resumes, StopsResume, Commits}
 use Rattle.rq_live.specs.Managers.{MarksState}
-use Rattle.rq_live.specs.Managers.{MarksSafely}
-use Rattle.rq_live.proofs.Taking.{log_long, long_with_ends, some_open, commit_long, abort_long}
+use Rattle.rq_live.specs.Managers.{MarksSafely, IsTrueIn}
+use Rattle.rq_live.proofs.Taking.{long_with_ends, some_open, commit_long, abort_long}
+use Rattle.rq_live.proofs.Begun.{well_behind}
+use Rattle.rq_live.proofs.CarriedFiles.{says_the_same}
 use Rattle.rq_left.proofs.Leaving.{bare}
 
 -- the same manager over another kernel, which stands behind these records
-over_kernel : (a : Stand) (k : Kernel) (version : Version) (rs xs : List Record) (m : IsManaged version rs a)
-    → IsKernelBehind version xs m.bytes k → HasRoomForEnds version xs → IsManaged version xs (record a { kernel = k })
-over_kernel a k version rs xs m at room = record {
+over_kernel : (a : Stand) (k : Kernel) (from : Start) (rs xs : List Record) (m : IsManaged from rs a)
+    → IsKernelBehind from xs m.bytes k → HasRoomForEnds from xs → IsManaged from xs (record a { kernel = k })
+over_kernel a k from rs xs m at room = record {
   unspent = m.unspent;
   serves = m.serves;
   bytes = m.bytes;
@@ -54,33 +59,37 @@ over_kernel a k version rs xs m at room = record {
 
 pub managed_on : (a : Stand) (k : Kernel) (r : Record) (id : Option ElemId) → KernelTakes a.kernel k r id
     → DoesTaking a (record a { kernel = k }) r id
-managed_on a k r id t version rs m =
-    let x = t version rs m.bytes m.at in
-    (over_kernel a k version rs (rs ++ r ∷ []) m x.0 x.1.room, x.1.lawful, x.1.element)
+managed_on a k r id t from rs m =
+    let x = t from rs m.bytes m.at in
+    (over_kernel a k from rs (rs ++ r ∷ []) m x.0 x.1.room, x.1.lawful, x.1.element)
 
 pub managed_stops : (a : Stand) (k : Kernel) (r : Record) (why : NotDone) → KernelStays a.kernel k
     → KernelRefuses a.kernel r why
-    → (version : Version) (rs : List Record) → IsManaged version rs a
-    → IsManaged version rs (record a { kernel = k }) × IsWhyNotTaken version rs r why
-managed_stops a k r why stays refuses version rs m =
-    (over_kernel a k version rs rs m (stays version rs m.bytes m.at) m.room, refuses version rs m.bytes m.at)
+    → (from : Start) (rs : List Record) → IsManaged from rs a
+    → IsManaged from rs (record a { kernel = k }) × IsWhyNotTaken from rs r why
+managed_stops a k r why stays refuses from rs m =
+    (over_kernel a k from rs rs m (stays from rs m.bytes m.at) m.room, refuses from rs m.bytes m.at)
 
-pub managed_marks : (a : Stand) (k : Kernel) (offset : ℕ) → KernelMarks a.kernel k → offset ≡ a.kernel.framer.len
-    → ((version : Version) (rs : List Record) → IsManaged version rs a
-    → a.kernel.framer.len ≡ length (log_of version rs))
+pub managed_marks : (a : Stand) (k : Kernel) (offset : ℕ) → KernelMarks a.kernel k → offset ≡ a.kernel.len
+    → ((from : Start) (rs : List Record) → IsManaged from rs a
+    → a.kernel.len ≡ length (file_of from rs))
     → MarksState a (record a { kernel = k }) offset
-managed_marks a k offset marks is long version rs m =
-    let x = marks version rs m.bytes m.at in
-    (over_kernel a k version rs (rs ++ checkpoint_in (run empty rs) ∷ []) m x.0 x.2, x.1, is ∙ long version rs m)
+managed_marks a k offset marks is long from rs m =
+    let x = marks from rs m.bytes m.at in (
+      over_kernel a k from rs (rs ++ checkpoint_in (state_reached from rs) ∷ []) m x.0 x.2,
+      x.1,
+      is ∙ long from rs m,
+      x.3,
+    )
 
 -- why there is no checkpoint of the state there
 pub stops_there : (a : Stand) (k : Kernel) (why : NotDone) → KernelStays a.kernel k
-    → KernelRefuses a.kernel (checkpoint_in a.kernel.machine) why → (version : Version) (rs : List Record)
-    → IsManaged version rs a → IsManaged version rs (record a { kernel = k })
-    × IsWhyNotTaken version rs (checkpoint_in (run empty rs)) why
-stops_there a k why stays refuses version rs m =
-    let x = managed_stops a k (checkpoint_in a.kernel.machine) why stays refuses version rs m in
-    (x.0, subst (λ (s : State). IsWhyNotTaken version rs (checkpoint_in s) why) m.at.state x.1)
+    → KernelRefuses a.kernel (checkpoint_in a.kernel.machine) why → (from : Start) (rs : List Record)
+    → IsManaged from rs a → IsManaged from rs (record a { kernel = k })
+    × IsWhyNotTaken from rs (checkpoint_in (state_reached from rs)) why
+stops_there a k why stays refuses from rs m =
+    let x = managed_stops a k (checkpoint_in a.kernel.machine) why stays refuses from rs m in
+    (x.0, subst (λ (s : State). IsWhyNotTaken from rs (checkpoint_in s) why) m.at.state x.1)
 
 known_more : (k : Option (List ℕ)) (w bs : List ℕ) → AreStored k w → AreStored (append_known k bs) (w ++ bs)
 known_more None w bs h = tt
@@ -98,7 +107,7 @@ pub settles : (a : Stand) (written : Option (List ℕ)) (synced : ℕ) (doubted 
       spent = a.spent;
       kernel = record (a.kernel) { pending = pending };
     })
-settles a written synced doubted failed pending works sure more all none version rs m =
+settles a written synced doubted failed pending works sure more all none from rs m =
     let front = a.kernel.pending.items in
     let known = subst (λ (k : Option (List ℕ)). AreStored k (m.bytes ++ front)) (sym more)
     (known_more a.written m.bytes front m.known) in (
@@ -112,7 +121,9 @@ settles a written synced doubted failed pending works sure more all none version
           short = m.at.short;
           rules = m.at.rules;
           state = m.at.state;
-          framer = m.at.framer;
+          begun = m.at.begun;
+          last = m.at.last;
+          len = m.at.len;
           bytes = m.at.bytes ∙ sym (append-nil (m.bytes ++ front))
               ∙ ap (λ (x : List ℕ). (m.bytes ++ front) ++ x) (sym none);
         };
@@ -121,19 +132,25 @@ settles a written synced doubted failed pending works sure more all none version
       record { written = subst (AreStored written) (sym m.at.bytes) known; synced = all },
     )
 
+-- a manager of which nothing is pending, unless it is spent
+pub all_safe : (m : Stand) → (m.spent ≡ false → m.kernel.pending.items ≡ []) → AllIsSafe m
+all_safe m none from rs h =
+    let whole = h.at.bytes ∙ ap (λ (p : List ℕ). h.bytes ++ p) (none h.unspent) ∙ append-nil h.bytes in
+    record { written = subst (AreStored m.written) (sym whole) h.known; synced = h.serves.2 }
+
 -- a record that is done, and then settled
 pub done_so : (a m b : Stand) (r : Record) (id : Option ElemId) → DoesTaking a m r id → Settles m b
     → DoesTaking a b r id
-done_so a m b r id d s version rs h =
-    let done = d version rs h in
-    ((s version (rs ++ r ∷ []) done.0).0, done.1, done.2)
+done_so a m b r id d s from rs h =
+    let done = d from rs h in
+    ((s from (rs ++ r ∷ []) done.0).0, done.1, done.2)
 
 -- a commit that is done, and then settled
 pub commits_so : (a m b : Stand) (unit : ℕ) (result : Result (Unit {0}) NotDone) → Does a m (Commit unit)
     → OnOk result (Settles m b) → OnOk result (Commits a b unit)
-commits_so a m b unit (Ok x) d s = λ version rs h.
-    let done = d version rs h in
-    let safe = s version (rs ++ Commit unit ∷ []) done.0 in
+commits_so a m b unit (Ok x) d s = λ from rs h.
+    let done = d from rs h in
+    let safe = s from (rs ++ Commit unit ∷ []) done.0 in
     (safe.0, safe.1, done.1)
 commits_so a m b unit (Err why) d s = tt
 
@@ -143,18 +160,19 @@ spent_stops a b r (Ok x) h = tt
 spent_stops a b r (Err why) h = subst (StopsEnd a b r) (sym h.0) h.1
 
 -- there is room for the end of an open unit
-ends_fit : (version : Version) (rs : List Record) (r : Record) → HasRoomForEnds version rs → length (body_of r) ≡ 9
-    → 1 ≤ length (run empty rs).units
-    → log_limit < length_with_ends version (rs ++ r ∷ []) (length (run empty rs).units - 1) → ⊥
-ends_fit version rs r room long some full =
-    omega (arith, room, long, some, full, long_with_ends version rs r (length (run empty rs).units - 1))
+ends_fit : (from : Start) (rs : List Record) (r : Record) → HasRoomForEnds from rs → length (body_of r) ≡ 9
+    → 1 ≤ length (state_reached from rs).units
+    → log_limit < length_with_ends from (rs ++ r ∷ []) (length (state_reached from rs).units - 1) → ⊥
+ends_fit from rs r room long some full =
+    omega (arith, room, long, some, full, long_with_ends from rs r (length (state_reached from rs).units - 1))
 
 pub commit_stops : (a b : Stand) (unit : ℕ) (why : NotDone) → ManagerStops a b (Commit unit) why
     → StopsEnd a b (Commit unit) why
 commit_stops a b unit (Unlawful rule) s = s
-commit_stops a b unit Full s = λ version rs m.
-    let x = (s version rs m).1 in
-    ends_fit version rs (Commit unit) m.room (commit_long unit) (some_open unit (run empty rs).units x.lawful) x.long
+commit_stops a b unit Full s = λ from rs m.
+    let x = (s from rs m).1 in
+    ends_fit from rs (Commit unit) m.room (commit_long unit)
+    (some_open unit (state_reached from rs).units x.lawful) x.long
 commit_stops a b unit Large s = s
 commit_stops a b unit Ended s = s
 commit_stops a b unit Spent s = s
@@ -162,45 +180,57 @@ commit_stops a b unit Spent s = s
 pub abort_stops : (a b : Stand) (unit : ℕ) (why : NotDone) → ManagerStops a b (Abort unit) why
     → StopsEnd a b (Abort unit) why
 abort_stops a b unit (Unlawful rule) s = s
-abort_stops a b unit Full s = λ version rs m.
-    let x = (s version rs m).1 in
-    ends_fit version rs (Abort unit) m.room (abort_long unit) (some_open unit (run empty rs).units x.lawful) x.long
+abort_stops a b unit Full s = λ from rs m.
+    let x = (s from rs m).1 in
+    ends_fit from rs (Abort unit) m.room (abort_long unit)
+    (some_open unit (state_reached from rs).units x.lawful) x.long
 abort_stops a b unit Large s = s
 abort_stops a b unit Ended s = s
 abort_stops a b unit Spent s = s
 
 -- the BEGIN of the next unit is lawful, so it stops for room alone
 pub begin_stops : (a b : Stand) (n : ℕ) (why : NotDone)
-    → ((version : Version) (rs : List Record) → IsManaged version rs a → n ≡ (run empty rs).greatest)
+    → ((from : Start) (rs : List Record) → IsManaged from rs a → n ≡ (state_reached from rs).greatest)
     → ManagerStops a b (Begin (n + 1)) why → StopsBegin a b why
-begin_stops a b n (Unlawful rule) g s = λ version rs m.
-    let lawful = lt-ltb (run empty rs).greatest (n + 1) (omega (arith, g version rs m)) in
-    false≢true (sym (s version rs m).1.unlawful ∙ lawful)
-begin_stops a b n Full g s = λ version rs m.
-    let x = s version rs m in
-    (x.0, subst (λ (k : ℕ). HasNoRoom version rs (Begin (k + 1))) (g version rs m) x.1)
+begin_stops a b n (Unlawful rule) g s = λ from rs m.
+    let lawful = lt-ltb (state_reached from rs).greatest (n + 1) (omega (arith, g from rs m)) in
+    false≢true (sym (s from rs m).1.unlawful ∙ lawful)
+begin_stops a b n Full g s = λ from rs m.
+    let x = s from rs m in
+    (x.0, subst (λ (k : ℕ). HasNoRoom from rs (Begin (k + 1))) (g from rs m) x.1)
 begin_stops a b n Large g s = s
 begin_stops a b n Ended g s = absurd s
 begin_stops a b n Spent g s = s
 
--- the log of a manager is a front
-front_there : FrontStops → AppendedIsFront → (version : Version) (rs : List Record) (m : Stand) → IsManaged version rs m
-    → IsFront (log_of version rs) version rs []
-front_there stops appended version rs m managed =
-    appended (header version ++ []) version [] [] rs (bare version stops) managed.at.may managed.at.short
+-- a plain log of these records is a front
+front_there : FrontStops → AppendedIsFront → (version : Version) (rs : List Record) (w : List ℕ) (k : Kernel)
+    → IsKernelBehind (Plain version) rs w k → IsFront (log_of version rs) version rs []
+front_there stops appended version rs w k at =
+    appended (header version ++ []) version [] [] rs (bare version stops) at.may at.short
+
+-- a checkpoint of the state there is true
+true_there : FrontStops → FrameIsRight → AppendedIsFront → CheckpointIsTrue → LaterSaysTheSame → (from : Start)
+    (rs : List Record) (v w : List ℕ) (a b : Kernel) (offset : ℕ) → IsKernelBehind from rs v a
+    → IsKernelBehind from (rs ++ checkpoint_in (state_reached from rs) ∷ []) w b
+    → FitsCheckpoint (state_reached from rs) → (state_reached from rs).next ≤ carried_next
+    → offset ≡ length (file_of from rs) → IsTrueIn from rs offset
+true_there stops right appended is_true later (Plain version) rs v w a b offset h k fits few is =
+    subst (TrueAt (with_checkpoint version rs)) (sym is)
+    (is_true (log_of version rs) version rs [] (front_there stops appended version rs v a h) fits k.short)
+true_there stops right appended is_true later (Carried version link s) rs v w a b offset h k fits few is =
+    says_the_same stops right later version link s rs offset h.begun k.may k.short few is
 
 -- a checkpoint that was taken, and then settled, is true
-pub marks_so : FrontStops → AppendedIsFront → CheckpointIsTrue → (a m b : Stand) (offset : ℕ) → MarksState a m offset
-    → Settles m b
-    → MarksSafely a b offset
-marks_so stops appended true_there a m b offset marks s version rs h =
-    let x = marks version rs h in
-    let safe = s version (rs ++ checkpoint_in (run empty rs) ∷ []) x.0 in (
+pub marks_so : FrontStops → FrameIsRight → AppendedIsFront → CheckpointIsTrue → LaterSaysTheSame → (a m b : Stand)
+    (offset : ℕ) → MarksState a m offset → Settles m b → MarksSafely a b offset
+marks_so stops right appended is_true later a m b offset marks s from rs h =
+    let x = marks from rs h in
+    let safe = s from (rs ++ checkpoint_in (state_reached from rs) ∷ []) x.0 in (
       safe.0,
       safe.1,
       x.2,
-      subst (TrueAt (log_of version (rs ++ checkpoint_in (run empty rs) ∷ []))) (sym x.2)
-          (true_there (log_of version rs) version rs [] (front_there stops appended version rs a h) x.1 x.0.at.short),
+      true_there stops right appended is_true later from rs h.bytes safe.0.bytes a.kernel b.kernel offset h.at
+          safe.0.at x.1 x.3 x.2,
     )
 
 -- the first bytes of those that are stored
@@ -211,67 +241,66 @@ front_stored None log rest len long stored = tt
 front_stored (Some w) log rest len long stored = ap (take len) stored ∙ take_at log rest len (sym long)
 
 -- a kernel that stands behind these records over a device that keeps the front before them
-front_managed : (m : Stand) (known : Option (List ℕ)) (used : ℕ) (version : Version) (rs xs : List Record) (rest : List ℕ)
-    → m.spent ≡ false → Serves m → m.written ≡ cut_known used known → used ≡ length (log_of version rs)
-    → AreStored known (log_of version rs ++ rest) → IsKernelBehind version xs (log_of version rs) m.kernel
-    → HasRoomForEnds version xs → IsManaged version xs m
-front_managed m known used version rs xs rest unspent serves cut long stored at room = record {
+front_managed : (m : Stand) (known : Option (List ℕ)) (used : ℕ) (from : Start) (rs xs : List Record) (rest : List ℕ)
+    → m.spent ≡ false → Serves m → m.written ≡ cut_known used known → used ≡ length (file_of from rs)
+    → AreStored known (file_of from rs ++ rest) → IsKernelBehind from xs (file_of from rs) m.kernel
+    → HasRoomForEnds from xs → IsManaged from xs m
+front_managed m known used from rs xs rest unspent serves cut long stored at room = record {
   unspent = unspent;
   serves = serves;
-  bytes = log_of version rs;
-  known = subst (λ (k : Option (List ℕ)). AreStored k (log_of version rs)) (sym cut)
-      (front_stored known (log_of version rs) rest used long stored);
+  bytes = file_of from rs;
+  known = subst (λ (k : Option (List ℕ)). AreStored k (file_of from rs)) (sym cut)
+      (front_stored known (file_of from rs) rest used long stored);
   at = at;
   room = room;
 }
 
 -- there is room for the ends of all units
-room_for_ends : (k : Kernel) → k.framer.len + 45 * length k.machine.units ≤ log_limit → (version : Version)
-    (rs : List Record) (w : List ℕ) → IsKernelBehind version rs w k → HasRoomForEnds version rs
-room_for_ends k room version rs w h = omega (
+room_for_ends : (k : Kernel) → k.len + 45 * length k.machine.units ≤ log_limit → (from : Start)
+    (rs : List Record) (w : List ℕ) → IsKernelBehind from rs w k → HasRoomForEnds from rs
+room_for_ends k room from rs w h = omega (
   arith,
   room,
-  h.framer.len,
-  log_long version rs,
+  h.len,
   ap (λ (s : State). length s.units) h.state,
 )
 
 -- a front that was made sure
-pub secures_so : (a b : Stand) (result : Result (Unit {0}) NotDone) (used : ℕ) → used ≡ a.kernel.framer.len
-    → a.kernel.framer.len + 45 * length a.kernel.machine.units ≤ log_limit → b.kernel ≡ a.kernel
+pub secures_so : (a b : Stand) (result : Result (Unit {0}) NotDone) (used : ℕ) → used ≡ a.kernel.len
+    → a.kernel.len + 45 * length a.kernel.machine.units ≤ log_limit → b.kernel ≡ a.kernel
     → OnOk result (b.spent ≡ false) → OnOk result (Serves b) → OnOk result (b.written ≡ cut_known used a.written)
     → OnOk result (Secures a b)
-secures_so a b (Ok x) used is room same unspent serves cut = λ version rs rest h stored.
-    front_managed b a.written used version rs rs rest unspent serves cut
-    (is ∙ h.framer.len ∙ sym (log_long version rs)) stored
-    (subst (IsKernelBehind version rs (log_of version rs)) (sym same) h)
-    (room_for_ends a.kernel room version rs (log_of version rs) h)
+secures_so a b (Ok x) used is room same unspent serves cut = λ from rs rest h stored.
+    front_managed b a.written used from rs rs rest unspent serves cut
+    (is ∙ h.len) stored
+    (subst (IsKernelBehind from rs (file_of from rs)) (sym same) h)
+    (room_for_ends a.kernel room from rs (file_of from rs) h)
 secures_so a b (Err why) used is room same unspent serves cut = tt
 
 -- all units that were open were aborted
 pub aborts_so : (a : Stand) (k : Kernel) → KernelAborts a.kernel k → AbortsAll a (record a { kernel = k })
-aborts_so a k ended version rs m =
-    let x = ended version rs m.bytes m.at m.room in
-    over_kernel a k version rs (rs ++ aborts (run empty rs)) m x.0 x.1
+aborts_so a k ended from rs m =
+    let x = ended from rs m.bytes m.at m.room in
+    over_kernel a k from rs (rs ++ aborts (state_reached from rs)) m x.0 x.1
 
 -- and then all was settled
 pub aborts_settled : (a m b : Stand) (result : Result (Unit {0}) NotDone) → AbortsAll a m
     → OnOk result (Settles m b) → OnOk result (AbortsAll a b)
-aborts_settled a m b (Ok x) ended settled = λ version rs h.
-    (settled version (rs ++ aborts (run empty rs)) (ended version rs h)).0
+aborts_settled a m b (Ok x) ended settled = λ from rs h.
+    (settled from (rs ++ aborts (state_reached from rs)) (ended from rs h)).0
 aborts_settled a m b (Err why) ended settled = tt
 
 -- a front that was made sure under a kernel that had aborted all open units, which was settled
 pub resumes_so : (a m b : Stand) (k : Kernel) (result : Result (Unit {0}) NotDone) (used : ℕ)
-    → used ≡ a.kernel.framer.len → a.kernel.framer.len + 45 * length a.kernel.machine.units ≤ log_limit
+    → used ≡ a.kernel.len → a.kernel.len + 45 * length a.kernel.machine.units ≤ log_limit
     → KernelAborts a.kernel k → m.kernel ≡ k → m.spent ≡ false → Serves m → m.written ≡ cut_known used a.written
     → OnOk result (Settles m b) → OnOk result (Resumes a b)
-resumes_so a m b k (Ok x) used is room ended same unspent serves cut settled = λ version rs rest h stored.
-    let all = rs ++ aborts (run empty rs) in
-    let there = ended version rs (log_of version rs) h (room_for_ends a.kernel room version rs (log_of version rs) h) in
-    settled version all (front_managed m a.written used version rs all rest unspent serves cut
-    (is ∙ h.framer.len ∙ sym (log_long version rs)) stored
-    (subst (IsKernelBehind version all (log_of version rs)) (sym same) there.0) there.1)
+resumes_so a m b k (Ok x) used is room ended same unspent serves cut settled = λ from rs rest h stored.
+    let all = rs ++ aborts (state_reached from rs) in
+    let there = ended from rs (file_of from rs) h (room_for_ends a.kernel room from rs (file_of from rs) h) in
+    settled from all (front_managed m a.written used from rs all rest unspent serves cut
+    (is ∙ h.len) stored
+    (subst (IsKernelBehind from all (file_of from rs)) (sym same) there.0) there.1)
 resumes_so a m b k (Err why) used is room ended same unspent serves cut settled = tt
 
 pub spent_resume : (a b : Stand) (result : Result (Unit {0}) NotDone)
@@ -286,14 +315,13 @@ leaves_fewer None n m few c left = tt
 leaves_fewer (Some w) n m few c left = sym (take-take n m c few) ∙ ap (take n) left ∙ take-take n m w few
 
 -- there is no room for the ends of all units
-pub no_room_for_ends : (k : Kernel) → log_limit < k.framer.len + 45 * length k.machine.units → (version : Version)
-    (rs : List Record) (w : List ℕ) → IsKernelBehind version rs w k → HasRoomForEnds version rs → ⊥
-no_room_for_ends k long version rs w h room = omega (
+pub no_room_for_ends : (k : Kernel) → log_limit < k.len + 45 * length k.machine.units → (from : Start)
+    (rs : List Record) (w : List ℕ) → IsKernelBehind from rs w k → HasRoomForEnds from rs → ⊥
+no_room_for_ends k long from rs w h room = omega (
   arith,
   long,
   room,
-  h.framer.len,
-  log_long version rs,
+  h.len,
   ap (λ (s : State). length s.units) h.state,
 )
 
@@ -320,7 +348,7 @@ no_listing s queue well beyond = record {
 -- the first ones that the part of the queue lists
 pub first_free : (m : Stand) (queue most : ℕ) (es : List Element)
     → AreFirst most queue (elements_at queue m.kernel.machine.elements) es → AreFirstFree m queue most es
-first_free m queue most es first version rs managed = (
+first_free m queue most es first from rs managed = (
   first.0,
   subst (λ (s : State). IsListing queue s.elements first.0) managed.at.state
       (lists_all queue m.kernel.machine.elements first.0 first.1),
@@ -330,9 +358,9 @@ first_free m queue most es first version rs managed = (
 -- no element is free in a queue that is not there
 pub none_free : EmptyIsWellFormed → RunsAreWellFormed → (m : Stand) (queue most : ℕ)
     → length m.kernel.machine.definitions ≤ queue → AreFirstFree m queue most []
-none_free start runs m queue most beyond version rs managed = (
+none_free start runs m queue most beyond from rs managed = (
   [],
-  no_listing (run empty rs) queue (runs version empty rs start managed.at.may.lawful)
+  no_listing (state_reached from rs) queue (well_behind start runs from rs managed.at.begun managed.at.may)
       (subst (λ (s : State). length s.definitions ≤ queue) managed.at.state beyond),
   sym (take-nil most),
 )

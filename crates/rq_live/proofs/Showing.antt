@@ -5,13 +5,15 @@ use Rattle.std.specs.Prelude.{Result, Ok, Err, IfOk, is_some, option_copied, fil
 use Rattle.std.specs.List.{AllByRecursion}
 use Rattle.std.proofs.lemmas.List.Sorted.{IsPermutation-refl}
 use Rattle.std.proofs.lemmas.Bool.{and_parts, eqb-true, false≢true}
-use Rattle.rq_model.specs.Records.{By, Record, Version}
-use Rattle.rq_model.specs.States.{State, Element, Registrant, empty, is_free}
+use Rattle.rq_model.specs.Records.{By, Record}
+use Rattle.rq_model.specs.States.{State, Element, Registrant, is_free}
 use Rattle.rq_model.specs.WellFormed.{IsWellFormed, IsElement, IsRegistrant}
 use Rattle.rq_model.specs.Laws.{EmptyIsWellFormed, RunsAreWellFormed}
 use Rattle.rq_model.specs.Queues.{registrants_at}
-use Rattle.rq_model.specs.Machine.{best, is_free_at, run}
+use Rattle.rq_model.specs.Machine.{best, is_free_at}
 use Rattle.rq_live.specs.declared.kernel.NotDone.{NotDone}
+use Rattle.rq_live.specs.Starts.{Start, state_reached}
+use Rattle.rq_live.proofs.Begun.{well_behind}
 use Rattle.rq_live.specs.Managers.{Stand, IsManaged, IsDepth, AreRegistered, Dequeues, DequeuesIfFree}
 
 refuted : (b : Bool) → (b ≡ true → ⊥) → b ≡ false
@@ -40,31 +42,31 @@ nobody s queue (r ∷ rs) all beyond =
     rw no (nobody s queue rs all.1 beyond)
 
 -- the state in which a manager stands is well formed
-well_there : EmptyIsWellFormed → RunsAreWellFormed → (m : Stand) (version : Version) (rs : List Record)
-    → IsManaged version rs m → IsWellFormed (run empty rs)
-well_there start runs m version rs managed = runs version empty rs start managed.at.may.lawful
+well_there : EmptyIsWellFormed → RunsAreWellFormed → (m : Stand) (from : Start) (rs : List Record)
+    → IsManaged from rs m → IsWellFormed (state_reached from rs)
+well_there start runs m from rs managed = well_behind start runs from rs managed.at.begun managed.at.may
 
-beyond_there : (m : Stand) (queue : ℕ) (version : Version) (rs : List Record) → IsManaged version rs m
-    → length m.kernel.machine.definitions ≤ queue → length (run empty rs).definitions ≤ queue
-beyond_there m queue version rs managed beyond =
+beyond_there : (m : Stand) (queue : ℕ) (from : Start) (rs : List Record) → IsManaged from rs m
+    → length m.kernel.machine.definitions ≤ queue → length (state_reached from rs).definitions ≤ queue
+beyond_there m queue from rs managed beyond =
     subst (λ (s : State). length s.definitions ≤ queue) managed.at.state beyond
 
 pub no_depth : EmptyIsWellFormed → RunsAreWellFormed → (m : Stand) (queue : ℕ)
     → length m.kernel.machine.definitions ≤ queue → IsDepth m queue 0
-no_depth start runs m queue beyond version rs managed =
-    sym (ap length (no_free (run empty rs) queue (run empty rs).elements
-    (well_there start runs m version rs managed).elements
-    (beyond_there m queue version rs managed beyond)))
+no_depth start runs m queue beyond from rs managed =
+    sym (ap length (no_free (state_reached from rs) queue (state_reached from rs).elements
+    (well_there start runs m from rs managed).elements
+    (beyond_there m queue from rs managed beyond)))
 
 pub none_registered : EmptyIsWellFormed → RunsAreWellFormed → (m : Stand) (queue : ℕ) (none : List Registrant)
     → none ≡ [] → length m.kernel.machine.definitions ≤ queue
     → AreRegistered m queue none
-none_registered start runs m queue none is beyond version rs managed =
+none_registered start runs m queue none is beyond from rs managed =
     rw (
       is,
-      nobody (run empty rs) queue (run empty rs).registrants
-          (well_there start runs m version rs managed).registrants
-          (beyond_there m queue version rs managed beyond),
+      nobody (state_reached from rs) queue (state_reached from rs).registrants
+          (well_there start runs m from rs managed).registrants
+          (beyond_there m queue from rs managed beyond),
     ) (IsPermutation-refl [])
 
 pub some_copied : {X : Type 0} (o : Option (Bor X)) → is_some o ≡ true → is_some (option_copied o) ≡ true
@@ -73,16 +75,16 @@ some_copied None h = h
 
 -- if an element is free, one is taken
 pub takes_one : (a b : Stand) (unit queue : ℕ) (by : Option By) (first : Option Element) → is_some first ≡ true
-    → ((version : Version) (rs : List Record) → IsManaged version rs a → first ≡ best queue (run empty rs).elements)
+    → ((from : Start) (rs : List Record) → IsManaged from rs a → first ≡ best queue (state_reached from rs).elements)
     → (e : Option Element) → Dequeues a b unit queue by e → DequeuesIfFree a b unit queue by e
 takes_one a b unit queue by first some is (Some e) d = d
 takes_one a b unit queue by first some is None d =
-    let never : (version : Version) (rs : List Record) → IsManaged version rs a → ⊥ = λ version rs m.
-    false≢true (ap is_some ((d version rs m).2 ∙ sym (is version rs m)) ∙ some) in
-    (λ version rs m. absurd (never version rs m), λ version rs m. absurd (never version rs m))
+    let never : (from : Start) (rs : List Record) → IsManaged from rs a → ⊥ = λ from rs m.
+    false≢true (ap is_some ((d from rs m).2 ∙ sym (is from rs m)) ∙ some) in
+    (λ from rs m. absurd (never from rs m), λ from rs m. absurd (never from rs m))
 
 pub takes_one_so : (a b : Stand) (unit queue : ℕ) (by : Option By) (first : Option Element) → is_some first ≡ true
-    → ((version : Version) (rs : List Record) → IsManaged version rs a → first ≡ best queue (run empty rs).elements)
+    → ((from : Start) (rs : List Record) → IsManaged from rs a → first ≡ best queue (state_reached from rs).elements)
     → (result : Result (Option Element) NotDone) → IfOk result (Dequeues a b unit queue by)
     → IfOk result (DequeuesIfFree a b unit queue by)
 takes_one_so a b unit queue by first some is (Ok e) d = takes_one a b unit queue by first some is e d

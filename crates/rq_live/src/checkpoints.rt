@@ -30,7 +30,7 @@ impl<D: Device + Drop> Manager<D> {
         if self.spent {
             return Err(NotDone::Spent);
         }
-        let offset = self.kernel.framer.len();
+        let offset = self.kernel.len;
         match self.kernel.mark(alloc) {
             Ok(()) => Ok(offset),
             Err(NotDone::Full) => Err(NotDone::Full),
@@ -61,6 +61,8 @@ impl<D: Device + Drop> Manager<D> {
         rq_model::one_front();
         rq_model::appended_logs();
         rq_model::appended_checkpoints();
+        rq_model::frames_are_right();
+        rq_model::continued_logs();
         let offset = self.marked(alloc)?;
         self.settle_pending()?;
         Ok(offset)

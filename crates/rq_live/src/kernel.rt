@@ -1,22 +1,22 @@
 //! The queues as they stand, and the frames of what was done to them.
 
-ghost use Rattle.std.specs.Prelude.{◌≡◌, ◌≢◌, ◌<◌, ◌≤◌, ◌+◌, ◌*◌, List, [], length, nat_le};
-ghost use Rattle.std.specs.Prelude.{map, IfOk, IfErr, OnOk};
+ghost use Rattle.std.specs.Prelude.{◌≡◌, ◌≢◌, ◌<◌, ◌≤◌, ◌+◌, ◌-◌, ◌*◌, List, [], length, nat_le};
+ghost use Rattle.std.specs.Prelude.{map, drop, IfOk, IfErr, OnOk};
 ghost use Rattle.rq_model.specs.Records as model;
 ghost use Rattle.rq_model.specs.Appending.{MayFollow, FitsCheckpoint};
-ghost use Rattle.rq_model.specs.Frames.{IsBodyLength, log_limit, log_of};
-ghost use Rattle.rq_model.specs.States.{empty};
-ghost use Rattle.rq_model.specs.StateSpelling.{state_bytes};
-ghost use Rattle.rq_model.specs.Machine.{best, run};
+ghost use Rattle.rq_model.specs.Frames.{IsBodyLength, log_limit};
+ghost use Rattle.rq_model.specs.StateSpelling.{carried_next, state_bytes};
+ghost use Rattle.rq_model.specs.Machine.{best};
 ghost use Rattle.rq_record.specs.Views.{record_of, version_of};
 ghost use Rattle.rq_record.specs.declared.fault.Fault.TheVariants.{Resources};
 ghost use Rattle.rq_state.specs.Views.{unit_of};
-ghost use Rattle.rq_front.specs.Framers.{IsFramerAt, behind_header};
+ghost use Rattle.rq_live.specs.Starts.{Start, Plain, AreBegun, rules_of, base_of, file_of};
+ghost use Rattle.rq_live.specs.Starts.{state_reached, last_behind};
 ghost use Rattle.rq_live.specs.Kernels.{IsKernelBehind, IsBodyOf, KernelTakes, KernelStops};
 ghost use Rattle.rq_live.specs.Kernels.{KernelAborts, KernelMarks, KernelStopsMark, KernelTakesEach};
-ghost use Rattle.rq_live.specs.Kernels.{open_behind};
+ghost use Rattle.rq_live.specs.Kernels.{FramesBody, open_behind};
 
-use rq_front::{FRAME_LEN, Framer, LOG_LIMIT, header_of};
+use rq_front::{FRAME_LEN, HEADER_LEN, LOG_LIMIT, append_frame, header_of};
 use rq_lawful::Rule;
 use rq_record::{CheckBytes, ElemId, Fault, KeptRecord, QueueNo, Record, UnitNo, Version, encode};
 use rq_standing::{Machine, Taken};
@@ -50,7 +50,9 @@ pub enum NotDone {
 pub struct Kernel {
     pub(crate) version: Version,
     pub(crate) machine: Machine,
-    pub(crate) framer: Framer,
+    // The last 32 bytes of the log, and how many it has.
+    pub(crate) last: [u8; 32],
+    pub(crate) len: usize,
     pub(crate) body: Vec<u8>,
     pub(crate) pending: Vec<u8>,
 }
@@ -67,10 +69,20 @@ fn open_behind(count: usize, kept: &KeptRecord) -> usize
     }
 }
 
+// The last 32 of the bytes.
+fn last_bytes(bytes: &[u8]) -> [u8; 32]
+    requires { 32 ≤ length bytes.now }
+    ensures { result ≡ drop (length bytes.now - 32) bytes.now }
+{
+    let mut last = [0u8; 32];
+    last.copy_from_slice(&bytes[bytes.len() - 32..]);
+    last
+}
+
 impl Kernel {
     /// No queues yet, by the rules of the version. The header of the log is pending.
     pub(crate) fn new(alloc: Global, version: Version) -> Result<Kernel, Fault>
-        ensures stands { IfOk result (IsKernelBehind (version_of version) [] []) }
+        ensures stands { IfOk result (IsKernelBehind (Plain (version_of version)) [] []) }
         ensures few { IfOk result (λ kernel. length kernel.pending.items ≤ 40) }
         ensures refused { IfErr result (λ e. e ≡ Resources) }
     {
@@ -80,24 +92,35 @@ impl Kernel {
         Ok(Kernel {
             version,
             machine: Machine::empty(alloc),
-            framer: Framer::new(version),
+            last: last_bytes(&pending),
+            len: HEADER_LEN,
             body: Vec::new(alloc),
             pending,
         })
     }
 
-    /// Stands where this machine stands and this framer does. No frame is pending.
-    pub fn standing(alloc: Global, version: Version, machine: Machine, framer: Framer) -> Kernel
-        ensures stands { (rs : List model.Record) → MayFollow (version_of version) empty rs
-            → length (log_of (version_of version) rs) ≤ log_limit → machine ≡ run empty rs
-            → IsFramerAt (behind_header (version_of version)) rs framer
-            → IsKernelBehind (version_of version) rs (log_of (version_of version) rs) result }
+    /// Stands where this machine stands, behind so many bytes, whose last 32 are these. No frame is
+    /// pending.
+    pub fn standing(
+        alloc: Global,
+        version: Version,
+        machine: Machine,
+        last: [u8; 32],
+        len: usize,
+    ) -> Kernel
+        ensures stands { (from : Start) (rs : List model.Record) → version_of version ≡ rules_of from
+            → AreBegun from rs → MayFollow (rules_of from) (base_of from) rs
+            → length (file_of from rs) ≤ log_limit → machine ≡ state_reached from rs
+            → last ≡ last_behind from rs → len ≡ length (file_of from rs)
+            → IsKernelBehind from rs (file_of from rs) result }
+        ensures len { result.len ≡ len }
         ensures none { result.pending.items ≡ [] }
     {
         Kernel {
             version,
             machine,
-            framer,
+            last,
+            len,
             body: Vec::new(alloc),
             pending: Vec::new(alloc),
         }
@@ -126,13 +149,13 @@ impl Kernel {
     /// Whether the log has room for the end of each unit that is open.
     pub fn has_room_for_ends(&self) -> bool
         ensures { result
-            ≡ nat_le (self.now.framer.len + 45 * length self.now.machine.units) log_limit }
+            ≡ nat_le (self.now.len + 45 * length self.now.machine.units) log_limit }
     {
         let count = self.machine.open_count();
         if count > LOG_LIMIT {
             return false;
         }
-        let len = self.framer.len();
+        let len = self.len;
         len <= LOG_LIMIT && END_LEN * count <= LOG_LIMIT - len
     }
 
@@ -141,7 +164,7 @@ impl Kernel {
     #[tactic(auto, using(crate::proofs::Taking::open_many))]
     fn has_room(&self, kept: &KeptRecord) -> bool
         requires { IsBodyLength (length self.now.body.items) }
-        ensures { result ≡ nat_le (self.now.framer.len + (36 + length self.now.body.items)
+        ensures { result ≡ nat_le (self.now.len + (36 + length self.now.body.items)
             + 45 * open_behind (length self.now.machine.units) (record_of kept.now)) log_limit }
     {
         let count = self.machine.open_count();
@@ -149,13 +172,26 @@ impl Kernel {
             return false;
         }
         let ends = END_LEN * open_behind(count, kept);
-        FRAME_LEN + self.body.len() + ends <= LOG_LIMIT.saturating_sub(self.framer.len())
+        FRAME_LEN + self.body.len() + ends <= LOG_LIMIT.saturating_sub(self.len)
+    }
+
+    // Adds the frame of the body that was spelled to those that are pending.
+    fn put_frame(&mut self) -> Result<(), Fault>
+        requires body { IsBodyLength (length self.old.body.items) }
+        requires room { self.old.len + (36 + length self.old.body.items) ≤ log_limit }
+        ensures framed { OnOk result (FramesBody self.old self.new self.old.body.items) }
+        ensures rules { self.new.version ≡ self.old.version }
+        ensures machine { self.new.machine ≡ self.old.machine }
+    {
+        self.last = append_frame(&self.last, &self.body, &mut self.pending)?;
+        self.len += FRAME_LEN + self.body.len();
+        Ok(())
     }
 
     // Why the record is not taken for which there is no room: that it is not lawful is told first,
     // so a COMMIT or an ABORT is never refused for want of room.
     fn without_room(&self, kept: &KeptRecord) -> NotDone
-        requires long { log_limit < self.now.framer.len + (36 + length self.now.body.items)
+        requires long { log_limit < self.now.len + (36 + length self.now.body.items)
             + 45 * open_behind (length self.now.machine.units) (record_of kept.now) }
         requires body { IsBodyOf (record_of kept.now) self.now.body.items }
         ensures { KernelStops self.now self.now (record_of kept.now) result }
@@ -198,7 +234,7 @@ impl Kernel {
             return Err(self.without_room(kept));
         }
         match self.machine.take(alloc, self.version, kept) {
-            Ok(Taken::Done(element)) => match self.framer.put(&self.body, &mut self.pending) {
+            Ok(Taken::Done(element)) => match self.put_frame() {
                 Ok(()) => Ok(element),
                 Err(_) => Err(NotDone::Spent),
             },
@@ -207,13 +243,14 @@ impl Kernel {
         }
     }
 
-    // The bytes that spell the state.
-    fn spelled(&self, alloc: Global) -> Result<CheckBytes, NotDone>
+    /// The bytes that spell the state.
+    pub(crate) fn state_spelled(&self, alloc: Global) -> Result<CheckBytes, NotDone>
         ensures spelled { IfOk result (λ bytes. bytes ≡ state_bytes self.now.machine) }
         ensures fits { OnOk result (FitsCheckpoint self.now.machine) }
+        ensures few { OnOk result (self.now.machine.next ≤ carried_next) }
         ensures refused { IfErr result (KernelStopsMark self.now self.now) }
     {
-        if self.machine.next() > State::RECORDS {
+        if self.machine.next() > State::CARRIED_RECORDS {
             return Err(NotDone::Ended);
         }
         let bytes = match self.machine.spell(alloc) {
@@ -232,12 +269,13 @@ impl Kernel {
         ensures few { IfErr result
             (λ why. why ≢ NotDone.Spent → self.new.pending ≡ self.old.pending) }
     {
-        let bytes = self.spelled(alloc)?;
+        let bytes = self.state_spelled(alloc)?;
         match self.take(alloc, &Record::Checkpoint { bytes }) {
             Ok(_) => Ok(()),
             Err(why) => Err(why),
         }
     }
+
     // Aborts these units, in turn.
     fn abort_each(&mut self, alloc: Global, units: &[UnitNo]) -> Result<(), NotDone>
         ensures { OnOk result (KernelTakesEach self.old self.new

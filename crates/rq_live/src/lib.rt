@@ -2,6 +2,7 @@
 //! operation at a time, and starts no thread.
 #![tactic(auto)]
 
+mod carries;
 mod checkpoints;
 mod free_elements;
 mod kernel;
@@ -10,6 +11,7 @@ mod manager;
 mod operations;
 mod resumption;
 
+pub use carries::NotCarried;
 pub use kernel::{Kernel, NotDone};
 pub use looks::Depths;
 pub use manager::Manager;

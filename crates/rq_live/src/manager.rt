@@ -6,9 +6,10 @@ ghost use Rattle.rq_record.specs.Views.{record_of, version_of};
 ghost use Rattle.rq_record.specs.declared.fault.Fault.TheVariants.{Resources};
 ghost use Rattle.rq_state.specs.Views.{unit_of};
 ghost use Rattle.rq_device.specs.Devices.{AreStored, IsAllSynced};
+ghost use Rattle.rq_live.specs.Starts.{Plain};
 ghost use Rattle.rq_live.specs.Managers.{IsManaged, IsInOrder, KeepsWindow, stand_of, DoesTaking};
 ghost use Rattle.rq_live.specs.Managers.{ManagerStops, StandsStill};
-ghost use Rattle.rq_live.specs.Managers.{Settles, KeepsSafe, IsLength, IsLastOf, AreOpen};
+ghost use Rattle.rq_live.specs.Managers.{Settles, AllIsSafe, KeepsSafe, IsLength, IsLastOf, AreOpen};
 ghost use Rattle.rq_live.specs.Managers.{AreDefined, AreFirstFree};
 
 use crate::kernel::{Kernel, NotDone};
@@ -38,7 +39,7 @@ impl<D: Device + Drop> Manager<D> {
         requires works { D.failed device ≡ false }
         requires sure { D.doubted device ≡ false }
         requires synced { IsAllSynced (D.written device) (D.synced device) }
-        ensures stands { IfOk result (λ m. IsManaged (version_of version) []
+        ensures stands { IfOk result (λ m. IsManaged (Plain (version_of version)) []
             (stand_of D.written D.synced D.doubted D.failed m)) }
         ensures order { IfOk result (λ m. IsInOrder
             (stand_of D.written D.synced D.doubted D.failed m)) }
@@ -77,7 +78,7 @@ impl<D: Device + Drop> Manager<D> {
     pub fn len(&self) -> usize
         ensures { IsLength (stand_of D.written D.synced D.doubted D.failed self.now) result }
     {
-        self.kernel.framer.len()
+        self.kernel.len
     }
 
     /// The last operation of who is registered with a queue by the name, lent; none if nobody is.
@@ -155,6 +156,8 @@ impl<D: Device + Drop> Manager<D> {
         ensures safe { OnOk result (Settles
             (stand_of D.written D.synced D.doubted D.failed self.old)
             (stand_of D.written D.synced D.doubted D.failed self.new)) }
+        ensures all { OnOk result (AllIsSafe
+            (stand_of D.written D.synced D.doubted D.failed self.new)) }
         ensures keeps { KeepsSafe (stand_of D.written D.synced D.doubted D.failed self.old)
             (stand_of D.written D.synced D.doubted D.failed self.new) }
         ensures refused { IfErr result (λ why. (why ≡ NotDone.Spent) × (self.new.spent ≡ true)) }
@@ -180,10 +183,13 @@ impl<D: Device + Drop> Manager<D> {
     pub fn settle(&mut self) -> Result<(), NotDone>
         requires { IsInOrder (stand_of D.written D.synced D.doubted D.failed self.old) }
         ensures order { IsInOrder (stand_of D.written D.synced D.doubted D.failed self.new) }
+        ensures few { OnOk result (self.new.kernel.pending.items ≡ []) }
         ensures spent { self.old.spent ≡ true
             → (self.new ≡ self.old) × (result ≡ Err NotDone.Spent) }
         ensures safe { OnOk result (Settles
             (stand_of D.written D.synced D.doubted D.failed self.old)
+            (stand_of D.written D.synced D.doubted D.failed self.new)) }
+        ensures all { OnOk result (AllIsSafe
             (stand_of D.written D.synced D.doubted D.failed self.new)) }
         ensures keeps { KeepsSafe (stand_of D.written D.synced D.doubted D.failed self.old)
             (stand_of D.written D.synced D.doubted D.failed self.new) }

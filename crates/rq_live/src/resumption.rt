@@ -63,11 +63,11 @@ impl<D: Device + Drop> Manager<D> {
         ensures refused { IfErr result (StopsResume
             (stand_of D.written D.synced D.doubted D.failed self.old)
             (stand_of D.written D.synced D.doubted D.failed self.new)) }
-        ensures keeps { (n : ℕ) → n ≤ self.old.kernel.framer.len → n ≤ D.synced self.old.device
+        ensures keeps { (n : ℕ) → n ≤ self.old.kernel.len → n ≤ D.synced self.old.device
             → KeepsSynced (D.written self.old.device) n (D.written self.new.device)
             (D.synced self.new.device) }
     {
-        let used = self.kernel.framer.len();
+        let used = self.kernel.len;
         if !self.kernel.has_room_for_ends() {
             self.spent = true;
             return Err(NotDone::Full);
@@ -117,11 +117,11 @@ impl<D: Device + Drop> Manager<D> {
             (stand_of D.written D.synced D.doubted D.failed self.new)) }
         ensures fault { IfErr result (λ why. (self.new.device ≡ self.old.device)
             ⊎ (D.failed self.new.device ≡ true)) }
-        ensures keeps { (n : ℕ) → n ≤ self.old.kernel.framer.len → n ≤ D.synced self.old.device
+        ensures keeps { (n : ℕ) → n ≤ self.old.kernel.len → n ≤ D.synced self.old.device
             → KeepsSynced (D.written self.old.device) n (D.written self.new.device)
             (D.synced self.new.device) }
     {
-        let used = self.kernel.framer.len();
+        let used = self.kernel.len;
         if !self.kernel.has_room_for_ends() {
             self.spent = true;
             return Err(NotDone::Full);

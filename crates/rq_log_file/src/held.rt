@@ -1,6 +1,6 @@
 //! The file of a log, which one program writes at a time.
 
-use rq_file::NamedFile;
+use rq_file::{NamedFile, folder_within};
 use std::fs::{File, Files, Metadata, OpenFile, OpenOptions, TryLockError};
 use std::io::{self, Seek, SeekFrom, Write};
 
@@ -32,8 +32,8 @@ pub struct HeldLog {
     place: NamedFile<File>,
 }
 
-// Takes the lock of a log's writers, or of its readers.
-fn lock(file: &File, hold: Hold) -> Result<(), NotHeld> {
+/// Takes the lock of a log's writers, or of its readers.
+pub(crate) fn lock(file: &File, hold: Hold) -> Result<(), NotHeld> {
     let locked = match hold {
         Hold::ToRead => file.try_lock_shared(),
         Hold::ToReplace | Hold::ToWrite => file.try_lock(),
@@ -65,9 +65,31 @@ impl HeldLog {
         Ok(HeldLog { place })
     }
 
+    /// The file that has the lock of a log's writers, and its name.
+    pub(crate) fn holding(place: NamedFile<File>) -> HeldLog {
+        HeldLog { place }
+    }
+
+    /// The file, and its name.
+    pub(crate) fn named_file(&self) -> &NamedFile<File> {
+        &self.place
+    }
+
     /// The file.
     pub fn file(&mut self) -> &mut File {
         self.place.file_mut()
+    }
+
+    /// Tells the disk of the file's name: whoever gave it that may have been killed before.
+    pub fn sync_name<R>(&self, rt: &R) -> io::Result<()>
+    where
+        R: Files<File = File> + AllocGlobal,
+    {
+        let folder = File::open(
+            rt,
+            folder_within(rt.alloc(), self.place.real_name())?.as_str(),
+        )?;
+        OpenFile::sync_all(&folder)
     }
 
     /// Refuses a file that has its name no more, or not so many bytes as were read.

@@ -57,6 +57,17 @@ impl<F> LogFile<F> {
         }
     }
 
+    /// Over a file of so many bytes, all of which its holder wrote and synced: a `rewrite` has nothing to
+    /// write again.
+    pub fn of_synced(file: F, len: usize) -> LogFile<F>
+        ensures { result.error ≡ None }
+    {
+        let mut it = LogFile::new(file, None);
+        it.len = len as u64;
+        it.synced = len as u64;
+        it
+    }
+
     /// The file.
     pub fn file(&self) -> &F
         ensures { result.now ≡ self.now.file }

@@ -10,6 +10,7 @@ use Rattle.rq_model.specs.Records as model
 use Rattle.rq_model.specs.Spelling.{body_of, IsRecord, Spells}
 use Rattle.rq_model.specs.Frames.{before, digest, header, start, frames_of, stated, body_in}
 use Rattle.rq_model.specs.States.{State, empty}
+use Rattle.rq_model.specs.StateSpelling.{carried_next}
 use Rattle.rq_model.specs.Machine.{is_lawful, is_limit, all_lawful, step}
 use Rattle.rq_model.specs.Fronts.{Restarted}
 use Rattle.rq_model.proofs.RecordReaders.{body_fits, one_record}
@@ -37,7 +38,7 @@ pub record IsAhead (rest : List ℕ) (offset number queues : ℕ) (s : State) (t
   pub counted : number ≡ s.next
   pub defined : queues ≡ length s.definitions
   pub few : length s.definitions ≤ 4096
-  pub low : s.next + length todo ≤ 8589934590
+  pub low : s.next + length todo ≤ 9223372041149743102
   pub near : offset + length rest ≤ 8589934590
 
 -- the lines of some records are put, and those of the others are left
@@ -95,7 +96,7 @@ first_ahead None b rest w offset number queues text old r s h first left stands 
     }
 first_ahead (Some at) b rest w offset number queues text old r s h first left stands counted defined =
     let spelled = first h.kept h.checkpoint in
-    let same : s ≡ h.state = one_state spelled.0 h.version s h.state h.kept spelled.2 h.spells in
+    let same : s ≡ h.state = one_state carried_next carried_next spelled.0 h.version s h.state h.kept spelled.2 h.spells in
     let high : at ≤ length b = omega (arith, h.checkpoint.frame.whole.room, length-drop at b) in
     let used : r.used ≡ length b - length h.rest = ap (λ (x : Restarted). x.used) h.answer in
     let frames = ap length h.front.begins.whole in

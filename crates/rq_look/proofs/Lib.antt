@@ -2,7 +2,11 @@ pub mod Behind
 pub mod Dumped
 pub mod FrontEnds
 pub mod Gathered
+pub mod Members
 pub mod Puts
+pub mod Queues
 pub mod Scripts
 pub mod ShownFronts
+pub mod Spelled
+pub mod Tokens
 pub mod Words

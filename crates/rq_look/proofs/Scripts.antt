@@ -11,6 +11,7 @@ use Rattle.rq_model.specs.Records.{Record, Version, Two}
 use Rattle.rq_model.specs.Spelling.{body_of, IsRecord, Spells}
 use Rattle.rq_model.specs.Frames.{before, digest, header, log_limit, start, frames_of, stated, body_in}
 use Rattle.rq_model.specs.States.{State, empty}
+use Rattle.rq_model.specs.StateSpelling.{carried_next}
 use Rattle.rq_model.specs.Fronts.{IsLongest, Restarted}
 use Rattle.rq_model.proofs.RecordReaders.{body_fits, one_record}
 use Rattle.rq_model.proofs.Lists.{each_append}
@@ -38,7 +39,7 @@ pub record IsUnderWay (at : Option ℕ) (b rest : List ℕ) (number : ℕ) (text
   pub front : IsShownFront at b version base (done ++ todo) behind
   pub tellable : AllByRecursion IsTellable done
   pub left : rest ≡ frames_of place todo
-  pub low : base.next ≤ 4294967295
+  pub low : base.next ≤ carried_next
   pub counted : number ≡ base.next + length done
   pub appends : Appends old now put
   pub told : put ++ text ≡ script_text done
@@ -72,7 +73,7 @@ begun None b rest number text old r s h first left counted none = record {
 }
 begun (Some at) b rest number text old r s h first left counted none =
     let spelled = first h.kept h.checkpoint in
-    let same : s ≡ h.state = one_state spelled.0 h.version s h.state h.kept spelled.2 h.spells in
+    let same : s ≡ h.state = one_state carried_next carried_next spelled.0 h.version s h.state h.kept spelled.2 h.spells in
     let high : at ≤ length b = omega (arith, h.checkpoint.frame.whole.room, length-drop at b) in
     let used : r.used ≡ length b - length h.rest = ap (λ (x : Restarted). x.used) h.answer in
     record {

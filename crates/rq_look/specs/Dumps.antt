@@ -17,11 +17,12 @@ use Rattle.rq_look.specs.Entries.{LogEntry, entries, entry_at, fits, fits_none, 
 use Rattle.rq_look.specs.Lines.{record_line}
 use Rattle.rq_look.specs.Findings.{IsBehind, behind_text}
 use Rattle.rq_look.specs.Looks.{IsClosing}
+use Rattle.rq_look.specs.Objects.{behind_members, formless_members, object_line, record_members}
 use Rattle.rq_look.specs.Scripts.{IsShownFront}
 
--- a line of a dump: some object of JSON, or that of the record, in full or not
+-- a line of a dump: the object of the record, or its line, in full or not
 abbrev pub IsLineOf : Bool → Bool → LogEntry → List ℕ → Type 0
-IsLineOf true full e line = (object : List ℕ) × (line ≡ object ++ codes "\n")
+IsLineOf true full e line = line ≡ object_line (record_members e)
 IsLineOf false full e line = line ≡ record_line full e ++ codes "\n"
 
 -- a line for each record, in order
@@ -40,9 +41,10 @@ abbrev pub formless_line : ℕ → List ℕ → List ℕ
 formless_line offset reason =
     decimal offset ++ (codes " behind no record: " ++ (reason ++ codes "\n"))
 
--- a line of such a frame: some object of JSON, or this line with some reason
+-- a line of such a frame, with some reason: its object, or this line
 abbrev pub IsFormless : Bool → ℕ → List ℕ → Type 0
-IsFormless true offset line = (object : List ℕ) × (line ≡ object ++ codes "\n")
+IsFormless true offset line =
+    (reason : List ℕ) × (line ≡ object_line (formless_members offset reason))
 IsFormless false offset line = (reason : List ℕ) × (line ≡ formless_line offset reason)
 
 -- this line if it is wanted, else nothing
@@ -89,9 +91,9 @@ AreLinesBehind w version b (suc n) (s ∷ ss) text = (wanted : Bool) × (line mo
     × IsLineBehind w version b s wanted line
     × AreLinesBehind w version b (if wanted then n else suc n) ss more × (text ≡ line ++ more)
 
--- how many they are: some object of JSON, or the lines that say so
+-- how many they are: the object that says so, or the lines
 abbrev pub IsCountLine : Bool → Found → ℕ → List ℕ → Type 0
-IsCountLine true found total line = (object : List ℕ) × (line ≡ object ++ codes "\n")
+IsCountLine true found total line = line ≡ object_line (behind_members found)
 IsCountLine false found total line = line ≡ behind_text found total
 
 -- what stands behind the front of b: the lines of its right frames, so many at most, and how many they

@@ -4,4 +4,6 @@ pub mod Findings
 pub mod Lines
 pub mod Looks
 pub mod Mendings
+pub mod Objects
+pub mod ReportObjects
 pub mod Scripts

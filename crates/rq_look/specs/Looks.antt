@@ -1,14 +1,16 @@
 -- What a look at a log promises.
 use Rattle.std.specs.Prelude.{◌≡◌, ℕ, ◌+◌, ◌<◌, ◌≤◌, ◌⊎◌, Bool, true, false, ⊤, List, ◌++◌, length, codes}
-use Rattle.std.specs.Prelude.{Option, Some, None}
+use Rattle.std.specs.Prelude.{MatchOption, Option, Some, None}
 use Rattle.std.specs.Io.KnownBytes.{Appends}
 use Rattle.rq_model.specs.Fronts.{Restarted}
 use Rattle.rq_model.specs.Reports.{IsReport}
-use Rattle.rq_model.specs.Checkpoints.{IsReportAt}
+use Rattle.rq_model.specs.Carrying.{IsCarriedReport}
 use Rattle.rq_report.specs.Pieces.{AreLinesOf}
 use Rattle.rq_front.specs.Chains.{IsLog}
 use Rattle.rq_found.specs.Ends.{IsRestartFrom, beginning_text, end_line}
 use Rattle.rq_found.specs.Refusals.{IsBroken, IsRefusal, StaysUnshown}
+use Rattle.rq_look.specs.Objects.{closing_members, object_line}
+use Rattle.rq_look.specs.ReportObjects.{IsReportJson}
 use Rattle.rq_look.specs.Scripts.{LeavesOut}
 use Rattle.rq_found.specs.declared.trouble.Subject.{Subject}
 use Rattle.rq_found.specs.declared.trouble.Trouble.{Trouble}
@@ -24,13 +26,11 @@ abbrev pub Gathers : List ℕ → List ℕ → Option (List ℕ) → List ℕ �
 Gathers put text old left new = (written : List ℕ) × Appends old new written
     × (text ++ put ≡ written ++ left)
 
--- a text is appended that ends with the end of a line
-abbrev pub AppendsLine : Option (List ℕ) → Option (List ℕ) → Type 0
-AppendsLine old new = (text : List ℕ) × Appends old new (text ++ codes "\n")
-
--- the last line of a dump of b: an object of JSON, or that of where its front ends, with some reason
+-- the last line of a dump of b, of where its front ends, with some reason: as an object, which says where
+-- b begins if it was carried on, or as a line
 abbrev pub IsClosing : Option ℕ → List ℕ → Bool → List ℕ → Type 0
-IsClosing at b true text = (object : List ℕ) × (text ≡ object ++ codes "\n")
+IsClosing at b true text = (r : Restarted) × (reason : List ℕ) × IsRestartFrom at b r
+    × (text ≡ object_line (closing_members at r reason))
 IsClosing at b false text = (r : Restarted) × (reason : List ℕ) × IsRestartFrom at b r
     × (text ≡ end_line r reason)
 
@@ -58,8 +58,7 @@ StaysWithoutStory at b subject old new e = (IsLog b × LacksStory subject old ne
 
 -- the restart of b has a queue of this number, if one is wanted
 abbrev pub HasQueue : Restarted → Option ℕ → Type 0
-HasQueue r None = ⊤
-HasQueue r (Some queue) = queue < length r.state.definitions
+HasQueue r wanted = MatchOption wanted ⊤ (λ queue. queue < length r.state.definitions)
 
 -- why b has no report with the queue that is wanted: it is refused, or has no such queue
 abbrev pub LacksReport : Option ℕ → List ℕ → Option ℕ → Trouble → Type 0
@@ -84,10 +83,11 @@ abbrev pub StaysUnreported : Option ℕ → List ℕ → Option ℕ → Option (
 StaysUnreported at b wanted old new e = (HasWanted at b wanted × BreaksReport old new e)
     ⊎ (LacksReport at b wanted e × (new ≡ old))
 
--- the text is the report of b, or that from the checkpoint at an offset
+-- the text is the report of b, or that of a carried file that is read as b, from the checkpoint at an
+-- offset
 abbrev pub IsReportFrom : Option ℕ → List ℕ → List ℕ → Type 0
 IsReportFrom None b text = IsReport b text
-IsReportFrom (Some at) b text = IsReportAt b at text
+IsReportFrom (Some at) b text = IsCarriedReport b at text
 
 -- the report of b is appended, behind the line that says where b begins
 abbrev pub PutsReport : Option ℕ → List ℕ → Option (List ℕ) → Option (List ℕ) → Type 0
@@ -99,11 +99,16 @@ abbrev pub PutsQueue : Restarted → ℕ → Option (List ℕ) → Option (List 
 PutsQueue r queue old new = (text : List ℕ) × AreLinesOf r.state queue (queue + 1) text
     × Appends old new text
 
--- of b, which has the queue that is wanted, one value of JSON is appended, and the end of its line; or
+-- the report of a restart is appended as one value of JSON
+abbrev pub PutsJson : Option ℕ → Restarted → Option ℕ → Option (List ℕ) → Option (List ℕ) → Type 0
+PutsJson at r wanted old new = (text : List ℕ) × IsReportJson at r wanted text × Appends old new text
+
+-- of b, which has the queue that is wanted, the report is appended as one value of JSON; or
 -- its report is; or, if one queue is wanted alone, those lines of it that are of this queue
 abbrev pub PutsReportAs : Bool → Option ℕ → List ℕ → Option ℕ → Option (List ℕ) → Option (List ℕ)
     → Type 0
-PutsReportAs true at b wanted old new = HasWanted at b wanted × AppendsLine old new
+PutsReportAs true at b wanted old new = IsLog b × (r : Restarted) × IsRestartFrom at b r
+    × HasQueue r wanted × PutsJson at r wanted old new
 PutsReportAs false at b None old new = PutsReport at b old new
 PutsReportAs false at b (Some queue) old new = IsLog b × (r : Restarted) × IsRestartFrom at b r
     × HasQueue r (Some queue) × PutsQueue r queue old new

@@ -7,7 +7,7 @@ use Rattle.rq_model.specs.Records.{By, Record, Enqueue, Dequeue, Version, Two}
 use Rattle.rq_model.specs.Spelling.{Spells}
 use Rattle.rq_model.specs.Frames.{log_limit, HasHeader, before}
 use Rattle.rq_model.specs.States.{State, empty}
-use Rattle.rq_model.specs.StateSpelling.{SpellsState}
+use Rattle.rq_model.specs.StateSpelling.{SpellsCarried}
 use Rattle.rq_model.specs.Fronts.{IsFront, IsLongest, Restarted}
 use Rattle.rq_model.specs.Checkpoints.{IsCheckpointAt}
 use Rattle.rq_writer.specs.Script.{record_text, IsTellable}
@@ -23,14 +23,15 @@ script_line r = record_text r ++ codes "\n"
 abbrev pub script_text : List Record → List ℕ
 script_text rs = flat_map script_line rs
 
--- the records of b from the checkpoint at an offset on, behind the state that it spells
+-- the records of a carried file that is read as b, from the checkpoint at an offset on, behind the
+-- state that it spells
 pub record IsShownPart (b : List ℕ) (offset : ℕ) (version : Version) (base : State)
     (records : List Record) (rest : List ℕ) : Type 0 where
   pub kept : List ℕ
   pub short : length b ≤ log_limit
   pub header : HasHeader version b
   pub checkpoint : IsCheckpointAt b offset kept
-  pub spells : SpellsState version base kept
+  pub spells : SpellsCarried version base kept
   pub front : IsLongest version base (before offset b) (drop offset b) records rest
 
 -- the records of the front of b that are shown, behind this state: all of them, or those from the

@@ -2,6 +2,7 @@
 
 ghost use Rattle.std.specs.Prelude.{◌≡◌, ◌++◌, true, false, encode_utf8_all, length, take};
 ghost use Rattle.std.specs.Prelude.{IfOk, MatchOption, OnOk, string_bytes};
+ghost use Rattle.std.specs.Int.{is_in_range};
 ghost use Rattle.std.specs.List.{list_all};
 ghost use Rattle.std.specs.Str.{chars};
 ghost use Rattle.rq_look.specs.Lines.{bytes_text, character_text, cut_text, first_text};
@@ -16,7 +17,9 @@ use std::str::from_utf8;
 const SHOWN: usize = 32;
 
 /// Whether a byte is a character that anybody sees.
-pub(crate) fn is_plain(byte: u8) -> bool {
+pub(crate) fn is_plain(byte: u8) -> bool
+    ensures { result ≡ is_in_range 32 126 byte }
+{
     matches!(byte, b' '..=b'~')
 }
 

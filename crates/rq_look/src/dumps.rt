@@ -19,8 +19,8 @@ ghost use Rattle.rq_look.specs.Findings.{EndsWithin};
 ghost use Rattle.rq_look.specs.Looks.{Gathers, IsClosing};
 
 use crate::behind_fronts::{put_behind, standing_behind};
+use crate::dump_objects::{put_behind_object, put_closing_object};
 use crate::frame_lines::put_entry;
-use crate::json::{put_behind_object, put_closing_object};
 use crate::sheet::write_out;
 use crate::shown_records::ShownFrame;
 use crate::wanted::Wanted;
@@ -31,15 +31,21 @@ use rq_state::State;
 use std::alloc::Global;
 use std::thread::Threads;
 
-/// Puts where the front ends in the form that is wanted.
-pub(crate) fn put_closing(alloc: Global, text: &mut String, end: &End, wanted: &Wanted<'_>) -> Put
-    ensures { OnOk result ((at : Option ℕ) (b : List ℕ) (r : Restarted)
+/// Puts where the front ends, of a log that begins so, in the form that is wanted.
+pub(crate) fn put_closing(
+    alloc: Global,
+    text: &mut String,
+    at: Option<u64>,
+    end: &End,
+    wanted: &Wanted<'_>,
+) -> Put
+    ensures { OnOk result ((b : List ℕ) (r : Restarted)
         → IsRestartFrom at b r → IsEndOf r end.now.front
         → (line : List ℕ) × IsClosing at b wanted.now.json line
         × (string_bytes text.new ≡ string_bytes text.old ++ line)) }
 {
     if wanted.json {
-        return put_closing_object(alloc, text, end);
+        return put_closing_object(alloc, text, at, end);
     }
     Ok(End::put_end(text, end)?)
 }
@@ -213,7 +219,7 @@ fn put_lines<W: Output>(
     let left = put_records(alloc, log, first, end.front.used, wanted, text, output)?;
     put_wanted_behind(alloc, log.bytes, end, wanted, left, text, output)?;
     put_origin(text, log.at, wanted)?;
-    put_closing(alloc, text, end, wanted)?;
+    put_closing(alloc, text, log.at, end, wanted)?;
     write_out(text, output)?;
     Ok(())
 }

@@ -9,7 +9,7 @@ ghost use Rattle.rq_look.specs.Dumps.{formless_line};
 ghost use Rattle.rq_look.specs.Entries.{fits, fits_none, shown_entry};
 ghost use Rattle.rq_look.specs.Looks.{Gathers};
 
-use crate::json::{put_object, put_unspelled};
+use crate::dump_objects::{put_record_object, put_unspelled};
 use crate::lines::put_record;
 use crate::sheet::relieve;
 use crate::shown_records::{ShownFrame, ShownRecord};
@@ -26,7 +26,7 @@ fn put_shown(alloc: Global, text: &mut String, it: &ShownRecord<'_>, wanted: &Wa
         × (string_bytes text.new ≡ string_bytes text.old ++ line)) }
 {
     if wanted.json {
-        return put_object(alloc, text, it);
+        return put_record_object(alloc, text, it);
     }
     put_record(alloc, text, it, wanted.full)?;
     text.push_str("\n")

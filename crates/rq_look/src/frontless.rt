@@ -105,7 +105,7 @@ pub fn dump_frontless<W: Output>(
     )?;
     put_counted(alloc, &mut text, &found, end.front.total, wanted)?;
     put_origin(&mut text, log.at, wanted)?;
-    put_closing(alloc, &mut text, &end, wanted)?;
+    put_closing(alloc, &mut text, log.at, &end, wanted)?;
     write_out(&mut text, output)?;
     Ok(())
 }

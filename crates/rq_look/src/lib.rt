@@ -6,13 +6,16 @@
 mod behind_fronts;
 mod bytes;
 mod checks;
+mod dump_objects;
 mod dumps;
+mod escapes;
 mod frame_lines;
 mod frontless;
-mod json;
 mod lines;
 mod log_script;
 mod mendings;
+mod objects;
+mod report_objects;
 mod reports;
 mod salvages;
 mod sheet;

@@ -1,6 +1,6 @@
 //! The report of a log, as text and as JSON.
 
-ghost use Rattle.std.specs.Prelude.{◌≡◌, ◌<◌, ◌++◌, ℕ, List, false, codes, length, IfOk, IfErr, OnOk, string_bytes};
+ghost use Rattle.std.specs.Prelude.{◌≡◌, ◌<◌, ◌++◌, false, length, IfOk, IfErr, OnOk, string_bytes};
 ghost use Rattle.std.specs.Io.KnownBytes.{Appends};
 ghost use Rattle.rq_model.specs.Reports.{IsText};
 ghost use Rattle.rq_record.specs.declared.fault.Fault.TheVariants.{Resources, WriteFailed};
@@ -8,111 +8,16 @@ ghost use Rattle.rq_front.specs.Chains.{IsLog};
 ghost use Rattle.rq_found.specs.Ends.{IsRestartFrom, beginning_text};
 ghost use Rattle.rq_found.specs.Refusals.{CountsFaults};
 ghost use Rattle.rq_found.specs.declared.trouble.Trouble.TheVariants.{Log};
-ghost use Rattle.rq_look.specs.Looks.{AppendsLine, BreaksReport, HasQueue, LacksReport, PutsQueue, PutsReport};
-ghost use Rattle.rq_look.specs.Looks.{PutsReportAs, StaysUnreported};
+ghost use Rattle.rq_judged.specs.FrontEnds.{IsEndOf};
+ghost use Rattle.rq_look.specs.Looks.{BreaksReport, HasQueue, LacksReport, PutsJson, PutsQueue};
+ghost use Rattle.rq_look.specs.Looks.{PutsReport, PutsReportAs, StaysUnreported};
 
-use crate::json::{BytesShown, queue_number, spelled_out, written};
-use rq_found::{
-    End, FrontShown, Output, OverWrite, RegistrantShown, ShownLog, Trouble, write_bytes,
-};
-use rq_record::QueueNo;
-use rq_report::{free_elements, queue_report, write_report_by};
+use crate::report_objects::report_json;
+use rq_found::{End, Output, OverWrite, ShownLog, Trouble, write_bytes};
+use rq_report::{queue_report, write_report_by};
 use rq_restart::{Fault, Plan, Restarted};
-use rq_state::{Definition, KeptElement as Element, State};
-use serde::Serialize;
 use std::alloc::{AllocError, Global};
 use std::thread::Threads;
-
-#[derive(Drop, Serialize)]
-struct ElementShown<'a> {
-    id: u64,
-    from: u32,
-    priority: u8,
-    attempts: u64,
-    payload: BytesShown<'a>,
-}
-
-// A queue with what it holds.
-#[derive(Drop, Serialize)]
-struct QueueShown<'a> {
-    number: u32,
-    name: &'a str,
-    limit: u16,
-    error: Option<u32>,
-    elements: Vec<ElementShown<'a>>,
-    registrants: Vec<RegistrantShown<'a>>,
-}
-
-fn element_shown(alloc: Global, element: &Element) -> Result<ElementShown<'_>, AllocError> {
-    Ok(ElementShown {
-        id: element.id.0,
-        from: element.origin.0,
-        priority: element.priority,
-        attempts: element.attempts,
-        payload: BytesShown::of(alloc, element.payload.bytes())?,
-    })
-}
-
-// The queue's free elements, in the order in which they would be taken.
-fn elements_shown(
-    alloc: Global,
-    state: &State,
-    queue: QueueNo,
-) -> Result<Vec<ElementShown<'_>>, AllocError> {
-    let mut shown = Vec::new(alloc);
-    for e in free_elements(alloc, state, queue)? {
-        shown.push(element_shown(alloc, e)?)?;
-    }
-    Ok(shown)
-}
-
-fn queue_shown<'a>(
-    alloc: Global,
-    state: &'a State,
-    number: u32,
-    definition: &'a Definition,
-) -> Result<QueueShown<'a>, AllocError> {
-    let queue = QueueNo(number);
-    Ok(QueueShown {
-        number,
-        name: definition.name.text(),
-        limit: definition.limit,
-        error: queue_number(definition.error),
-        elements: elements_shown(alloc, state, queue)?,
-        registrants: RegistrantShown::all_of(alloc, state, queue)?,
-    })
-}
-
-// The queue of the number, or all of them.
-fn queues_shown(
-    alloc: Global,
-    state: &State,
-    wanted: Option<u32>,
-) -> Result<Vec<QueueShown<'_>>, AllocError> {
-    let mut found = Vec::new(alloc);
-    let mut number: u32 = 0;
-    for definition in state.definitions() {
-        if wanted.is_none() || wanted == Some(number) {
-            found.push(queue_shown(alloc, state, number, definition)?)?;
-        }
-        number = number.saturating_add(1);
-    }
-    Ok(found)
-}
-
-#[derive(Clone, Copy, Serialize)]
-struct UnitsShown {
-    committed: u64,
-    aborted: u64,
-    cut_off: u64,
-}
-
-#[derive(Drop, Serialize)]
-struct ReportShown<'a> {
-    front: FrontShown<'a>,
-    units: UnitsShown,
-    queues: Vec<QueueShown<'a>>,
-}
 
 // The restart of a log that has the queue, if one is wanted.
 fn restarted_with<R: Threads + Sync>(
@@ -135,44 +40,24 @@ fn restarted_with<R: Threads + Sync>(
     }
 }
 
-// The report as one value of JSON, and the end of its line.
-fn json_of(
-    alloc: Global,
-    restarted: &Restarted,
-    end: &End,
-    wanted: Option<u32>,
-) -> Result<String, AllocError>
-    ensures { IfOk result (λ text. (json : List ℕ) × (string_bytes text ≡ json ++ codes "\n")) }
-{
-    let report = ReportShown {
-        front: FrontShown::of(end),
-        units: UnitsShown {
-            committed: restarted.committed(),
-            aborted: restarted.aborted(),
-            cut_off: restarted.cut_off(),
-        },
-        queues: queues_shown(alloc, restarted.state(), wanted)?,
-    };
-    let json = written(serde_json::to_string_pretty(alloc, &report))?;
-    let mut text = spelled_out(alloc, json)?;
-    text.push('\n')?;
-    Ok(text)
-}
-
 // Writes the report of a restart as one value of JSON.
 fn put_json<W: Output>(
     alloc: Global,
+    at: Option<u64>,
     restarted: &Restarted,
     end: &End,
     wanted: Option<u32>,
     output: &mut W,
 ) -> Result<(), Trouble>
+    requires end { IsEndOf restarted.now end.now.front }
+    requires queue { HasQueue restarted.now wanted }
     requires faults { W.faults output.old < 18446744073709551615 }
-    ensures line { OnOk result (AppendsLine (W.contents output.old) (W.contents output.new)) }
+    ensures report { OnOk result (PutsJson at restarted.now wanted
+        (W.contents output.old) (W.contents output.new)) }
     ensures refused { IfErr result (BreaksReport (W.contents output.old) (W.contents output.new)) }
     ensures faults { CountsFaults (W.faults output.old) (W.faults output.new) result }
 {
-    let text = json_of(alloc, restarted, end, wanted)?;
+    let text = report_json(alloc, at, restarted, end, wanted)?;
     write_bytes(output, text.as_bytes())?;
     Ok(())
 }
@@ -308,7 +193,7 @@ pub fn report<R: Threads + Sync, W: Output>(
     let restarted = restarted_with(rt, alloc, log, wanted)?;
     if json {
         let end = End::after_restart(rt, alloc, log, &restarted)?;
-        put_json(alloc, &restarted, &end, wanted, output)
+        put_json(alloc, log.at, &restarted, &end, wanted, output)
     } else {
         put_text(rt, alloc, log, &restarted, wanted, output)
     }

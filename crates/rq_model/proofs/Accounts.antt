@@ -9,7 +9,7 @@ use Rattle.rq_model.specs.Spelling.{IsRecord}
 use Rattle.rq_model.specs.Frames.{log_limit, log_of, magic, header, frames_of, AreBytes}
 use Rattle.rq_model.specs.States.{Free, Element, Registrant, State, empty, is_free, definition_at}
 use Rattle.rq_model.specs.WellFormed.{IsWellFormed, IsElement, IsRegistrant}
-use Rattle.rq_model.specs.StateSpelling.{Fits, FitsDefinition, FitsRegistrant}
+use Rattle.rq_model.specs.StateSpelling.{Fits, FitsDefinition, FitsRegistrant, log_next}
 use Rattle.rq_model.specs.WorkedLogs.{text_made}
 use Rattle.rq_model.specs.FateLaws.{element_lines, ReportAccounts, CheckpointReportAccounts, BeginningReportAccounts}
 use Rattle.rq_model.specs.FateLaws.{IsAsEnqueued, Accounts, RestartAccounts, BeginningAccounts, ClosedAccounts}
@@ -103,7 +103,7 @@ closed_accounts b closed version rs rest r fits front (tail, h) short found =
 pub checkpoint_accounts : CheckpointAccounts
 checkpoint_accounts b offset version rs rest r front true_here at =
     let (first, restart) = true_back b offset r true_here at in
-    let same = one_restart_at b offset first r (true_is_same b offset first true_here restart) at in
+    let same = one_restart_at log_next log_next b offset first r (true_is_same b offset first true_here restart) at in
     subst (Accounts (with_aborts rs)) (ap (λ (z : Restarted). z.state) same)
     (restart_accounts b version rs rest first front restart)
 

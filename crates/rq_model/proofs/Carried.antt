@@ -9,22 +9,22 @@ use Rattle.rq_model.specs.Spelling.{body_of}
 use Rattle.rq_model.specs.Frames.{frames_of, before, HasHeader, log_limit, header, start, last_of, Whole, frame, body_in}
 use Rattle.rq_model.specs.States.{State, empty}
 use Rattle.rq_model.specs.Machine.{run}
-use Rattle.rq_model.specs.StateSpelling.{state_bytes, SpellsState}
+use Rattle.rq_model.specs.StateSpelling.{log_next, state_bytes, SpellsUpTo}
 use Rattle.rq_model.specs.Fronts.{Ends, Begins, Restarted, restarted, IsLongest}
-use Rattle.rq_model.specs.Checkpoints.{IsRestartAt}
+use Rattle.rq_model.specs.Checkpoints.{IsRestartUpTo}
 use Rattle.rq_model.specs.Appending.{MayFollow}
-use Rattle.rq_model.specs.Carrying.{IsFrontAt, TrueHasFront, CrashWhileCarriedGrows, carried_header, carried_file, carried_at}
+use Rattle.rq_model.specs.Carrying.{IsFrontUpTo, TrueHasFront, CrashWhileCarriedGrows, carried_header, carried_file, carried_at}
 use Rattle.rq_model.specs.Carrying.{as_log, moved, moved_log, when_moved, MovesOn, begun_anew, StartsAnew, FrontGoesOn}
 use Rattle.rq_model.specs.Carrying.{LaterSaysTheSame, FilesJoin, AnewJoins}
 use Rattle.rq_model.proofs.CarriedFiles.{read_header, read_whole, read_size}
 use Rattle.rq_model.proofs.RecordReaders.{body_fits}
 use Rattle.rq_model.proofs.Runs.{frame_reads, frames_assoc}
 use Rattle.rq_model.proofs.Longest.{front_stops, log_ends, frames_apart}
-use Rattle.rq_model.proofs.StateCodes.{one_state}
+use Rattle.rq_model.proofs.StateCodes.{one_state, short_is_counted}
 use Rattle.rq_model.proofs.FromCheckpoints.{IsLinked, linked, before_long, apart}
 use Rattle.rq_model.proofs.Restarts.{follows, header_long, front_spelt, run_join, parts_follow, later_longest}
 use Rattle.rq_model.proofs.Restarts.{spelt_after, why_parts, begins_join}
-use Rattle.rq_model.proofs.FromCheckpoints.{front_at, true_front, restart_at, ends_at, true_is_same}
+use Rattle.rq_model.proofs.FromCheckpoints.{front_at, true_front, restart_at, ends_at, true_is_same, greater_is_wider}
 use Rattle.rq_model.proofs.Appended.{crash_in_frames, front_follows, longer_begins}
 
 pub true_has_front : TrueHasFront
@@ -38,9 +38,9 @@ true_has_front b offset (records, kept, h, spelled) = (
   (true_front b offset records kept h spelled).0,
 )
 
-pub within : (b : List ℕ) (offset : ℕ) (version : Version) (s : State) (kept : List ℕ) (after : List Record)
-    (rest : List ℕ) → IsFrontAt b offset version s kept after rest → offset ≤ length b
-within b offset version s kept after rest h = omega (arith, h.checkpoint.frame.whole.room, length-drop offset b)
+pub within : (most : ℕ) (b : List ℕ) (offset : ℕ) (version : Version) (s : State) (kept : List ℕ)
+    (after : List Record) (rest : List ℕ) → IsFrontUpTo most b offset version s kept after rest → offset ≤ length b
+within most b offset version s kept after rest h = omega (arith, h.checkpoint.frame.whole.room, length-drop offset b)
 
 -- what is linked stays linked if bytes come after it
 link_grows : (b part : List ℕ) (offset : ℕ) → 32 ≤ offset → offset ≤ length b
@@ -52,19 +52,19 @@ link_grows b part offset low high = record {
 }
 
 pub crash_while_carried_grows : CrashWhileCarriedGrows
-crash_while_carried_grows b offset version s kept after xs part missing h new parts short =
+crash_while_carried_grows most b offset version s kept after xs part missing h new parts short =
     let p = before offset b in
     let rs : List Record = Checkpoint kept ∷ after in
     let old = follows version s p (drop offset b) [] rs h.front.begins in
     let g = crash_in_frames version s p rs xs part missing old new parts in
     let past = h.checkpoint.past_header in
-    let high = within b offset version s kept after [] h in
+    let high = within most b offset version s kept after [] h in
     let head : HasHeader version (b ++ part) = take-append-le 40 b part (omega (arith, past, high)) ∙ h.header in
     let grown = link_grows b part offset (omega (arith, past)) high in
     let bytes = ap (λ (z : List ℕ). z ++ part) (h.front.begins.whole ∙ append-nil (frames_of p rs)) in
     let at : IsLinked (b ++ part) offset p (frames_of p rs ++ part) =
     record { ahead = grown.ahead; behind = grown.behind ∙ bytes } in
-    let left = front_at (b ++ part) offset version s kept (after ++ take g.count xs) p (frames_of p rs ++ part) g.rest short
+    let left = front_at most (b ++ part) offset version s kept (after ++ take g.count xs) p (frames_of p rs ++ part) g.rest short
     head past at h.spells g.front in
     record {
       count = g.count;
@@ -73,7 +73,7 @@ crash_while_carried_grows b offset version s kept after xs part missing h new pa
       whole = g.whole;
       front = left;
       clean = g.clean;
-      restart = restart_at (b ++ part) offset version s kept (after ++ take g.count xs) p g.rest (Ends g.why) left
+      restart = restart_at most (b ++ part) offset version s kept (after ++ take g.count xs) p g.rest (Ends g.why) left
           grown.ahead g.ends;
     }
 
@@ -100,15 +100,15 @@ goes_on version p bytes log long parts = record {
 
 -- A checkpoint and all bytes after it, moved.
 
-moved_goes : (b : List ℕ) (offset : ℕ) (version : Version) (s : State) (kept : List ℕ) (after : List Record)
-    (rest : List ℕ) → IsFrontAt b offset version s kept after rest
+moved_goes : (most : ℕ) (b : List ℕ) (offset : ℕ) (version : Version) (s : State) (kept : List ℕ)
+    (after : List Record) (rest : List ℕ) → IsFrontUpTo most b offset version s kept after rest
     → GoesOn version (moved_log version b offset) (before offset b) (drop offset b)
-moved_goes b offset version s kept after rest h =
+moved_goes most b offset version s kept after rest h =
     let past = h.checkpoint.past_header in
     let p = before offset b in
     let bytes = drop offset b in
     goes_on version p bytes (moved_log version b offset)
-    (before_long b offset (omega (arith, past)) (within b offset version s kept after rest h))
+    (before_long b offset (omega (arith, past)) (within most b offset version s kept after rest h))
     (read_whole version p bytes)
 
 -- the log has as many bytes as the file
@@ -118,28 +118,28 @@ moved_short b offset version short =
     let file = moved version b offset in
     omega (arith, short, read_size version file (read_header version (before offset b) (drop offset b)))
 
-moved_front : (b : List ℕ) (offset : ℕ) (version : Version) (s : State) (kept : List ℕ) (after : List Record)
-    (rest : List ℕ) → IsFrontAt b offset version s kept after rest
+moved_front : (most : ℕ) (b : List ℕ) (offset : ℕ) (version : Version) (s : State) (kept : List ℕ)
+    (after : List Record) (rest : List ℕ) → IsFrontUpTo most b offset version s kept after rest
     → length (moved version b offset) ≤ log_limit
-    → IsFrontAt (moved_log version b offset) carried_at version s kept after rest
-moved_front b offset version s kept after rest h short =
-    let goes = moved_goes b offset version s kept after rest h in
-    front_at (moved_log version b offset) carried_at version s kept after (before offset b) (drop offset b) rest
+    → IsFrontUpTo most (moved_log version b offset) carried_at version s kept after rest
+moved_front most b offset version s kept after rest h short =
+    let goes = moved_goes most b offset version s kept after rest h in
+    front_at most (moved_log version b offset) carried_at version s kept after (before offset b) (drop offset b) rest
     (moved_short b offset version short) goes.header (omega arith) goes.at h.spells h.front
 
-moved_restart : (b : List ℕ) (offset : ℕ) (version : Version) (s : State) (kept : List ℕ) (after : List Record)
-    (rest : List ℕ) (r : Restarted) → IsFrontAt b offset version s kept after rest
-    → length (moved version b offset) ≤ log_limit → IsRestartAt b offset r
-    → IsRestartAt (moved_log version b offset) carried_at (when_moved offset r)
-moved_restart b offset version s kept after rest r h short k =
+moved_restart : (most other : ℕ) (b : List ℕ) (offset : ℕ) (version : Version) (s : State) (kept : List ℕ)
+    (after : List Record) (rest : List ℕ) (r : Restarted) → IsFrontUpTo most b offset version s kept after rest
+    → length (moved version b offset) ≤ log_limit → IsRestartUpTo other b offset r
+    → IsRestartUpTo most (moved_log version b offset) carried_at (when_moved offset r)
+moved_restart most other b offset version s kept after rest r h short k =
     let xs : List Record = Checkpoint kept ∷ after in
     let t = run s xs in
     let p = before offset b in
     let new = moved_log version b offset in
-    let high = within b offset version s kept after rest h in
-    let goes = moved_goes b offset version s kept after rest h in
-    let ended = ends_at b offset version s kept after rest r h k in
-    let front = moved_front b offset version s kept after rest h short in
+    let high = within most b offset version s kept after rest h in
+    let goes = moved_goes most b offset version s kept after rest h in
+    let ended = ends_at most other b offset version s kept after rest r h k in
+    let front = moved_front most b offset version s kept after rest h short in
     let few : length rest ≤ length b - offset =
     omega (arith, ap length h.front.begins.whole, length-append (frames_of p xs) rest, length-drop offset b) in
     let used : length b - length rest + carried_at - offset ≡ length new - length rest =
@@ -148,21 +148,21 @@ moved_restart b offset version s kept after rest r h short k =
     let answer : when_moved offset r ≡ restarted t (length rest) (length new) ended.why =
     ap (when_moved offset) ended.answer
     ∙ (λ i. record (restarted t (length rest) (length new) ended.why) { used = used i; total = total i }) in
-    subst (IsRestartAt new carried_at) (sym answer)
-    (restart_at new carried_at version s kept after p rest ended.why front goes.at.ahead ended.ends)
+    subst (IsRestartUpTo most new carried_at) (sym answer)
+    (restart_at most new carried_at version s kept after p rest ended.why front goes.at.ahead ended.ends)
 
 pub moves_on : MovesOn
 moves_on = record {
   front = moved_front;
   restart = moved_restart;
-  truth = λ b offset version s kept after rest r h short true_here restart.
-      moved_restart b offset version s kept after rest r h short (true_is_same b offset r true_here restart);
+  truth = λ most b offset version s kept after rest r h short true_here restart.
+      moved_restart most log_next b offset version s kept after rest r h short (true_is_same b offset r true_here restart);
 }
 
 -- A log that goes on from a state.
 
 pub starts_anew : StartsAnew
-starts_anew version p s log long spells small short is =
+starts_anew most version p s log long spells small short is =
     let kept = state_bytes s in
     let xs : List Record = Checkpoint kept ∷ [] in
     let bytes = frames_of p xs in
@@ -171,24 +171,25 @@ starts_anew version p s log long spells small short is =
     let size : length log ≡ length file = ap length is ∙ read_size version file (read_header version p bytes) in
     let begins : Begins version s p bytes xs [] =
     record { records = (small, tt); lawful = refl; whole = sym (append-nil bytes) } in
-    let front = front_at log carried_at version s kept [] p bytes [] (omega (arith, short, size)) goes.header
+    let front = front_at most log carried_at version s kept [] p bytes [] (omega (arith, short, size)) goes.header
     (omega arith) goes.at spells (front_stops version s p bytes [] xs (Ends Whole) begins refl) in (
       front,
       goes.at.ahead,
-      subst (λ (n : ℕ). IsRestartAt log carried_at (restarted (run s xs) 0 n (Ends Whole))) size
-          (restart_at log carried_at version s kept [] p [] (Ends Whole) front goes.at.ahead refl),
+      subst (λ (n : ℕ). IsRestartUpTo most log carried_at (restarted (run s xs) 0 n (Ends Whole))) size
+          (restart_at most log carried_at version s kept [] p [] (Ends Whole) front goes.at.ahead refl),
     )
 
 pub front_goes_on : FrontGoesOn
-front_goes_on b version records rest front small short =
+front_goes_on most b version records rest le front small short =
     let (kept, log_end, size) = log_ends version records in
     let p = last_of (start version) records in
     let s = run empty records in
-    (starts_anew version p s (as_log version (begun_anew version p s)) size
-    (front_spelt b version records rest front) small short refl).0
+    let spells = greater_is_wider.spells log_next most version s (state_bytes s) le
+    (front_spelt b version records rest front) in
+    (starts_anew most version p s (as_log version (begun_anew version p s)) size spells small short refl).0
 
 pub later_says_the_same : LaterSaysTheSame
-later_says_the_same b offset version s kept earlier again after rest r h spelled low k =
+later_says_the_same most b offset version s kept earlier again after rest r wide h spelled low k =
     let p = before offset b in
     let rs : List Record = Checkpoint kept ∷ earlier in
     let xs : List Record = Checkpoint again ∷ after in
@@ -197,22 +198,23 @@ later_says_the_same b offset version s kept earlier again after rest r h spelled
     let bytes = frames_of q xs ++ rest in
     let there = offset + length (frames_of p rs) in
     let past = h.checkpoint.past_header in
-    let high = within b offset version s kept (earlier ++ xs) rest h in
-    let old = (parts_follow version s rs xs (follows version s p (drop offset b) rest (rs ++ xs) h.front.begins)).0 in
+    let high = within most b offset version s kept (earlier ++ xs) rest h in
+    let (old, new) = parts_follow version s rs xs (follows version s p (drop offset b) rest (rs ++ xs) h.front.begins) in
     let left = take (offset - 32) b in
     let whole = apart b offset (omega (arith, past))
     ∙ ap (λ (z : List ℕ). left ++ (p ++ z)) (h.front.begins.whole ∙ frames_apart p rest rs xs) in
     let at = linked b left p rs bytes there (before_long b offset (omega (arith, past)) high) whole
     (omega (arith, length-take (offset - 32) b, past, high)) in
-    let spells = subst (SpellsState version t) (sym spelled)
-    (spelt_after version s rs h.spells.keeps h.spells.fits h.spells.deep old low) in
-    let front = front_at b there version t again after q bytes rest h.short h.header (omega (arith, past)) at spells
+    let counted = short_is_counted t (omega (arith, low, wide)) (omega (arith, ap length spelled, new.records.0)) in
+    let spells = subst (SpellsUpTo most version t) (sym spelled)
+    (spelt_after most version s rs h.spells.keeps h.spells.fits h.spells.deep old low counted) in
+    let front = front_at most b there version t again after q bytes rest h.short h.header (omega (arith, past)) at spells
     (later_longest version s p (drop offset b) rest rs xs h.front) in
-    let ended = ends_at b offset version s kept (earlier ++ xs) rest r h k in
+    let ended = ends_at most most b offset version s kept (earlier ++ xs) rest r h k in
     let ends = why_parts version s p rest rs xs ended.why ended.ends in
     let answer = ended.answer ∙ ap (λ (z : State). restarted z (length rest) (length b) ended.why) (run_join s rs xs) in (
       front,
-      subst (IsRestartAt b there) (sym answer) (restart_at b there version t again after q rest ended.why front at.ahead ends),
+      subst (IsRestartUpTo most b there) (sym answer) (restart_at most b there version t again after q rest ended.why front at.ahead ends),
     )
 
 -- A longest list that begins earlier.
@@ -242,9 +244,9 @@ longest_joins version s p bytes rest rs xs old h =
     }
 
 pub files_join : FilesJoin
-files_join b offset version s kept records after rest old front linked spelled =
+files_join most other b offset version s kept records after rest old front linked spelled =
     let t = run empty records in
-    let is : s ≡ t = one_state version version s t kept front.spells spelled in
+    let is : s ≡ t = one_state most other version version s t kept front.spells spelled in
     let xs : List Record = Checkpoint kept ∷ after in
     let p = last_of (start version) records in
     let bytes = drop offset b in
@@ -256,7 +258,7 @@ files_join b offset version s kept records after rest old front linked spelled =
 
 -- the checkpoint that the file begins with is read again, whatever follows it
 pub anew_joins : AnewJoins
-anew_joins b new more version records rest s kept after left front small whole h =
+anew_joins most b new more version records rest s kept after left front small whole h =
     let p = last_of (start version) records in
     let t = run empty records in
     let first = Checkpoint (state_bytes t) in
@@ -272,5 +274,5 @@ anew_joins b new more version records rest s kept after left front small whole h
     goes.at.behind ∙ frames_assoc p (body_of first) [] more in
     let body = (frame_reads p (body_of first) more (body_fits version first small)).body_is in
     let is : kept ≡ state_bytes t = ap (drop 1) (sym h.checkpoint.body ∙ ap body_in behind ∙ body) in
-    files_join read carried_at version s kept records after left (front_follows b version records rest front) h goes.at.ahead
-    (subst (SpellsState version t) (sym is) (front_spelt b version records rest front))
+    files_join most log_next read carried_at version s kept records after left (front_follows b version records rest front) h goes.at.ahead
+    (subst (SpellsUpTo log_next version t) (sym is) (front_spelt b version records rest front))

@@ -38,7 +38,7 @@ is_no_log = record {
   headed = not_headed;
   restart = λ version b r carried k. not_headed version k.version b carried
       (ap (take 40) k.front.whole ∙ take_at (header k.version) k.front.bytes 40 (header_long k.version));
-  at = λ version b offset r carried k. not_headed version k.version b carried k.header;
+  at = λ most version b offset r carried k. not_headed version k.version b carried k.header;
 }
 
 pub read_header : (version : Version) (link bytes : List ℕ) → HasCarriedHeader version (carried_file version link bytes)

@@ -16,7 +16,7 @@ use Rattle.rq_model.specs.Machine.{is_lawful, step, run}
 use Rattle.rq_model.specs.WellFormed.{IsWellFormed}
 use Rattle.rq_model.specs.Fronts.{Begins, Why, Ends, Form, Law, IsWhy, IsFront, Restarted, restarted, IsRestart}
 use Rattle.rq_model.specs.Reports.{IsQueueText}
-use Rattle.rq_model.specs.Checkpoints.{IsRestartAt}
+use Rattle.rq_model.specs.Checkpoints.{IsRestartUpTo}
 use Rattle.rq_model.specs.LogLaws.{EveryLogHasReport, EveryCheckpointHasReport}
 use Rattle.rq_model.specs.Closing.{HasReport, CrashSaysTheSame}
 use Rattle.rq_model.specs.Reading.{record_read}
@@ -219,7 +219,7 @@ crash_says_the_same b tail part missing version records rest fits front tailed p
     )
 
 pub every_checkpoint_has_report : EveryCheckpointHasReport
-every_checkpoint_has_report version b offset kept s fits short head checkpoint spells =
+every_checkpoint_has_report most version b offset kept s fits short head checkpoint spells =
     (_, (r, restart, is_text r ended))
   where
     f : Found version s (before offset b) (drop offset b)
@@ -229,7 +229,7 @@ every_checkpoint_has_report version b offset kept s fits short head checkpoint s
     r : Restarted
     r = restarted (run s f.records) (length f.rest) (length b) f.why
 
-    restart : IsRestartAt b offset r
+    restart : IsRestartUpTo most b offset r
     restart = record {
       version = version;
       state = s;

@@ -9,12 +9,12 @@ use Rattle.rq_model.specs.Frames.{bodies_of, frames_of, last_of, before, log_lim
 use Rattle.rq_model.specs.Frames.{HasHeader, body_in, HasRightFrame}
 use Rattle.rq_model.specs.States.{State, empty}
 use Rattle.rq_model.specs.Machine.{run}
-use Rattle.rq_model.specs.StateSpelling.{state_bytes, SpellsState}
+use Rattle.rq_model.specs.StateSpelling.{log_next, state_bytes, SpellsState, SpellsUpTo}
 use Rattle.rq_model.specs.Fronts.{Why, IsLongest, IsWhy, Restarted, restarted, IsRestart}
 use Rattle.rq_model.specs.Reports.{IsText}
-use Rattle.rq_model.specs.Checkpoints.{HasCheckpoint, IsCheckpointAt, TrueAt, IsRestartAt}
+use Rattle.rq_model.specs.Checkpoints.{HasCheckpoint, IsCheckpointAt, TrueAt, IsRestartAt, IsRestartUpTo}
 use Rattle.rq_model.specs.LogLaws.{OneVersion, TrueSaysTheSame}
-use Rattle.rq_model.specs.Carrying.{IsFrontAt}
+use Rattle.rq_model.specs.Carrying.{IsFrontUpTo, GreaterIsWider}
 use Rattle.rq_model.proofs.RecordReaders.{body_fits}
 use Rattle.rq_model.proofs.Runs.{last_at_end, length-sha256, frame_reads, right_at}
 use Rattle.rq_model.proofs.Longest.{one_longest, one_why, front_ends, frames_apart}
@@ -68,11 +68,11 @@ apart b offset low =
     (drop-drop 32 (offset - 32) b ∙ ap (λ (n : ℕ). drop n b) (omega (arith, low))))
 
 -- lawful records, the first of them a CHECKPOINT
-pub front_at : (b : List ℕ) (offset : ℕ) (version : Version) (s : State) (kept : List ℕ) (after : List Record)
-    (p bytes rest : List ℕ) → length b ≤ log_limit → HasHeader version b → 40 ≤ offset → IsLinked b offset p bytes
-    → SpellsState version s kept → IsLongest version s p bytes (Checkpoint kept ∷ after) rest
-    → IsFrontAt b offset version s kept after rest
-front_at b offset version s kept after p bytes rest short head past at spells front =
+pub front_at : (most : ℕ) (b : List ℕ) (offset : ℕ) (version : Version) (s : State) (kept : List ℕ)
+    (after : List Record) (p bytes rest : List ℕ) → length b ≤ log_limit → HasHeader version b → 40 ≤ offset → IsLinked b offset p bytes
+    → SpellsUpTo most version s kept → IsLongest version s p bytes (Checkpoint kept ∷ after) rest
+    → IsFrontUpTo most b offset version s kept after rest
+front_at most b offset version s kept after p bytes rest short head past at spells front =
     let body = body_of (Checkpoint kept) in
     let more = frames_of (digest p body) after ++ rest in
     let fit = body_fits version (Checkpoint kept) front.begins.records.0 in
@@ -95,7 +95,7 @@ front_at b offset version s kept after p bytes rest short head past at spells fr
 -- a true checkpoint of the front
 pub true_front : (b : List ℕ) (offset : ℕ) (records : List Record) (kept : List ℕ) (h : HasCheckpoint b offset records kept)
     → kept ≡ state_bytes (run empty records)
-    → IsFrontAt b offset h.version (run empty records) kept h.after h.rest
+    → IsFrontUpTo log_next b offset h.version (run empty records) kept h.after h.rest
     × (before offset b ≡ last_of (start h.version) records)
 true_front b offset records kept h spelled =
     let v = h.version in
@@ -110,7 +110,7 @@ true_front b offset records kept h spelled =
     let at = linked b (magic v) p records bytes offset (length-sha256 (magic v)) whole
     (omega (arith, h.there, past, header_long v, length-sha256 (magic v), length-append (magic v) p)) in
     let spells = subst (SpellsState v (run empty records)) (sym spelled) (fronts_are_spelt b v records xs h.rest h.front) in (
-      front_at b offset v (run empty records) kept h.after (last_of p records) bytes h.rest h.front.short
+      front_at log_next b offset v (run empty records) kept h.after (last_of p records) bytes h.rest h.front.short
           (ap (take 40) h.front.whole ∙ take_at (header v) h.front.bytes 40 (header_long v))
           (omega (arith, h.there, past, header_long v)) at spells
           (later_longest v empty p h.front.bytes h.rest records xs h.front.longest),
@@ -118,11 +118,12 @@ true_front b offset records kept h spelled =
     )
 
 -- the restart at a front
-pub restart_at : (b : List ℕ) (offset : ℕ) (version : Version) (s : State) (kept : List ℕ) (after : List Record)
-    (p rest : List ℕ) (why : Why) → IsFrontAt b offset version s kept after rest → before offset b ≡ p
+pub restart_at : (most : ℕ) (b : List ℕ) (offset : ℕ) (version : Version) (s : State) (kept : List ℕ)
+    (after : List Record) (p rest : List ℕ) (why : Why) → IsFrontUpTo most b offset version s kept after rest
+    → before offset b ≡ p
     → IsWhy version (run s (Checkpoint kept ∷ after)) (last_of p (Checkpoint kept ∷ after)) rest why
-    → IsRestartAt b offset (restarted (run s (Checkpoint kept ∷ after)) (length rest) (length b) why)
-restart_at b offset version s kept after p rest why h ahead ends =
+    → IsRestartUpTo most b offset (restarted (run s (Checkpoint kept ∷ after)) (length rest) (length b) why)
+restart_at most b offset version s kept after p rest why h ahead ends =
     let xs : List Record = Checkpoint kept ∷ after in
     record {
       version = version;
@@ -150,7 +151,7 @@ true_is_same b offset r (records, kept, h, spelled) restart =
     let answer = ended.answer ∙ ap (λ (t : State). restarted t (length h.rest) (length b) ended.why)
     (run_join empty records xs) in
     subst (IsRestartAt b offset) (sym answer)
-    (restart_at b offset v (run empty records) kept h.after (last_of p records) h.rest ended.why here ahead
+    (restart_at log_next b offset v (run empty records) kept h.after (last_of p records) h.rest ended.why here ahead
     (why_parts v empty p h.rest records xs ended.why ended.ends))
 
 -- the version by the header's eighth byte
@@ -170,17 +171,17 @@ pub record EndsAt (b : List ℕ) (offset : ℕ) (version : Version) (s : State) 
   pub ends : IsWhy version (run s rs) (last_of (before offset b) rs) rest why
   pub answer : t ≡ restarted (run s rs) (length rest) (length b) why
 
-ends_from : (b : List ℕ) (offset : ℕ) (version : Version) (s : State) (kept : List ℕ) (rs : List Record) (rest : List ℕ)
-    (t : Restarted) → HasHeader version b → IsCheckpointAt b offset kept → SpellsState version s kept
-    → IsLongest version s (before offset b) (drop offset b) rs rest → IsRestartAt b offset t
-    → EndsAt b offset version s rs rest t
-ends_from b offset version s kept rs rest t header checkpoint spells front k =
+ends_from : (most other : ℕ) (b : List ℕ) (offset : ℕ) (version : Version) (s : State) (kept : List ℕ)
+    (rs : List Record) (rest : List ℕ) (t : Restarted) → HasHeader version b → IsCheckpointAt b offset kept
+    → SpellsUpTo most version s kept → IsLongest version s (before offset b) (drop offset b) rs rest
+    → IsRestartUpTo other b offset t → EndsAt b offset version s rs rest t
+ends_from most other b offset version s kept rs rest t header checkpoint spells front k =
     let p = before offset b in
     let bytes = drop offset b in
     let versions = one_version b version k.version header k.header in
     let kepts : kept ≡ k.kept = ap (drop 1) (sym checkpoint.body ∙ k.checkpoint.body) in
-    let states : s ≡ k.state = one_state version k.version s k.state k.kept
-    (subst (SpellsState version s) kepts spells) k.spells in
+    let states : s ≡ k.state = one_state most other version k.version s k.state k.kept
+    (subst (SpellsUpTo most version s) kepts spells) k.spells in
     let again : IsLongest version s p bytes k.records k.rest = grind arith in
     let same = one_longest version s p bytes rs k.records rest k.rest front again in
     record {
@@ -189,16 +190,16 @@ ends_from b offset version s kept rs rest t header checkpoint spells front k =
       answer = k.answer ∙ (λ i. restarted (run (sym states i) (sym same.0 i)) (length (sym same.1 i)) (length b) k.why);
     }
 
-pub ends_at : (b : List ℕ) (offset : ℕ) (version : Version) (s : State) (kept : List ℕ) (after : List Record)
-    (rest : List ℕ) (t : Restarted) → IsFrontAt b offset version s kept after rest → IsRestartAt b offset t
-    → EndsAt b offset version s (Checkpoint kept ∷ after) rest t
-ends_at b offset version s kept after rest t h k =
-    ends_from b offset version s kept (Checkpoint kept ∷ after) rest t h.header h.checkpoint h.spells h.front k
+pub ends_at : (most other : ℕ) (b : List ℕ) (offset : ℕ) (version : Version) (s : State) (kept : List ℕ)
+    (after : List Record) (rest : List ℕ) (t : Restarted) → IsFrontUpTo most b offset version s kept after rest
+    → IsRestartUpTo other b offset t → EndsAt b offset version s (Checkpoint kept ∷ after) rest t
+ends_at most other b offset version s kept after rest t h k =
+    ends_from most other b offset version s kept (Checkpoint kept ∷ after) rest t h.header h.checkpoint h.spells h.front k
 
-pub one_restart_at : (b : List ℕ) (offset : ℕ) (r t : Restarted) → IsRestartAt b offset r → IsRestartAt b offset t
-    → r ≡ t
-one_restart_at b offset r t h k =
-    let again = ends_from b offset h.version h.state h.kept h.records h.rest t h.header h.checkpoint h.spells h.front k in
+pub one_restart_at : (most other : ℕ) (b : List ℕ) (offset : ℕ) (r t : Restarted) → IsRestartUpTo most b offset r
+    → IsRestartUpTo other b offset t → r ≡ t
+one_restart_at most other b offset r t h k =
+    let again = ends_from most other b offset h.version h.state h.kept h.records h.rest t h.header h.checkpoint h.spells h.front k in
     let whys = one_why _ _ _ _ h.why _ h.ends again.ends in
     h.answer ∙ ap (restarted _ _ _) whys ∙ sym again.answer
 
@@ -211,7 +212,7 @@ true_back b offset t (records, kept, h, spelled) at =
     let xs : List Record = Checkpoint kept ∷ h.after in
     let s = run empty records in
     let (here, ahead) = true_front b offset records kept h spelled in
-    let ended = ends_at b offset v s kept h.after h.rest t here at in
+    let ended = ends_at log_next log_next b offset v s kept h.after h.rest t here at in
     let ends = subst (λ (q : List ℕ). IsWhy v (run s xs) (last_of q xs) h.rest ended.why) ahead ended.ends in (
       restarted _ _ _ _,
       record {
@@ -232,7 +233,45 @@ true_says_the_same b offset text true_here = (
         r,
         restart,
         subst (λ (z : Restarted). IsText z text)
-            (one_restart_at b offset t r at (true_is_same b offset r true_here restart)) told,
+            (one_restart_at log_next log_next b offset t r at (true_is_same b offset r true_here restart)) told,
       ),
   λ (r, restart, told). (r, true_is_same b offset r true_here restart, told),
 )
+
+wider_spells : (most more : ℕ) (version : Version) (s : State) (kept : List ℕ) → most ≤ more
+    → SpellsUpTo most version s kept → SpellsUpTo more version s kept
+wider_spells most more version s kept le h = record {
+  next = omega (arith, h.next, le);
+  counted = h.counted;
+  keeps = h.keeps;
+  fits = h.fits;
+  deep = h.deep;
+  spelling = h.spelling;
+}
+
+pub greater_is_wider : GreaterIsWider
+greater_is_wider = record {
+  spells = wider_spells;
+  front = λ most more b offset version s kept after rest le h. record {
+    short = h.short;
+    header = h.header;
+    checkpoint = h.checkpoint;
+    spells = wider_spells most more version s kept le h.spells;
+    front = h.front;
+  };
+  restart = λ most more b offset r le h. record {
+    version = h.version;
+    state = h.state;
+    kept = h.kept;
+    records = h.records;
+    rest = h.rest;
+    why = h.why;
+    short = h.short;
+    header = h.header;
+    checkpoint = h.checkpoint;
+    spells = wider_spells most more h.version h.state h.kept le h.spells;
+    front = h.front;
+    ends = h.ends;
+    answer = h.answer;
+  };
+}

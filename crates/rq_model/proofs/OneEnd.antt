@@ -1,5 +1,5 @@
 -- Frames that end with the same 32 bytes are the same from the end on, up to two messages with one digest.
-use Rattle.std.proofs.Common.{◌≡◌, ◌⊎◌, inl, inr, ℕ, zero, suc, ◌+◌, ◌≤◌, true, false, List, [], ◌∷◌, ◌++◌, length, take, drop}
+use Rattle.std.proofs.Common.{◌≡◌, ◌⊎◌, inl, inr, ℕ, zero, suc, ◌≤◌, true, false, List, [], ◌∷◌, ◌++◌, length, take, drop}
 use Rattle.std.proofs.Common.{refl, sym, ap, subst, ◌∙◌, append_assoc, arith}
 use Rattle.std.specs.List.{AllByRecursion}
 use Rattle.std.specs.Int.{w32, to_be_bytes}
@@ -9,7 +9,7 @@ use Rattle.std.proofs.lemmas.Slice.Eq.{bytes_eq-Decides}
 use Rattle.sha2.specs.Sha256.{sha256}
 use Rattle.rq_model.specs.Records.{Record, Version, One, Two}
 use Rattle.rq_model.specs.Spelling.{body_of, IsRecord}
-use Rattle.rq_model.specs.Frames.{digest, last, magic, start, bodies_of, log_of}
+use Rattle.rq_model.specs.Frames.{last, magic, start, bodies_of, log_of}
 use Rattle.rq_model.specs.Tampering.{message, IsHashed, IsHashedIn, Collision, IsLaterPart, FramesWithOneEnd}
 use Rattle.rq_model.specs.Tampering.{RecordsWithOneEnd, TamperingShows, LinkWitnesses, FilesWithOneEnd}
 use Rattle.rq_model.proofs.Lists.{by_cases}

@@ -1,8 +1,10 @@
 -- A well-formed state's spelling is read again, and spells no other state.
-use Rattle.std.proofs.Common.{◌≡◌, inl, inr, ℕ, ◌+◌, ◌^◌, ◌<◌, ◌≤◌, true, List, [], ◌∷◌, length, Option, Some, None}
+use Rattle.std.proofs.Common.{◌≡◌, inl, inr, ℕ, ◌+◌, ◌^◌, ◌<◌, ◌≤◌, true, List, [], ◌∷◌, ◌++◌, length, Option, Some, None}
 use Rattle.std.proofs.Common.{sym, subst, ◌∙◌, arith}
 use Rattle.std.specs.Prelude.{IfSome, ◌==◌}
-use Rattle.std.specs.List.{list_any, AllByRecursion}
+use Rattle.std.specs.List.{list_any, flat_map, AllByRecursion}
+use Rattle.std.specs.Int.{w64, to_be_bytes}
+use Rattle.std.proofs.lemmas.List.{length-append}
 use Rattle.std.proofs.lemmas.Bool.{eqb-true, and_parts}
 use Rattle.rq_model.specs.Records.{Version}
 use Rattle.rq_model.specs.States.{Mark, Free, Fresh, Held, Element, Last, Note, Definition}
@@ -10,8 +12,10 @@ use Rattle.rq_model.specs.States.{Registrant, State, is_registrant}
 use Rattle.std.specs.Str.{bytes_eq}
 use Rattle.rq_model.specs.WellFormed.{Ordered, unit_is_open, IsElement, IsLast, IsRegistrant, IsNote}
 use Rattle.rq_model.specs.WellFormed.{AreDefinitions, IsWellFormed}
-use Rattle.rq_model.specs.StateSpelling.{FitsDefinition, FitsRegistrant, FitsElement, FitsNote, Fits, SpellsState}
-use Rattle.rq_model.specs.Reading.{AreFew}
+use Rattle.rq_model.specs.StateSpelling.{FitsDefinition, FitsRegistrant, FitsElement, FitsNote, Fits}
+use Rattle.rq_model.specs.StateSpelling.{SpellsUpTo, counted, definition_bytes}
+use Rattle.rq_model.specs.StateSpelling.{registrant_bytes, element_bytes, note_bytes}
+use Rattle.rq_model.specs.LogLaws.{LogStateIsCounted, ShortIsCounted}
 use Rattle.rq_model.proofs.Lists.{each_weaker, each_both}
 use Rattle.rq_bytes.proofs.Together.{reads_alone, spells_one}
 use Rattle.rq_model.proofs.StateReaders.{IsDefinitionSpelled, IsWideLast}
@@ -35,10 +39,10 @@ wide_mark s (Fresh u) h f o =
     omega (arith, (any_of (λ v. (1 ≤ v) × (v ≤ s.greatest)) u s.units h.units o).1, f.greatest)
 wide_mark s (Held u) h f o = omega (arith, (any_of (λ v. (1 ≤ v) × (v ≤ s.greatest)) u s.units h.units o).1, f.greatest)
 
-wide_last : (s : State) (l : Last) → s.next ≤ 4294967295 → IsLast s l → l.tag < 2 ^ 64 → IsWideLast l
+wide_last : (s : State) (l : Last) → s.next < 2 ^ 64 → IsLast s l → l.tag < 2 ^ 64 → IsWideLast l
 wide_last s l le h t = grind arith
 
-wide_optional : (s : State) (last : Option Last) → s.next ≤ 4294967295 → IfSome last (IsLast s)
+wide_optional : (s : State) (last : Option Last) → s.next < 2 ^ 64 → IfSome last (IsLast s)
     → IfSome last (λ l. l.tag < 2 ^ 64) → IfSome last IsWideLast
 wide_optional s None le h t = tt
 wide_optional s (Some l) le h t = wide_last s l le h t
@@ -74,11 +78,12 @@ note_queue s n w h = omega (arith, w.few, queue_of s.registrants w.registrants h
           | inr there ↦ queue_of rs h.1 there
         ]
 
-pub are_few : (s : State) → IsWellFormed s → s.next ≤ 4294967295 → AreFew s
-are_few s w le =
+pub log_state_is_counted : LogStateIsCounted
+log_state_is_counted s w le =
     let places = each_weaker (IsNote s) (λ n. n.last.place < s.next) (λ n x. x.last.place) s.notes w.notes in
     let ids = each_weaker (IsElement s) (λ e. e.id < s.next) (λ e x. x.id) s.elements w.elements in
     record {
+      next = omega (arith, le);
       definitions = omega (arith, w.few);
       units = omega (arith, le, w.counts);
       registrants = omega (arith, le, w.registrants_few);
@@ -97,12 +102,49 @@ are_few s w le =
       );
     }
 
-pub is_spelled : (version : Version) (s : State) (bytes : List ℕ) → SpellsState version s bytes → IsSpelled s
-is_spelled version s bytes h =
+-- each member has a byte at least
+as_many : {X : Type 0} (spelling : X → List ℕ) → ((x : X) → 1 ≤ length (spelling x)) → (xs : List X)
+    → length xs ≤ length (flat_map spelling xs)
+as_many spelling h [] = omega arith
+as_many spelling h (x ∷ xs) =
+    omega (arith, as_many spelling h xs, h x, length-append (spelling x) (flat_map spelling xs))
+
+pub short_is_counted : ShortIsCounted
+short_is_counted s le short =
+    let notes = counted note_bytes s.notes in
+    let elements = counted element_bytes s.elements in
+    let registrants = counted registrant_bytes s.registrants in
+    let units = counted (to_be_bytes w64) s.units in
+    let ds = flat_map definition_bytes s.definitions in
+    let us = flat_map (to_be_bytes w64) s.units in
+    let rs = flat_map registrant_bytes s.registrants in
+    let es = flat_map element_bytes s.elements in
+    let ns = flat_map note_bytes s.notes in
+    let room : length ds + (length us + (length rs + (length es + length ns))) ≤ 4294967295 =
+    omega (
+      arith,
+      short,
+      length-append ds (units ++ (registrants ++ (elements ++ notes))),
+      length-append us (registrants ++ (elements ++ notes)),
+      length-append rs (elements ++ notes),
+      length-append es notes,
+    ) in
+    record {
+      next = le;
+      definitions = omega (arith, room, as_many definition_bytes (λ d. omega arith) s.definitions);
+      units = omega (arith, room, as_many (to_be_bytes w64) (λ u. omega arith) s.units);
+      registrants = omega (arith, room, as_many registrant_bytes (λ r. omega arith) s.registrants);
+      elements = omega (arith, room, as_many element_bytes (λ e. omega arith) s.elements);
+      notes = omega (arith, room, as_many note_bytes (λ n. omega arith) s.notes);
+    }
+
+pub is_spelled : (most : ℕ) (version : Version) (s : State) (bytes : List ℕ) → SpellsUpTo most version s bytes
+    → IsSpelled s
+is_spelled most version s bytes h =
     let w = h.keeps in
-    let le = h.next in
+    let counts = h.counted in
+    let le = counts.next in
     let defined = w.few in
-    let counts = are_few s w le in
     record {
       next = omega (arith, le);
       greatest = h.fits.greatest;
@@ -155,8 +197,8 @@ is_spelled version s bytes h =
       );
     }
 
-pub one_state : (one two : Version) (s t : State) (bytes : List ℕ) → SpellsState one s bytes → SpellsState two t bytes
-    → s ≡ t
-one_state one two s t bytes h k =
-    spells_one (reads_alone reads_state) s t (is_spelled one s bytes h) (is_spelled two t bytes k)
+pub one_state : (most other : ℕ) (one two : Version) (s t : State) (bytes : List ℕ) → SpellsUpTo most one s bytes
+    → SpellsUpTo other two t bytes → s ≡ t
+one_state most other one two s t bytes h k =
+    spells_one (reads_alone reads_state) s t (is_spelled most one s bytes h) (is_spelled other two t bytes k)
     (sym h.spelling ∙ k.spelling)

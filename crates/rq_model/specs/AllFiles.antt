@@ -5,11 +5,11 @@ use Rattle.rq_model.specs.Records.{Record, Checkpoint, Version}
 use Rattle.rq_model.specs.Frames.{log_limit, start, frames_of, last_of, before}
 use Rattle.rq_model.specs.States.{State, empty}
 use Rattle.rq_model.specs.Machine.{run, aborts}
-use Rattle.rq_model.specs.StateSpelling.{SpellsState, state_bytes}
-use Rattle.rq_model.specs.Fronts.{IsFront, Restarted}
-use Rattle.rq_model.specs.Checkpoints.{IsRestartAt, IsReportAt}
-use Rattle.rq_model.specs.Appending.{FitsCheckpoint}
-use Rattle.rq_model.specs.Carrying.{IsFrontAt}
+use Rattle.rq_model.specs.StateSpelling.{SpellsCarried, state_bytes}
+use Rattle.rq_model.specs.Fronts.{IsFront, Restarted, Why, restarted}
+use Rattle.rq_model.specs.Checkpoints.{IsRestartUpTo, IsReportUpTo}
+use Rattle.rq_model.specs.Appending.{FitsCheckpoint, MayFollow}
+use Rattle.rq_model.specs.Carrying.{IsCarriedFront}
 use Rattle.rq_model.specs.Fates.{requests, done, kills, with_aborts}
 use Rattle.rq_model.specs.FateLaws.{Accounts, element_lines}
 
@@ -29,22 +29,22 @@ records_in file = Checkpoint file.kept ∷ file.after
 -- the state after them
 pub record CarriesOn (version : Version) (records : List Record) (file : File) : Type 0 where
   pub state : State
-  pub front : IsFrontAt file.bytes file.offset version state file.kept file.after file.rest
+  pub front : IsCarriedFront file.bytes file.offset version state file.kept file.after file.rest
   pub link : before file.offset file.bytes ≡ last_of (start version) records
-  pub spells : SpellsState version (run empty records) file.kept
+  pub spells : SpellsCarried version (run empty records) file.kept
 
 -- So does a file that begins with a checkpoint of that state, behind those bytes, whatever was
 -- written there since
 abbrev pub BegunFileCarriesOn : Type 0
 BegunFileCarriesOn =
     (version : Version) (records : List Record) (file : File) (s : State) (more : List ℕ) →
-    SpellsState version (run empty records) (state_bytes (run empty records))
+    SpellsCarried version (run empty records) (state_bytes (run empty records))
     → FitsCheckpoint (run empty records)
     → before file.offset file.bytes ≡ last_of (start version) records
     → drop file.offset file.bytes
     ≡ frames_of (last_of (start version) records)
     (Checkpoint (state_bytes (run empty records)) ∷ []) ++ more
-    → IsFrontAt file.bytes file.offset version s file.kept file.after file.rest
+    → IsCarriedFront file.bytes file.offset version s file.kept file.after file.rest
     → CarriesOn version records file
 
 -- these records, and those of the files after them
@@ -68,29 +68,39 @@ pub record AreFiles (version : Version) (log : List ℕ) (files : List File) (ne
   pub carries : CarriesOn version (records_of_all first files) newest
   pub all : records ≡ records_of_all first files ++ records_in newest
 
+-- The records of all files are those of one log of any length, and a restart of the last file is that
+-- log's, but for the numbers of bytes
+abbrev pub FilesAreOneRun : Type 0
+FilesAreOneRun =
+    (most : ℕ) (version : Version) (log : List ℕ) (files : List File) (newest : File)
+    (records : List Record) (r : Restarted) → AreFiles version log files newest records
+    → IsRestartUpTo most newest.bytes newest.offset r → MayFollow version empty records
+    × (rest total : ℕ) × (why : Why) × (r ≡ restarted (run empty records) rest total why)
+
 -- A restart of the last file accounts for the records of all files
 abbrev pub FilesAccount : Type 0
 FilesAccount =
-    (version : Version) (log : List ℕ) (files : List File) (newest : File) (records : List Record)
-    (r : Restarted) → AreFiles version log files newest records
-    → IsRestartAt newest.bytes newest.offset r → Accounts (with_aborts records) r.state
+    (most : ℕ) (version : Version) (log : List ℕ) (files : List File) (newest : File)
+    (records : List Record) (r : Restarted) → AreFiles version log files newest records
+    → IsRestartUpTo most newest.bytes newest.offset r → Accounts (with_aborts records) r.state
 
 -- so does a restart if the last file is closed, and wherever a crash cuts that short: its bytes up
 -- to the end of its front, and a beginning of the frames of the ABORTs of the open units
 abbrev pub ClosedFilesAccount : Type 0
 ClosedFilesAccount =
-    (version : Version) (log : List ℕ) (files : List File) (newest : File) (records : List Record)
-    (used part missing : List ℕ) (r : Restarted) → AreFiles version log files newest records
+    (most : ℕ) (version : Version) (log : List ℕ) (files : List File) (newest : File)
+    (records : List Record) (used part missing : List ℕ) (r : Restarted)
+    → AreFiles version log files newest records
     → newest.bytes ≡ used ++ newest.rest
     → frames_of (last_of (start version) records) (aborts (run empty records)) ≡ part ++ missing
-    → length (used ++ part) ≤ log_limit → IsRestartAt (used ++ part) newest.offset r
+    → length (used ++ part) ≤ log_limit → IsRestartUpTo most (used ++ part) newest.offset r
     → Accounts (with_aborts records) r.state
 
 -- and the lines of its report
 abbrev pub FilesReportAccounts : Type 0
 FilesReportAccounts =
-    (version : Version) (log : List ℕ) (files : List File) (newest : File) (records : List Record)
-    (text : List ℕ) (p : ℕ) → p < 2 ^ 64 → AreFiles version log files newest records
-    → IsReportAt newest.bytes newest.offset text
+    (most : ℕ) (version : Version) (log : List ℕ) (files : List File) (newest : File)
+    (records : List Record) (text : List ℕ) (p : ℕ) → p < 2 ^ 64
+    → AreFiles version log files newest records → IsReportUpTo most newest.bytes newest.offset text
     → element_lines p text + (done p (with_aborts records) + kills p (with_aborts records))
     ≡ requests p (with_aborts records)

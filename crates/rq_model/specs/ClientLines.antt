@@ -10,7 +10,7 @@ use Rattle.rq_model.specs.States.{empty}
 use Rattle.rq_model.specs.Machine.{latest}
 use Rattle.rq_model.specs.Fronts.{IsFront}
 use Rattle.rq_model.specs.Reports.{IsReport, registrant_line}
-use Rattle.rq_model.specs.Checkpoints.{TrueAt, IsReportAt}
+use Rattle.rq_model.specs.Checkpoints.{TrueAt, IsReportAt, IsReportUpTo}
 use Rattle.rq_model.specs.Closing.{IsTail}
 use Rattle.rq_model.specs.Fates.{requests, done, kills, with_aborts, remains, hears}
 use Rattle.rq_model.specs.FateLaws.{begins_with, element_lines}
@@ -96,6 +96,6 @@ CheckpointTellsClients =
 -- and in one of the last of several files
 abbrev pub FilesTellClients : Type 0
 FilesTellClients =
-    (version : Version) (log : List ℕ) (files : List File) (newest : File) (records : List Record)
-    (text : List ℕ) → AreFiles version log files newest records
-    → IsReportAt newest.bytes newest.offset text → TellsClients (with_aborts records) text
+    (most : ℕ) (version : Version) (log : List ℕ) (files : List File) (newest : File)
+    (records : List Record) (text : List ℕ) → AreFiles version log files newest records
+    → IsReportUpTo most newest.bytes newest.offset text → TellsClients (with_aborts records) text

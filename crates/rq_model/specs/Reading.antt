@@ -1,5 +1,5 @@
 -- How a record and a state are read: what spells them, from left to right.
-use Rattle.std.specs.Prelude.{ℕ, List, length, Option, Some, None, Bool, nat_le, ◌==◌, ◌<◌, ◌^◌, if◌then◌else◌, ⊤}
+use Rattle.std.specs.Prelude.{ℕ, List, length, Option, Some, None, Bool, nat_le, ◌==◌, if◌then◌else◌, ⊤}
 use Rattle.rq_bytes.specs.Readers.{Reader, byte, number, piece, all, ◌then◌, made, tested, alone}
 use Rattle.rq_bytes.specs.Readers.{tagged, case, no_case, nothing, sized, counted_members}
 use Rattle.rq_model.specs.Records.{By, Record, Define, Register, Deregister, Begin, Enqueue}
@@ -199,11 +199,3 @@ state_read = made state_from (number 8 then number 8 then number 8 then number 8
     then counted_members definition_read then counted_members (number 8)
     then counted_members registrant_read then counted_members element_read
     then counted_members note_read)
-
--- each list's count has its width
-pub record AreFew (s : State) : Type 0 where
-  pub definitions : length s.definitions < 2 ^ 32
-  pub units : length s.units < 2 ^ 32
-  pub registrants : length s.registrants < 2 ^ 32
-  pub elements : length s.elements < 2 ^ 32
-  pub notes : length s.notes < 2 ^ 32

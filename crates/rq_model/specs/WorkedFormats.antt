@@ -14,7 +14,7 @@ use Rattle.rq_model.specs.States.{Free, Fresh, Held, Enqueued, Dequeued, State, 
 use Rattle.rq_model.specs.WellFormed.{IsElement, IsLast, IsRegistrant, IsNote, IsWellFormed, IsDefinition}
 use Rattle.rq_model.specs.WellFormed.{AreDefinitions, IsBelowLimit, IsElementOf, IsOneDeep}
 use Rattle.rq_model.specs.StateSpelling.{element_number, definition_bytes, registrant_bytes, element_bytes}
-use Rattle.rq_model.specs.StateSpelling.{note_bytes, FitsElement, IsDeepFor, SpellsState}
+use Rattle.rq_model.specs.StateSpelling.{note_bytes, FitsElement, IsDeepFor, SpellsState, SpellsCarried}
 use Rattle.rq_model.specs.Fronts.{Ends, Form, Law, Restarted}
 use Rattle.rq_model.specs.Reports.{hex_of, payload_text, error_text, element_text, why_text, front_line, units_line}
 use Rattle.rq_model.specs.Reports.{queue_line, element_line, registrant_line}
@@ -237,6 +237,12 @@ pub record WorkedMembers : Type 0 where
       ((0 ∷ 0 ∷ 0 ∷ 0 ∷ replicate 4 255) ++ replicate 44 0)
   pub next_too_great : (version : Version) (s : State) (bytes : List ℕ) →
       SpellsState version s bytes → s.next ≤ 4294967295
+  pub greatest_carried : SpellsCarried Two (record empty { next = 9223372036854775807 })
+      ((127 ∷ replicate 7 255) ++ replicate 44 0)
+  pub first_carried : SpellsCarried One (record empty { next = 4294967296 })
+      ((0 ∷ 0 ∷ 0 ∷ 1 ∷ []) ++ replicate 48 0)
+  pub carried_too_great : (version : Version) (s : State) (bytes : List ℕ) →
+      SpellsCarried version s bytes → s.next ≤ 9223372036854775807
 
 abbrev pub answer : Restarted
 answer = record {

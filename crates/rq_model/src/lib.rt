@@ -3,6 +3,7 @@
 #![tactic(auto)]
 
 ghost use Rattle.rq_model.specs.LogLaws.{BodySpellsOne, RecordHasOneBody, BytesSpellOneState};
+ghost use Rattle.rq_model.specs.LogLaws.{LogStateIsCounted, ShortIsCounted};
 ghost use Rattle.rq_model.specs.LogLaws.{RunsFit, FrameIsRight, RightIsFrame, RunStops, OneRun};
 ghost use Rattle.rq_model.specs.LogLaws.{OneRest, OneFrameRun, RunGivesFront, FramesJoin, LogJoins};
 ghost use Rattle.rq_model.specs.LogLaws.{LogEnds, FrontStops, OneLongest, OneWhy, OneFront};
@@ -21,7 +22,7 @@ ghost use Rattle.rq_model.specs.FateLaws.{OutcomeIsAhead, RestartAccounts, Begin
 ghost use Rattle.rq_model.specs.FateLaws.{ClosedAccounts, CheckpointAccounts, ReportAccounts};
 ghost use Rattle.rq_model.specs.FateLaws.{BeginningReportAccounts, CheckpointReportAccounts};
 ghost use Rattle.rq_model.specs.AllFiles.{BegunFileCarriesOn, FilesAccount, ClosedFilesAccount};
-ghost use Rattle.rq_model.specs.AllFiles.{FilesReportAccounts};
+ghost use Rattle.rq_model.specs.AllFiles.{FilesAreOneRun, FilesReportAccounts};
 ghost use Rattle.rq_model.specs.Tampering.{FramesWithOneEnd, RecordsWithOneEnd, TamperingShows};
 ghost use Rattle.rq_model.specs.Tampering.{LinkWitnesses, FilesWithOneEnd};
 ghost use Rattle.rq_model.specs.ClientLines.{ReportTellsClients, BeginningTellsClients};
@@ -49,14 +50,16 @@ ghost use Rattle.rq_model.specs.Appending.{WrittenStays, CheckpointIsTrue, Check
 ghost use Rattle.rq_model.specs.Appending.{FrontGrows, FrontStays, AlongIsFront, WindowGoesOn};
 ghost use Rattle.rq_model.specs.Carrying.{TrueHasFront, CrashWhileCarriedGrows, MovesOn, IsNoLog};
 ghost use Rattle.rq_model.specs.Carrying.{LaterSaysTheSame, FilesJoin, StartsAnew, FrontGoesOn};
-ghost use Rattle.rq_model.specs.Carrying.{AnewJoins, ReadsAsLog};
+ghost use Rattle.rq_model.specs.Carrying.{AnewJoins, ReadsAsLog, GreaterIsWider};
 
 /// A body spells at most one record, a record has one body, and the bytes of a state spell no other
-/// state.
+/// state. The counts of a state have their widths if a log spells it, or its spelling is short.
 pub fn one_spelling()
     ensures record { BodySpellsOne }
     ensures body { RecordHasOneBody }
     ensures state { BytesSpellOneState }
+    ensures counted { LogStateIsCounted }
+    ensures short { ShortIsCounted }
 {}
 
 /// If a length is in range and the digest is right, the frame of the body is there, and no other.
@@ -230,10 +233,12 @@ pub fn followed_logs()
 {}
 
 /// A true checkpoint has a front of its own. If a log is read from a checkpoint on, a crash while
-/// records are appended loses none whose frame is whole, and invents none.
+/// records are appended loses none whose frame is whole, and invents none. What is read where record
+/// numbers have a bound is read so where they have a greater one.
 pub fn carried_logs()
     ensures front { TrueHasFront }
     ensures crash { CrashWhileCarriedGrows }
+    ensures wider { GreaterIsWider }
 {}
 
 /// No carried file begins as a log, so there is no restart of it. It is read as one: with the header
@@ -401,12 +406,13 @@ pub fn reports_tell_clients()
     ensures files { FilesTellClients }
 {}
 
-/// Of a log that was carried on in other files, a restart of the last file accounts for each request
-/// and client of the records of all files. So does a restart of the last file closed, and of each
+/// Of a log that was carried on in other files, the records of all files are those of one log of any
+/// length, and a restart of the last file is that log's. It accounts for each request and client of them. So does a restart of the last file closed, and of each
 /// beginning of that which holds its front. The report of the last file says so. A file that begins
 /// with a checkpoint of the state after these records, linked to them, carries them on.
 pub fn all_files_account()
     ensures begun { BegunFileCarriesOn }
+    ensures one { FilesAreOneRun }
     ensures restart { FilesAccount }
     ensures closed { ClosedFilesAccount }
     ensures report { FilesReportAccounts }

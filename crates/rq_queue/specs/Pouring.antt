@@ -1,5 +1,6 @@
 -- What pouring a part out does to a list.
-use Rattle.std.specs.Prelude.{ℕ, ◌≡◌, List, ◌++◌, Result, Ok, Err}
+use Rattle.std.specs.Prelude.{ℕ, ◌≡◌, ◌≤◌, ◌<◌, ◌+◌, List, ◌++◌, Result, Ok, Err, vec_len, vec_capacity}
+use Rattle.std.specs.Global.{Vec}
 use Rattle.std.specs.List.Sorted.{IsPermutation}
 use Rattle.rq_state.specs.Laws.{gathered}
 use Rattle.rq_model.specs.Queues.{Part, part_of}
@@ -7,6 +8,12 @@ use Rattle.rq_model.specs.States.{State}
 use Rattle.rq_record.specs.declared.fault.Fault.{Fault}
 use Rattle.rq_state.specs.Inside.{Fields}
 use Rattle.rq_state.specs.declared.fields.FieldsOf.{FieldsOf}
+
+-- the list is as it was; unless refused, it has room for so many members more, if it has any
+abbrev pub MakesRoom : {X U : Type 0} → Vec X → Vec X → ℕ → Result U Fault → Type 0
+MakesRoom old new count (Ok _) = (new.items ≡ old.items) × (vec_len new ≡ vec_len old)
+    × (0 < vec_len new → vec_len new + count ≤ vec_capacity new)
+MakesRoom old new count (Err _) = new.items ≡ old.items
 
 -- these members are added after what the list had, in some order; refused, it is as it was
 abbrev pub Grows : {X U : Type 0} → List X → List X → List X → Result U Fault → Type 0

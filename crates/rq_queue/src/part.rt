@@ -17,7 +17,7 @@ use crate::elements::Elements;
 use crate::moves::KeptMove;
 use crate::notes::Notes;
 use crate::operations::KeptOp;
-use crate::poured_members::add_members;
+use crate::poured_members::{add_kept, add_listed, add_members};
 use crate::registrants::Registrants;
 use rq_record::{ElemId, Fault, KeptBy, KeptPayload, KeptRecord, Name, QueueNo, UnitNo};
 use rq_state::{Definition, Fields, KeptElement, KeptFields, OpKind, State};
@@ -106,8 +106,7 @@ impl Part {
         let alloc = *fields.elements.allocator();
         let elements = self.elements.list_told(alloc)?;
         let registrants = self.registrants.list_told(alloc, self.queue)?;
-        let notes = self.notes.list(alloc)?;
-        add_members(fields, elements, registrants, notes)
+        add_listed(alloc, fields, elements, registrants, self.notes)
     }
 
     /// The same for fields that are kept: the elements themselves go there.
@@ -116,10 +115,9 @@ impl Part {
         ensures refused { IfErr result (λ e. e ≡ Resources) }
     {
         let alloc = *fields.elements.allocator();
+        let queue = self.queue;
         let elements = self.elements.list(alloc)?;
-        let registrants = self.registrants.list(alloc, self.queue)?;
-        let notes = self.notes.list(alloc)?;
-        add_members(fields, elements, registrants, notes)
+        add_kept(alloc, fields, queue, elements, self.registrants, self.notes)
     }
 
     /// Adds copies of its elements, registrants and notes to the lists. Refused with Resources: the

@@ -1,6 +1,6 @@
 //! Lists of places under keys: where to look for the notes of a unit or of a registrant.
 
-ghost use Rattle.std.specs.Prelude.{◌≡◌, ◌++◌, ◌∷◌, [], IfErr, OnOk, OnErr, if◌then◌else◌};
+ghost use Rattle.std.specs.Prelude.{◌≡◌, ◌++◌, ◌∷◌, [], IfOk, IfErr, OnOk, OnErr, if◌then◌else◌};
 ghost use Rattle.std.specs.Ordering.{is_eq};
 ghost use Rattle.rq_queue.specs.Noted.{filed};
 ghost use Rattle.rq_record.specs.declared.fault.Fault.TheVariants.{Resources};
@@ -35,6 +35,17 @@ pub(crate) fn unfiled<K: Ord + Drop>(
     }
 }
 
+// A list of one place. Most units make one note in a queue, and a list that grows by itself begins
+// with room for four.
+fn first_place(alloc: Global, place: u64) -> Result<Vec<u64>, Fault>
+    ensures first { IfOk result (λ places. places.items ≡ place ∷ []) }
+    ensures refused { IfErr result (λ e. e ≡ Resources) }
+{
+    let mut places = Vec::with_capacity(alloc, 1)?;
+    places.push(place)?;
+    Ok(places)
+}
+
 /// Puts a place at the end of the list of a key. Refused with Resources: the lists are then as
 /// before.
 pub(crate) fn file<K: Ord + Drop>(
@@ -53,9 +64,6 @@ pub(crate) fn file<K: Ord + Drop>(
         places.push(place)?;
         return Ok(());
     }
-    // Most units make one note in a queue, and a list that grows by itself begins with room for four.
-    let mut places = Vec::with_capacity(alloc, 1)?;
-    places.push(place)?;
-    index.insert(key, places)?;
+    index.insert(key, first_place(alloc, place)?)?;
     Ok(())
 }

@@ -1,7 +1,7 @@
 //! Redo of one queue.
 
 ghost use Rattle.std.specs.Prelude.{◌≡◌, ◌≤◌, ◌<◌, ◌-◌, ◌^◌, ◌++◌, ◌∷◌, [], List, length, drop};
-ghost use Rattle.std.specs.Prelude.{IfOk, IfErr};
+ghost use Rattle.std.specs.Prelude.{IfOk, IfErr, OnOk};
 ghost use Rattle.std.specs.List.{AllByRecursion};
 ghost use Rattle.rq_model.specs.Queues as queues;
 ghost use Rattle.rq_model.specs.Redo.{GoesWell};
@@ -89,34 +89,33 @@ fn catch_up(
     Ok(done)
 }
 
-// The part after the operations and the arrivals, and what left it.
+// Does the operations and puts in the arrivals, which are taken, in their order. What leaves is added
+// to what was sent.
 fn redo_in_order(
     alloc: Global,
-    part: Part,
+    part: &mut Part,
     ops: &KeptOps,
-    arrivals: Vec<KeptMove>,
-) -> Result<(Part, Vec<KeptMove>), Fault>
-    requires well { GoesWell part ops.now arrivals.items }
-    requires rising { AreRising arrivals.items }
-    ensures part { IfOk result (λ r. r.0 ≡ redo_words.redone part ops.now arrivals.items) }
-    ensures sent { IfOk result (λ r. r.1.items ≡ redo_words.all_sent part ops.now arrivals.items) }
+    arrivals: &mut Vec<KeptMove>,
+    sent: &mut Vec<KeptMove>,
+) -> Result<(), Fault>
+    requires well { GoesWell part.old ops.now arrivals.old.items }
+    requires rising { AreRising arrivals.old.items }
+    ensures part { OnOk result
+        (part.new ≡ redo_words.redone part.old ops.now arrivals.old.items) }
+    ensures sent { OnOk result (sent.new.items
+        ≡ sent.old.items ++ redo_words.all_sent part.old ops.now arrivals.old.items) }
     ensures refused { IfErr result (λ e. e ≡ Resources) }
 {
     rq_model::redo_steps();
     rq_model::redo_goes_well();
-    let mut sent = Vec::new(alloc);
-    let mut part = part;
     let mut done = 0;
-    let mut coming = arrivals;
-    coming.reverse();
-    while let Some(arrival) = coming.pop() {
-        done = catch_up(alloc, &mut part, ops, done, arrival.place(), &mut sent)?;
+    arrivals.reverse();
+    while let Some(arrival) = arrivals.pop() {
+        done = catch_up(alloc, part, ops, done, arrival.place(), sent)?;
         part.receive(alloc, arrival)?;
     }
-    catch_up(alloc, &mut part, ops, done, u64::MAX, &mut sent)?;
-    // What left is kept until its receiver comes to it, and most ABORTs send nothing.
-    sent.shrink_to_fit();
-    Ok((part, sent))
+    catch_up(alloc, part, ops, done, u64::MAX, sent)?;
+    Ok(())
 }
 
 /// The part after the operations and the arrivals, and the elements that left for the error queue.
@@ -151,6 +150,11 @@ pub fn redo_kept(
 {
     rq_model::projection();
     rq_model::redo_goes_well();
-    let redone = redo_in_order(alloc, part, ops, arrivals)?;
-    Ok(redone)
+    let mut part = part;
+    let mut arrivals = arrivals;
+    let mut sent = Vec::new(alloc);
+    redo_in_order(alloc, &mut part, ops, &mut arrivals, &mut sent)?;
+    // What left is kept until its receiver comes to it, and most ABORTs send nothing.
+    sent.shrink_to_fit();
+    Ok((part, sent))
 }

@@ -1,6 +1,6 @@
 //! The registrants of a queue.
 
-ghost use Rattle.std.specs.Prelude.{◌≡◌, ◌++◌, [], ℕ, ◌&&◌, ◌||◌, not, map, IfOk, IfErr};
+ghost use Rattle.std.specs.Prelude.{◌≡◌, ◌++◌, ◌∷◌, [], ℕ, ◌&&◌, ◌||◌, not, map, IfOk, IfErr};
 ghost use Rattle.std.specs.Prelude.{◌*◌, ◌-◌, ◌≤◌, length, OnOk, SomeIff, option_map};
 ghost use Rattle.std.specs.BTreeMap.{insert_entry};
 ghost use Rattle.std.specs.Cmp.Lexicographic.{slice_cmp};
@@ -267,6 +267,22 @@ fn registrant_again(
     registrant(alloc, queue, name, last)
 }
 
+// Puts a registrant at the end of a list.
+fn put_listed(
+    alloc: Global,
+    queue: QueueNo,
+    name: KeptName,
+    last: &KeptLast,
+    all: &mut Vec<KeptRegistrant>,
+) -> Result<(), Fault>
+    ensures put { OnOk result (all.new.items
+        ≡ all.old.items ++ registrant_of queue.0 (name, last.now) ∷ []) }
+    ensures refused { IfErr result (λ e. e ≡ Resources) }
+{
+    all.push(registrant(alloc, queue, name, last)?)?;
+    Ok(())
+}
+
 // The registrants, by name. Each is let go as the list gets it, so that map and list are never in
 // memory at once.
 fn listed(
@@ -279,7 +295,7 @@ fn listed(
 {
     let mut all = Vec::with_capacity(alloc, lasts.len())?;
     for (name, last) in lasts {
-        all.push(registrant(alloc, queue, name, &last)?)?;
+        put_listed(alloc, queue, name, &last, &mut all)?;
     }
     Ok(all)
 }

@@ -16,12 +16,13 @@ use Rattle.rq_record.specs.declared.fault.Fault.{Fault}
 use Rattle.rq_restart.specs.Restarts.{Restarts}
 use Rattle.rq_device.specs.Devices.{CrashLeaves, AreStored, IsAllSynced}
 use Rattle.rq_left.specs.Left.{SyncedStays, SyncedIsHeaded, BeginningIsExact, CommitStays}
+use Rattle.rq_live.specs.Starts.{Plain}
 use Rattle.rq_live.specs.Managers.{Stand, IsManaged, IsSafe}
 use Rattle.rq_reopen.specs.Reopenings.{GoesOnFrom, Survives, IsNoMishap, IsExact}
 
 -- the front begins with all that was safe
 pub begins_with_safe : SyncedStays → (c : List ℕ) (version v : Version) (rs found : List Record) (m : Stand)
-    (w rest : List ℕ) → IsManaged version rs m → IsSafe version rs m → m.written ≡ Some w
+    (w rest : List ℕ) → IsManaged (Plain version) rs m → IsSafe (Plain version) rs m → m.written ≡ Some w
     → CrashLeaves m.written m.synced c → IsFront c v found rest
     → (v ≡ version) × (others : List Record) × (found ≡ rs ++ others)
 begins_with_safe stays c version v rs found m w rest managed safe known left front =

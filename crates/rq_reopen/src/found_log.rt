@@ -1,11 +1,15 @@
 //! Where a manager goes on behind what a crash left.
 
-ghost use Rattle.std.specs.Prelude.{IfErr, IfOk, length};
+ghost use Rattle.std.specs.Prelude.{◌≡◌, List, ℕ, IfErr, IfOk, length};
+ghost use Rattle.rq_model.specs.Carrying.{carried_at};
+ghost use Rattle.rq_record.specs.declared.fault.Fault.TheVariants.{Resources};
+ghost use Rattle.rq_restart.specs.RedoneFronts.{IsRedoneAt, IsRedoneFront};
 ghost use Rattle.rq_live.specs.Kernels.{StandsWithin};
-ghost use Rattle.rq_reopen.specs.Openings.{Finds, GoesOnAt, IsExactlyFound};
+ghost use Rattle.rq_reopen.specs.Files.{FindsFrom, IsCarriedFound};
+ghost use Rattle.rq_reopen.specs.Openings.{Finds, IsFound, GoesOnAt, IsExactlyFound, front_with};
 ghost use Rattle.rq_reopen.specs.Reopenings.{IsNoMishap};
 
-use rq_front::Framer;
+use rq_front::CARRIED_AT;
 use rq_judged::Edge;
 use rq_live::Kernel;
 use rq_plan::Plan;
@@ -25,6 +29,39 @@ pub struct FoundLog {
     pub end: Edge,
     /// The queues as they stand behind the front, with the units that were open there.
     pub kernel: Kernel,
+}
+
+// The queues as a machine has them that stands behind a front.
+fn found_of(
+    alloc: Global,
+    version: Version,
+    machine: Machine,
+    last: [u8; 32],
+    end: Edge,
+) -> FoundLog
+    ensures found { (c : List ℕ) → IsRedoneFront c (front_with version machine last end)
+        → IsFound c result }
+    ensures from { (b : List ℕ) → IsRedoneAt b carried_at (front_with version machine last end)
+        → IsCarriedFound b result }
+    ensures end { result.end ≡ end }
+    ensures version { result.version ≡ version }
+{
+    FoundLog {
+        version,
+        end,
+        kernel: Kernel::standing(alloc, version, machine, last, end.used),
+    }
+}
+
+// The queues behind a front.
+fn behind(alloc: Global, front: &RedoneFront) -> Result<FoundLog, Fault>
+    ensures found { IfOk result (λ l. (c : List ℕ) → IsRedoneFront c front.now → IsFound c l) }
+    ensures from { IfOk result
+        (λ l. (b : List ℕ) → IsRedoneAt b carried_at front.now → IsCarriedFound b l) }
+    ensures refused { IfErr result (λ e. e ≡ Resources) }
+{
+    let machine = Machine::of(alloc, &front.state)?;
+    Ok(found_of(alloc, front.version, machine, front.last, front.end))
 }
 
 impl FoundLog {
@@ -50,12 +87,46 @@ impl FoundLog {
         rq_left::crash_leaves();
         rq_model::one_front();
         let front = RedoneFront::of(rt, alloc, left, plan)?;
-        let machine = Machine::of(alloc, &front.state)?;
-        let framer = Framer::after(front.last, front.end.used);
-        Ok(FoundLog {
-            version: front.version,
-            end: front.end,
-            kernel: Kernel::standing(alloc, front.version, machine, framer),
-        })
+        behind(alloc, &front)
+    }
+
+    /// The queues behind the front of what a crash left of a log, of which a machine stands there. They
+    /// are those that `of` finds. Takes no memory.
+    pub fn of_machine(
+        alloc: Global,
+        version: Version,
+        machine: Machine,
+        last: [u8; 32],
+        end: Edge,
+    ) -> FoundLog
+        requires { (c : List ℕ) × IsRedoneFront c (front_with version machine last end) }
+        ensures found { (c : List ℕ) → IsRedoneFront c (front_with version machine last end)
+            → IsFound c result }
+        ensures within { StandsWithin result.kernel result.end.used }
+        ensures end { result.end ≡ end }
+        ensures version { result.version ≡ version }
+        ensures survives { (c : List ℕ) → IsRedoneFront c (front_with version machine last end)
+            → GoesOnAt c result }
+        ensures exact { (c : List ℕ) → IsRedoneFront c (front_with version machine last end)
+            → IsExactlyFound c result }
+    {
+        rq_left::crash_leaves();
+        rq_model::one_front();
+        found_of(alloc, version, machine, last, end)
+    }
+
+    /// The same of a carried file that is read as a log: they go on from the state that the
+    /// checkpoint at its beginning spells.
+    pub(crate) fn of_carried<R: Threads + Sync>(
+        rt: &R,
+        alloc: Global,
+        left: &LogBytes<'_>,
+        plan: &Plan,
+    ) -> Result<FoundLog, Fault>
+        ensures finds { FindsFrom left.now result }
+        ensures within { IfOk result (λ l. StandsWithin l.kernel (length left.now)) }
+    {
+        let front = RedoneFront::redone_at(rt, alloc, left, CARRIED_AT as u64, plan)?;
+        behind(alloc, &front)
     }
 }

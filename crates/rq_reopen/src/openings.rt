@@ -5,8 +5,11 @@ ghost use Rattle.rq_record.specs.declared.fault.Fault.TheVariants.{Resources};
 ghost use Rattle.rq_live.specs.Kernels.{StandsWithin};
 ghost use Rattle.rq_reopen.specs.Openings.{CutsBehind, GoesOnAt, IsExactlyFound, IsNotShut};
 ghost use Rattle.rq_reopen.specs.Openings.{OpensLog, OpensBehind};
+ghost use Rattle.rq_reopen.specs.Files.{GoesOnAnywhere, IsExactlyIn, IsNotShutIn, OpensFile};
+ghost use Rattle.rq_reopen.specs.Files.{OpensFrom};
 
 use crate::found_log::FoundLog;
+use rq_front::{read_as_log, write_as_carried};
 use rq_journal::Damage;
 use rq_plan::Plan;
 use rq_record::{Fault, LogBytes};
@@ -111,6 +114,61 @@ impl Opening {
         match FoundLog::of(rt, alloc, left, plan) {
             Ok(found) => opened_behind(alloc, left.as_slice(), found, drops),
             Err(fault) => Err(NotOpened::Log(fault)),
+        }
+    }
+
+    // The same of a carried file that is read as a log.
+    fn of_carried<R: Threads + Sync>(
+        rt: &R,
+        alloc: Global,
+        left: &[u8],
+        plan: &Plan,
+        drops: bool,
+    ) -> Result<Opening, NotOpened>
+        ensures opens { OpensFrom left.now drops result }
+        ensures within { IfOk result (λ o. StandsWithin o.found.kernel (length left.now)) }
+    {
+        match FoundLog::of_carried(rt, alloc, &LogBytes::borrowed(left), plan) {
+            Ok(found) => opened_behind(alloc, left, found, drops),
+            Err(fault) => Err(NotOpened::Log(fault)),
+        }
+    }
+
+    /// How a manager goes on behind what a crash left of a log or of a carried file, as `of` says it of
+    /// a log. A carried file is read with the header of a log meanwhile, and has its own again then: its
+    /// queues begin in the state that its first frame, a checkpoint, spells.
+    ///
+    /// Refuses with `Log` also a carried file whose first frame is no checkpoint, or is not whole and
+    /// right, with `NoCheckpoint`, and one whose checkpoint spells no state with `BadCheckpoint`.
+    pub fn of_file<R: Threads + Sync>(
+        rt: &R,
+        alloc: Global,
+        left: &mut [u8],
+        plan: &Plan,
+        drops: bool,
+    ) -> Result<Opening, NotOpened>
+        ensures same { left.new ≡ left.old }
+        ensures opens { OpensFile left.old drops result }
+        ensures within { IfOk result (λ o. StandsWithin o.found.kernel (length left.old)) }
+        ensures survives { IfOk result (λ o. GoesOnAnywhere left.old o.found) }
+        ensures exact { IfOk result (λ o. IsExactlyIn left.old o.found) }
+        ensures headed { IfErr result (IsNotShutIn left.old) }
+    {
+        rq_left::crash_leaves();
+        rq_model::one_front();
+        rq_model::one_spelling();
+        rq_model::carried_headers();
+        rq_model::frames_are_right();
+        rq_model::appended_logs();
+        rq_model::numbers_after();
+        rq_model::runs_are_well_formed();
+        match read_as_log(left) {
+            Some(_) => {
+                let opened = Opening::of_carried(rt, alloc, left, plan, drops);
+                write_as_carried(left);
+                opened
+            }
+            None => Opening::of(rt, alloc, &LogBytes::borrowed(left), plan, drops),
         }
     }
 }

@@ -13,7 +13,7 @@ use Rattle.rq_model.specs.Frames.{frame, digest, frames_of, log_of, start, heade
 use Rattle.rq_model.specs.States.{State, empty}
 use Rattle.rq_model.specs.Machine.{step, run}
 use Rattle.rq_model.specs.WellFormed.{IsIn, Ordered}
-use Rattle.rq_model.specs.StateSpelling.{state_bytes}
+use Rattle.rq_model.specs.StateSpelling.{carried_next, state_bytes}
 use Rattle.rq_model.specs.Fronts.{IsFront}
 use Rattle.rq_model.specs.Checkpoints.{Audited, HasCheckpoint, TrueAt, IsAudit}
 use Rattle.rq_model.specs.LogLaws.{OneFront, LogEnds}
@@ -185,7 +185,8 @@ tells version law b rs rest before kept after offset front is place = (
       let spelled : kept ≡ state_bytes (run empty before) =
       sym same.1 ∙ t.3 ∙ ap (λ (qs : List Record). state_bytes (run empty qs)) same.0 in
       and_from _ _
-      (le-leb (run empty before).next 4294967295 (few version b rs rest before kept after front is))
+      (le-leb (run empty before).next carried_next
+      (omega (arith, few version b rs rest before kept after front is)))
       ((bytes_eq-Decides kept (state_bytes (run empty before))).1 spelled)),
 )
 
@@ -244,11 +245,11 @@ audits_are version law ends b short head (Ok v) is refused =
 audits_are version law ends b short head (Err e) is refused = subst (λ (f : Fault). Refused b f) (sym refused) tt
 
 -- what is told of its records is its audit
-pub audits_at : (b : List ℕ) (offset : ℕ) (x : Begun) → IsBegun b offset x → (result : Result (Vec (ℕ × Bool)) Fault)
+pub audits_at : (b : List ℕ) (offset : ℕ) (x : Begun) → IsBegun carried_next b offset x → (result : Result (Vec (ℕ × Bool)) Fault)
     → IfOk result (λ v. IsAuditedFrom (version_of x.version) x.state b offset v.items)
     → IfErr result (λ e. e ≡ Resources) → AuditsAt b offset result
 audits_at b offset x is (Ok v) audited refused =
-    let has = from_checkpoint b offset x is audited.records audited.end audited.why audited.front in (
+    let has = from_checkpoint carried_next b offset x is audited.records audited.end audited.why audited.front in (
       record {
         version = version_of x.version;
         base = x.state;

@@ -1,10 +1,10 @@
 -- Open units are aborted behind lawful records; what the first record spells does nothing there.
 use Rattle.std.proofs.Common.{◌≡◌, ℕ, ◌+◌, Bool, List, [], ◌∷◌, ◌++◌, length, map, refl, sym, ap, ◌∙◌, subst, ◌-◌, true}
-use Rattle.std.proofs.Common.{take}
+use Rattle.std.proofs.Common.{take, ◌≤◌, arith, length-append}
 use Rattle.std.specs.Prelude.{if◌then◌else◌}
-use Rattle.rq_model.specs.Records.{Record, Checkpoint, Version, Abort}
+use Rattle.rq_model.specs.Records.{Record, Begin, Checkpoint, Version, Abort}
 use Rattle.rq_model.specs.States.{State}
-use Rattle.rq_model.specs.Machine.{all_lawful, run, aborts, final}
+use Rattle.rq_model.specs.Machine.{all_lawful, run, aborts, final, outcome_from}
 use Rattle.rq_model.specs.Queues.{Op, touches, touching_from}
 use Rattle.rq_catalog.specs.Lists.{place_and_index}
 use Rattle.rq_exchange.specs.Agendas.{IsAgenda}
@@ -13,9 +13,29 @@ use Rattle.rq_exchange.specs.declared.agenda.Agenda.{Agenda}
 use Rattle.rq_restart.specs.Restarts.{first_cleared}
 use Rattle.std.proofs.Math.Seq.{take-length}
 use Rattle.rq_model.specs.WellFormed.{IsWellFormed}
-use Rattle.rq_model.specs.Laws.{CrashIsHarmless, RunsAreWellFormed, NumbersAfter}
+use Rattle.rq_model.specs.Laws.{CrashIsHarmless, RunsAreWellFormed, NumbersAfter, begun, is_still_open}
 use Rattle.rq_model.specs.Fronts.{Why, restarted}
 use Rattle.rq_model.proofs.Restarts.{run_join, lawful_join}
+use Rattle.rq_model.proofs.WellFormedRuns.{fewer}
+
+-- a record begins one unit at most
+few_begun : (rs : List Record) → length (begun rs) ≤ length rs
+few_begun [] = omega arith
+few_begun (Begin unit ∷ rs) = omega (arith, few_begun rs)
+few_begun (r ∷ rs) = omega (arith, few_begun rs)
+
+-- so no more units are open after records than were open before, and records
+pub few_open : (version : Version) → NumbersAfter → (s : State) (rs : List Record) → IsWellFormed s
+    → all_lawful version s rs ≡ true → length (run s rs).units ≤ length s.units + length rs
+few_open version law s rs well lawful =
+    let is_open = λ (u : ℕ). is_still_open (outcome_from s.next u rs) in
+    omega (
+      arith,
+      ap length (law version s rs well lawful).units,
+      fewer is_open (s.units ++ begun rs),
+      length-append s.units (begun rs),
+      few_begun rs,
+    )
 
 pub run_cleared : (s : State) (rs : List Record) → run s (first_cleared rs) ≡ run s rs
 run_cleared s [] = refl

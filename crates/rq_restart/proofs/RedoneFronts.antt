@@ -3,6 +3,7 @@ use Rattle.std.proofs.Common.{◌≡◌, ℕ, ◌-◌, List, ◌∷◌, length, 
 use Rattle.std.specs.Prelude.{Result, Ok, Err, IfOk, IfErr}
 use Rattle.std.proofs.lemmas.List.{length-drop, length-take}
 use Rattle.rq_model.specs.States.{State, empty}
+use Rattle.rq_model.specs.StateSpelling.{carried_next}
 use Rattle.rq_model.specs.Machine.{run}
 use Rattle.rq_model.specs.Fronts.{Restarted, restarted, IsFront, IsWhy, Why}
 use Rattle.rq_record.specs.declared.fault.Fault.{Fault}
@@ -13,7 +14,7 @@ use Rattle.rq_judged.specs.Views.{why_of}
 use Rattle.rq_judged.proofs.Starts.{is_restart, started}
 use Rattle.rq_restart.specs.RedoneFronts.{IsFoundAt, IsFoundFront, IsRedoneFront, IsStateBehind, RedoesFront}
 use Rattle.rq_restart.specs.RedoneFronts.{RedoesFrontAt}
-use Rattle.rq_restart.specs.Restarts.{Restarts, RestartsAt}
+use Rattle.rq_restart.specs.Restarts.{Restarts, RestartsUpTo}
 use Rattle.rq_restart.specs.declared.restarts.FoundFront.{FoundFront}
 use Rattle.rq_model.specs.Records.{Record, Checkpoint, Version}
 use Rattle.rq_model.specs.Frames.{log_limit, HasHeader, log_of, start, last_of, before}
@@ -21,7 +22,7 @@ use Rattle.rq_model.specs.LogLaws.{LogEnds}
 use Rattle.rq_record.specs.declared.fault.Fault.TheVariants.{Resources}
 use Rattle.rq_restart.specs.declared.redone.RedoneFront.{RedoneFront}
 use Rattle.rq_restart.proofs.Endings.{front_of}
-use Rattle.rq_model.specs.Carrying.{IsFrontAt}
+use Rattle.rq_model.specs.Carrying.{IsCarriedFront}
 use Rattle.rq_judged.proofs.Checkpoints.{from_checkpoint}
 
 -- it begins in the empty state
@@ -53,10 +54,11 @@ restarts b f is total all (Ok r) answer refused =
 restarts b f is total all (Err e) answer refused = rw refused tt
 
 -- and of the front from the checkpoint it is the restart from there
-pub restarts_at : (b : List ℕ) (offset : ℕ) (f : FoundFront) → IsFoundAt b offset f → (total : ℕ) → total ≡ length b
+pub restarts_at : (most : ℕ) (b : List ℕ) (offset : ℕ) (f : FoundFront) → IsFoundAt most b offset f → (total : ℕ)
+    → total ≡ length b
     → (result : Result Restarted Fault) → Answers total f result → IfErr result (λ e. e ≡ faults.Resources)
-    → RestartsAt b offset result
-restarts_at b offset f is total all (Ok r) answer refused =
+    → RestartsUpTo most b offset result
+restarts_at most b offset f is total all (Ok r) answer refused =
     let begun = is.begun in
     let rs = map record_of f.front.records.items in
     let why = why_of f.front.why in (
@@ -79,7 +81,7 @@ restarts_at b offset f is total all (Ok r) answer refused =
             ∙ ap (λ (n : ℕ). restarted (run f.state rs) n (length b) why) (sym (length-drop f.front.end b));
       },
     )
-restarts_at b offset f is total all (Err e) answer refused = rw refused tt
+restarts_at most b offset f is total all (Err e) answer refused = rw refused tt
 
 -- the front behind the header, and the state behind it
 redone : LogEnds → (b : List ℕ) (version : Version) (rs : List Record) (end : ℕ) (why : Why) (f : RedoneFront)
@@ -121,13 +123,13 @@ redoes b x is (Ok f) behind refused =
 redoes b x is (Err e) behind refused = subst (λ (z : Fault). RedoesFront b (Err z)) (sym refused) tt
 
 -- the same from a checkpoint on
-pub redoes_at : (b : List ℕ) (offset : ℕ) (x : FoundFront) → IsFoundAt b offset x → (result : Result RedoneFront Fault)
+pub redoes_at : (b : List ℕ) (offset : ℕ) (x : FoundFront) → IsFoundAt carried_next b offset x → (result : Result RedoneFront Fault)
     → IfOk result (IsStateBehind (version_of x.version) x.state b (map record_of x.front.records.items) x.front.end
     (why_of x.front.why)) → IfErr result (λ e. e ≡ Resources) → RedoesFrontAt b offset result
 redoes_at b offset x is (Ok f) behind refused =
     let version = version_of x.version in
     let kept = is.begun.kept in
-    let has = from_checkpoint b offset (record { version = x.version; found = is.chain; state = x.state }) is.begun
+    let has = from_checkpoint carried_next b offset (record { version = x.version; found = is.chain; state = x.state }) is.begun
     (map record_of x.front.records.items) x.front.end (why_of x.front.why) is.found.front in
     let at = has.from in
     let xs : List Record = Checkpoint kept ∷ has.after in
@@ -136,8 +138,8 @@ redoes_at b offset x is (Ok f) behind refused =
       base = x.state;
       kept = kept;
       after = has.after;
-      front = subst (λ (v : Version). IsFrontAt b offset v x.state kept has.after (drop f.end.used b)) (sym behind.rules)
-          (subst (λ (n : ℕ). IsFrontAt b offset version x.state kept has.after (drop n b)) (sym behind.used) at.front);
+      front = subst (λ (v : Version). IsCarriedFront b offset v x.state kept has.after (drop f.end.used b)) (sym behind.rules)
+          (subst (λ (n : ℕ). IsCarriedFront b offset version x.state kept has.after (drop n b)) (sym behind.used) at.front);
       ends = subst (λ (v : Version). IsWhy v (run x.state xs) link (drop f.end.used b) (why_of f.end.why)) (sym behind.rules)
           (subst (λ (n : ℕ). IsWhy version (run x.state xs) link (drop n b) (why_of f.end.why)) (sym behind.used)
           (subst (λ (w : Why). IsWhy version (run x.state xs) link (drop x.front.end b) w) (sym behind.why) at.ends));

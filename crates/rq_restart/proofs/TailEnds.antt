@@ -6,12 +6,13 @@ use Rattle.std.proofs.lemmas.List.{length-append, length-take}
 use Rattle.rq_model.specs.Records.{Record, Checkpoint, Abort, Version}
 use Rattle.rq_model.specs.Frames.{log_limit, start, before, frames_of, last_of}
 use Rattle.rq_model.specs.States.{State, empty}
+use Rattle.rq_model.specs.StateSpelling.{carried_next}
 use Rattle.rq_model.specs.Machine.{run, aborts}
 use Rattle.rq_model.specs.Fronts.{IsWhy}
 use Rattle.rq_record.specs.declared.fault.Fault.{Fault}
 use Rattle.rq_record.specs.declared.fault.Fault.TheVariants as faults
 use Rattle.rq_record.specs.Views.{record_of, version_of}
-use Rattle.rq_judged.specs.Refusals.{RefusedAt}
+use Rattle.rq_judged.specs.Refusals.{RefusedCarried}
 use Rattle.rq_judged.specs.Views.{why_of}
 use Rattle.rq_judged.proofs.Starts.{started}
 use Rattle.rq_judged.proofs.Checkpoints.{from_checkpoint, HasFrom}
@@ -110,19 +111,19 @@ ends_log b f is (Ok e) ends crowd = is_ending b f is e ends
 ends_log b f is (Err e) ends crowd = stays_open b f is e crowd
 
 -- the end of a front from a checkpoint on
-from_there : (b : List ℕ) (offset : ℕ) (f : FoundFront) (is : IsFoundAt b offset f)
-    → HasFrom b offset (record { version = f.version; found = is.chain; state = f.state }) is.begun.kept (records f) f.front.end (why_of f.front.why)
+from_there : (b : List ℕ) (offset : ℕ) (f : FoundFront) (is : IsFoundAt carried_next b offset f)
+    → HasFrom carried_next b offset (record { version = f.version; found = is.chain; state = f.state }) is.begun.kept (records f) f.front.end (why_of f.front.why)
 from_there b offset f is =
-    from_checkpoint b offset (record { version = f.version; found = is.chain; state = f.state }) is.begun (records f)
+    from_checkpoint carried_next b offset (record { version = f.version; found = is.chain; state = f.state }) is.begun (records f)
     f.front.end (why_of f.front.why) is.found.front
 
-same_tail : (b : List ℕ) (offset : ℕ) (f : FoundFront) (is : IsFoundAt b offset f)
+same_tail : (b : List ℕ) (offset : ℕ) (f : FoundFront) (is : IsFoundAt carried_next b offset f)
     → tail_behind b f ≡ tail_at b offset f.state is.begun.kept (from_there b offset f is).after
 same_tail b offset f is =
     let has = from_there b offset f is in
     λ i. frames_of (has.from.last i) (aborts (run f.state (has.are i)))
 
-is_ending_at : (b : List ℕ) (offset : ℕ) (f : FoundFront) → IsFoundAt b offset f → (e : Ending) → IsEndingOf b f e
+is_ending_at : (b : List ℕ) (offset : ℕ) (f : FoundFront) → IsFoundAt carried_next b offset f → (e : Ending) → IsEndingOf b f e
     → IsEndingAt b offset e
 is_ending_at b offset f is e h =
     let has = from_there b offset f is in
@@ -142,7 +143,7 @@ is_ending_at b offset f is e h =
       room = h.room;
     })
 
-stays_open_at : (b : List ℕ) (offset : ℕ) (f : FoundFront) → IsFoundAt b offset f → (e : Fault) → IsCrowded b f e
+stays_open_at : (b : List ℕ) (offset : ℕ) (f : FoundFront) → IsFoundAt carried_next b offset f → (e : Fault) → IsCrowded b f e
     → StaysOpenAt b offset e
 stays_open_at b offset f is e crowd = elim crowd [
   | inl h ↦ (let has = from_there b offset f is in
@@ -159,12 +160,12 @@ stays_open_at b offset f is e crowd = elim crowd [
   | inr memory ↦ subst (StaysOpenAt b offset) (sym memory) tt
 ]
 
-pub ends_log_at : (b : List ℕ) (offset : ℕ) (f : FoundFront) → IsFoundAt b offset f → (result : Result Ending Fault)
+pub ends_log_at : (b : List ℕ) (offset : ℕ) (f : FoundFront) → IsFoundAt carried_next b offset f → (result : Result Ending Fault)
     → IfOk result (IsEndingOf b f) → IfErr result (IsCrowded b f) → EndsLogAt b offset result
 ends_log_at b offset f is (Ok e) ends crowd = is_ending_at b offset f is e ends
 ends_log_at b offset f is (Err e) ends crowd = stays_open_at b offset f is e crowd
 
 -- without a front there is no end
-pub refused_there : (b : List ℕ) (offset : ℕ) (e : Fault) → RefusedAt b offset e → StaysOpenAt b offset e
+pub refused_there : (b : List ℕ) (offset : ℕ) (e : Fault) → RefusedCarried b offset e → StaysOpenAt b offset e
 refused_there b offset faults.TooLarge refused = absurd refused
 refused_there b offset _ refused = refused

@@ -8,19 +8,19 @@ use Rattle.rq_model.specs.Spelling.{body_of}
 use Rattle.rq_model.specs.Frames.{log_limit, HasHeader, AreBytes}
 use Rattle.rq_model.specs.States.{State}
 use Rattle.rq_model.specs.Machine.{step, run, all_lawful}
-use Rattle.rq_model.specs.StateSpelling.{state_bytes}
+use Rattle.rq_model.specs.StateSpelling.{carried_next, state_bytes}
 use Rattle.rq_model.specs.Fronts.{Why}
 use Rattle.rq_model.specs.Checkpoints.{Audited, IsAudit}
-use Rattle.rq_model.specs.Carrying.{IsFrontAt}
+use Rattle.rq_model.specs.Carrying.{IsCarriedFront}
 use Rattle.rq_record.specs.declared.fault.Fault.{Fault}
 use Rattle.rq_front.specs.declared.spans.Span.{Span}
 use Rattle.rq_front.specs.Chains.{IsHeaded, Refused}
 use Rattle.rq_judged.specs.FrontEnds.{IsFrontFrom}
-use Rattle.rq_judged.specs.Refusals.{RefusedAt}
+use Rattle.rq_judged.specs.Refusals.{RefusedCarried}
 
--- a checkpoint of these bytes spells the state
+-- a checkpoint of these bytes spells the state; no state of a log has a greater next record number
 abbrev pub is_spelled : State → List ℕ → Bool
-is_spelled s kept = nat_le s.next 4294967295 && bytes_eq kept (state_bytes s)
+is_spelled s kept = nat_le s.next carried_next && bytes_eq kept (state_bytes s)
 
 -- a record whose frame stands at an offset, in the state before it
 abbrev pub audit_of : State → ℕ → Record → List Audited
@@ -65,14 +65,14 @@ abbrev pub Audits : List ℕ → Result (Vec (ℕ × Bool)) Fault → Type 0
 Audits b (Ok v) = (length b ≤ log_limit) × IsHeaded b × IsAudit b (map audited_of v.items)
 Audits b (Err e) = Refused b e
 
--- a log with a front from the checkpoint at an offset on
+-- a carried file that is read as the log b, with a front from the checkpoint at an offset on
 pub record HasFrontAt (b : List ℕ) (offset : ℕ) : Type 0 where
   pub version : Version
   pub base : State
   pub kept : List ℕ
   pub after : List Record
   pub rest : List ℕ
-  pub front : IsFrontAt b offset version base kept after rest
+  pub front : IsCarriedFront b offset version base kept after rest
 
 -- the checkpoints of that front, the first of which is taken at its word
 abbrev pub IsAuditAt : List ℕ → ℕ → List Audited → Type 0
@@ -82,7 +82,7 @@ IsAuditAt b offset found = (x : HasFrontAt b offset)
 -- these, or why there are none
 abbrev pub AuditsAt : List ℕ → ℕ → Result (Vec (ℕ × Bool)) Fault → Type 0
 AuditsAt b offset (Ok v) = IsAuditAt b offset (map audited_of v.items)
-AuditsAt b offset (Err e) = RefusedAt b offset e
+AuditsAt b offset (Err e) = RefusedCarried b offset e
 
 -- Every log has an audit
 abbrev pub EveryLogHasAudit : Type 0

@@ -3,12 +3,13 @@ use Rattle.std.specs.Prelude.{List, [], ◌∷◌, ◌≡◌, ◌≤◌, ℕ, le
 use Rattle.rq_model.specs.Records.{Record, Checkpoint, Version}
 use Rattle.rq_model.specs.Frames.{log_limit}
 use Rattle.rq_model.specs.States.{State, empty}
+use Rattle.rq_model.specs.StateSpelling.{log_next, carried_next}
 use Rattle.rq_model.specs.Machine.{run}
 use Rattle.rq_model.specs.Fronts.{Restarted, IsFront, IsRestart}
-use Rattle.rq_model.specs.Checkpoints.{IsRestartAt}
+use Rattle.rq_model.specs.Checkpoints.{IsRestartUpTo}
 use Rattle.rq_record.specs.declared.fault.Fault.{Fault}
 use Rattle.rq_front.specs.Chains.{IsHeaded, Refused}
-use Rattle.rq_judged.specs.Refusals.{RefusedAt}
+use Rattle.rq_judged.specs.Refusals.{RefusedUpTo}
 
 abbrev pub cleared : Record → Record
 cleared (Checkpoint bytes) = Checkpoint []
@@ -29,7 +30,16 @@ FindsState b (Ok s) = (version : Version) × (records : List Record)
     × (rest : List ℕ) × IsFront b version records rest × (s ≡ run empty records)
 FindsState b (Err e) = Refused b e
 
--- the restart of b from the checkpoint at the offset, or why there is none
+-- the restart of b from the checkpoint at the offset, in a state whose next record number is at most
+-- this, or why there is none
+abbrev pub RestartsUpTo : ℕ → List ℕ → ℕ → Result Restarted Fault → Type 0
+RestartsUpTo most b offset (Ok r) = (length b ≤ log_limit) × IsHeaded b × IsRestartUpTo most b offset r
+RestartsUpTo most b offset (Err e) = RefusedUpTo most b offset e
+
+-- that of a log
 abbrev pub RestartsAt : List ℕ → ℕ → Result Restarted Fault → Type 0
-RestartsAt b offset (Ok r) = (length b ≤ log_limit) × IsHeaded b × IsRestartAt b offset r
-RestartsAt b offset (Err e) = RefusedAt b offset e
+RestartsAt b offset result = RestartsUpTo log_next b offset result
+
+-- and that of a carried file that is read as the log b
+abbrev pub RestartsCarried : List ℕ → ℕ → Result Restarted Fault → Type 0
+RestartsCarried b offset result = RestartsUpTo carried_next b offset result

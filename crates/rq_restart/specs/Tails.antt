@@ -6,13 +6,13 @@ use Rattle.rq_model.specs.Frames.{log_limit, start, log_of, frames_of, last_of, 
 use Rattle.rq_model.specs.States.{State, empty}
 use Rattle.rq_model.specs.Machine.{run, aborts}
 use Rattle.rq_model.specs.Fronts.{IsFront, IsWhy}
-use Rattle.rq_model.specs.Carrying.{IsFrontAt}
+use Rattle.rq_model.specs.Carrying.{IsCarriedFront}
 use Rattle.rq_model.specs.Closing.{IsClosedBy, IsClosed}
 use Rattle.rq_record.specs.declared.fault.Fault.{Fault}
 use Rattle.rq_record.specs.declared.fault.Fault.TheVariants.{TooLarge, Resources}
 use Rattle.rq_record.specs.Views.{record_of, version_of}
 use Rattle.rq_front.specs.Chains.{IsLog, Refused}
-use Rattle.rq_judged.specs.Refusals.{RefusedAt}
+use Rattle.rq_judged.specs.Refusals.{RefusedCarried}
 use Rattle.rq_judged.specs.Views.{why_of}
 use Rattle.rq_restart.specs.declared.restarts.FoundFront.{FoundFront}
 use Rattle.rq_restart.specs.declared.tails.Ending.{Ending}
@@ -51,12 +51,13 @@ tail_at b offset base kept after =
     frames_of (last_of (before offset b) (Checkpoint kept ∷ after))
     (aborts (run base (Checkpoint kept ∷ after)))
 
--- where the front of b from the checkpoint at an offset ends, for this reason, and these frames
+-- where the front of a carried file that is read as the log b ends, from the checkpoint at an offset,
+-- for this reason, and these frames
 pub record IsEndingAt (b : List ℕ) (offset : ℕ) (e : Ending) : Type 0 where
   pub base : State
   pub kept : List ℕ
   pub after : List Record
-  pub front : IsFrontAt b offset (version_of e.version) base kept after (drop e.end.used b)
+  pub front : IsCarriedFront b offset (version_of e.version) base kept after (drop e.end.used b)
   pub ends : IsWhy (version_of e.version) (run base (Checkpoint kept ∷ after))
       (last_of (before offset b) (Checkpoint kept ∷ after)) (drop e.end.used b) (why_of e.end.why)
   pub used : e.end.used
@@ -75,7 +76,7 @@ pub record IsCrowdedAt (b : List ℕ) (offset : ℕ) : Type 0 where
   pub kept : List ℕ
   pub after : List Record
   pub rest : List ℕ
-  pub front : IsFrontAt b offset version base kept after rest
+  pub front : IsCarriedFront b offset version base kept after rest
   pub long : log_limit < offset
       + (length (frames_of (before offset b) (Checkpoint kept ∷ after))
       + length (tail_at b offset base kept after))
@@ -83,7 +84,7 @@ pub record IsCrowdedAt (b : List ℕ) (offset : ℕ) : Type 0 where
 -- why there is no such end
 abbrev pub StaysOpenAt : List ℕ → ℕ → Fault → Type 0
 StaysOpenAt b offset TooLarge = IsCrowdedAt b offset
-StaysOpenAt b offset e = RefusedAt b offset e
+StaysOpenAt b offset e = RefusedCarried b offset e
 
 abbrev pub EndsLogAt : List ℕ → ℕ → Result Ending Fault → Type 0
 EndsLogAt b offset (Ok e) = IsEndingAt b offset e

@@ -2,6 +2,7 @@
 
 ghost use Rattle.std.specs.Prelude.{◌≡◌, ◌≤◌, ◌++◌, ◌∷◌, [], ℕ, true, length, map, IfOk, OnOk, IfErr};
 ghost use Rattle.rq_model.specs.Machine.{all_lawful, run};
+ghost use Rattle.rq_model.specs.StateSpelling.{carried_next};
 ghost use Rattle.rq_record.specs.Views.{record_of, version_of};
 ghost use Rattle.rq_record.specs.declared.fault.Fault.TheVariants.{Resources};
 ghost use Rattle.rq_judged.specs.FrontEnds.{IsChain};
@@ -106,7 +107,7 @@ fn checkpoints_of<R: Threads + Sync>(
     plan: &Plan,
 ) -> Result<Vec<(u64, bool)>, Fault>
     requires chain { (offset : ℕ) × IsChain bytes.now offset begun.now.found }
-    requires next { begun.now.state.next ≤ 4294967295 }
+    requires next { begun.now.state.next ≤ carried_next }
     ensures found { IfOk result (λ v. (offset : ℕ) → IsChain bytes.now offset begun.now.found
         → IsAuditedFrom (version_of begun.now.version) begun.now.state bytes.now offset v.items) }
     ensures refused { IfErr result (λ e. e ≡ Resources) }
@@ -176,11 +177,12 @@ pub fn audit<R: Threads + Sync>(
     audit_of(rt, alloc, &LogBytes::borrowed(bytes), plan)
 }
 
-/// The checkpoints of the front of a log from the checkpoint at an offset on, rising: the offset of
-/// each, and whether it spells the state before it. The first is taken at its word, so it does.
+/// The checkpoints of the front of a carried file that is read as a log, from the checkpoint at an
+/// offset on, rising: the offset of each, and whether it spells the state before it. The first is taken
+/// at its word, so it does.
 ///
 /// Costs what `audit` does, and the members of the state that the first one spells. Refused as
-/// `restart_at` is.
+/// `restart_carried` is.
 pub fn audit_at<R: Threads + Sync>(
     rt: &R,
     alloc: Global,
@@ -190,7 +192,8 @@ pub fn audit_at<R: Threads + Sync>(
 ) -> Result<Vec<(u64, bool)>, Fault>
     ensures { AuditsAt bytes.now offset result }
 {
-    let begun = Begun::begun_at(rt, alloc, bytes, offset, plan)?;
+    let most = State::CARRIED_RECORDS;
+    let begun = Begun::begun_at(rt, alloc, bytes, offset, most, plan)?;
     checkpoints_of(rt, alloc, &LogBytes::borrowed(bytes), &begun, plan)
 }
 

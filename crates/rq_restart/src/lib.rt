@@ -15,7 +15,9 @@ pub use audits::{audit, audit_at, audit_of, every_log_has_audit};
 pub use pieces::go_on;
 pub use redone::{RedoneFront, front_state};
 pub use restart_ends::Restarted;
-pub use restarts::{restart, restart_at, restart_own, restart_own_at};
+pub use restarts::{
+    restart, restart_at, restart_carried, restart_own, restart_own_at, restart_own_carried,
+};
 pub use rq_judged::Why;
 pub use rq_plan::{Gate, Open, Plan};
 pub use rq_record::{Fault, LogBytes, Version};

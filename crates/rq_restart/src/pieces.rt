@@ -82,8 +82,8 @@ fn made_anew<R: Threads + Sync>(
     ensures refused { IfErr result (λ e. e ≡ Resources) }
 {
     let state = machine.state(alloc)?;
-    // No log has so many records: past here a number could run over.
-    if state.next().saturating_add(records.len() as u64) > 1 << 62 {
+    // No file numbers so many records: past here a number could run over.
+    if state.next().saturating_add(records.len() as u64) > 3 << 62 {
         return Err(Fault::Resources);
     }
     let (state, count) = front_redone(rt, alloc, version, &state, records, plan)?;

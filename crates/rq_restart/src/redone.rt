@@ -1,6 +1,7 @@
 //! The front of a log, and the state behind it.
 
-ghost use Rattle.std.specs.Prelude.{◌≡◌, ℕ, map, IfOk, IfErr};
+ghost use Rattle.std.specs.Prelude.{◌≡◌, ◌≤◌, ◌-◌, ℕ, map, IfOk, IfErr};
+ghost use Rattle.rq_model.specs.Fronts.{restarted};
 ghost use Rattle.rq_record.specs.Views.{record_of, version_of};
 ghost use Rattle.rq_record.specs.declared.fault.Fault.TheVariants.{Resources};
 ghost use Rattle.rq_judged.specs.Views.{why_of};
@@ -8,10 +9,12 @@ ghost use Rattle.rq_restart.specs.RedoneFronts.{IsFoundFrom};
 ghost use Rattle.rq_restart.specs.RedoneFronts.{IsStateBehind, RedoesFront, RedoesFrontAt};
 ghost use Rattle.rq_restart.specs.Restarts.{FindsState};
 
+use crate::restart_ends::{Restarted, closed_front};
 use crate::restarts::{FoundFront, front_from, whole_front};
+use rq_catalog::analyse_kept;
 use rq_exchange::replay_analysed;
-use rq_judged::{Edge, before};
-use rq_plan::{Open, Plan};
+use rq_judged::{Edge, Front, before};
+use rq_plan::{Gate, Open, Plan};
 use rq_record::{Fault, LogBytes, Version};
 use rq_state::State;
 use std::alloc::Global;
@@ -83,10 +86,11 @@ impl RedoneFront {
         state_behind(rt, alloc, from, bytes, plan)
     }
 
-    /// The state after the front of a log from the checkpoint at an offset on, before any abort, and
-    /// where and why the front ends: it begins in the state that the checkpoint spells.
+    /// The state after the front of a carried file that is read as a log, from the checkpoint at an
+    /// offset on, before any abort, and where and why the front ends: it begins in the state that the
+    /// checkpoint spells.
     ///
-    /// Refused as `restart_at` is.
+    /// Refused as `restart_carried` is.
     pub fn redone_at<R: Threads + Sync>(
         rt: &R,
         alloc: Global,
@@ -96,8 +100,41 @@ impl RedoneFront {
     ) -> Result<RedoneFront, Fault>
         ensures { RedoesFrontAt bytes.now offset result }
     {
-        let from = front_from(rt, alloc, bytes, offset, plan)?;
+        let most = State::CARRIED_RECORDS;
+        let from = front_from(rt, alloc, bytes, offset, most, plan)?;
         state_behind(rt, alloc, from, bytes, plan)
+    }
+}
+
+impl RedoneFront {
+    /// What a restart answers of a log of so many bytes with this front: its open units are aborted,
+    /// rising. Refused with `Resources` alone.
+    pub fn into_restarted<R: Threads + Sync, G: Gate + Sync>(
+        self,
+        rt: &R,
+        alloc: Global,
+        total: usize,
+        plan: &Plan,
+        gate: &G,
+    ) -> Result<Restarted, Fault>
+        requires within { self.end.used ≤ total }
+        ensures answer { IfOk result
+            (λ r. r ≡ restarted self.state (total - self.end.used) total (why_of self.end.why)) }
+        ensures refused { IfErr result (λ e. e ≡ Resources) }
+    {
+        // No file numbers so many records: past here a number could run over.
+        let open = self.state.units().len() as u64;
+        if self.state.next().saturating_add(open) == u64::MAX {
+            return Err(Fault::Resources);
+        }
+        let analysis = analyse_kept(alloc, Version::Two, &self.state, &[])?;
+        let front = Front {
+            records: Vec::new(alloc),
+            analysis,
+            end: self.end.used,
+            why: self.end.why,
+        };
+        closed_front(rt, alloc, self.state, front, total, plan, gate)
     }
 }
 

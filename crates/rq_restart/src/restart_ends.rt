@@ -1,6 +1,6 @@
 //! The end of a restart: open units are aborted, all is redone, and what it answers.
 
-ghost use Rattle.std.specs.Prelude.{◌≡◌, ◌≤◌, ◌<◌, ◌^◌, ◌+◌, ◌-◌, ◌++◌, true, ℕ, List, length, map};
+ghost use Rattle.std.specs.Prelude.{◌≡◌, ◌≤◌, ◌<◌, ◌^◌, ◌+◌, ◌-◌, ◌*◌, ◌++◌, true, ℕ, List, length, map};
 ghost use Rattle.std.specs.Prelude.{IfOk, IfErr, OnOk};
 ghost use Rattle.rq_judged.specs.Views.{why_of};
 ghost use Rattle.rq_model.specs.Fronts.{restarted};
@@ -202,27 +202,31 @@ fn redone<R: Threads + Sync, G: Gate + Sync>(
     Ok((after, course))
 }
 
-/// What a restart answers of a front of `total` bytes: its open units are aborted, rising, and records
-/// and aborts are redone together. The counts are those before these aborts.
-pub(crate) fn finish<R: Threads + Sync, G: Gate + Sync>(
+/// What a restart answers of a log of `total` bytes whose front, which stands behind this state, ends in
+/// these records: its open units are aborted, rising, and records and aborts are redone together. The
+/// counts are those before these aborts.
+pub(crate) fn closed_front<R: Threads + Sync, G: Gate + Sync>(
     rt: &R,
     alloc: Global,
-    from: FoundFront,
+    state: State,
+    front: Front,
     total: usize,
     plan: &Plan,
     gate: &G,
 ) -> Result<Restarted, Fault>
-    requires front { (b : List ℕ) × (offset : ℕ) × IsFoundFrom b offset from × (total ≡ length b) }
+    requires lawful { all_lawful model.Two state (map record_of front.records.items) ≡ true }
+    requires fits { state.next + length state.units + 2 * length front.records.items < 2 ^ 64 }
+    requires within { front.end ≤ total }
+    requires analysed { IsAnalysis model.Two state (map record_of front.records.items) front.analysis }
     ensures answer { IfOk result
-        (λ r. r ≡ restarted (run from.state (map record_of from.front.records.items))
-        (total - from.front.end) total (why_of from.front.why)) }
+        (λ r. r ≡ restarted (run state (map record_of front.records.items))
+        (total - front.end) total (why_of front.why)) }
     ensures refused { IfErr result (λ e. e ≡ Resources) }
 {
     rq_model::runs_are_well_formed();
     rq_model::numbers_after();
     rq_model::crash_is_harmless();
-    rq_model::versions();
-    let FoundFront { state, front, .. } = from;
+    state.is_well_formed();
     let Front {
         mut records,
         analysis,
@@ -248,4 +252,23 @@ pub(crate) fn finish<R: Threads + Sync, G: Gate + Sync>(
         cut_off,
         course,
     })
+}
+
+/// What a restart answers of a front of `total` bytes that was found.
+pub(crate) fn finish<R: Threads + Sync, G: Gate + Sync>(
+    rt: &R,
+    alloc: Global,
+    from: FoundFront,
+    total: usize,
+    plan: &Plan,
+    gate: &G,
+) -> Result<Restarted, Fault>
+    requires front { (b : List ℕ) × (offset : ℕ) × IsFoundFrom b offset from × (total ≡ length b) }
+    ensures answer { IfOk result
+        (λ r. r ≡ restarted (run from.state (map record_of from.front.records.items))
+        (total - from.front.end) total (why_of from.front.why)) }
+    ensures refused { IfErr result (λ e. e ≡ Resources) }
+{
+    rq_model::versions();
+    closed_front(rt, alloc, from.state, from.front, total, plan, gate)
 }

@@ -1,7 +1,9 @@
 //! The restart of a log, from its start or from a checkpoint on.
 
+ghost use Rattle.std.specs.Prelude.{◌≤◌};
+ghost use Rattle.rq_model.specs.StateSpelling.{carried_next};
 ghost use Rattle.rq_restart.specs.RedoneFronts.{FindsFront, FindsFrontAt};
-ghost use Rattle.rq_restart.specs.Restarts.{Restarts, RestartsAt};
+ghost use Rattle.rq_restart.specs.Restarts.{Restarts, RestartsAt, RestartsCarried, RestartsUpTo};
 
 use crate::restart_ends::{Restarted, finish};
 use rq_front::{log_version, walk};
@@ -100,17 +102,19 @@ pub fn restart<R: Threads + Sync, G: Gate + Sync>(
 }
 
 /// The front of a log whose bytes may be shared, from the checkpoint at an offset on: it begins in
-/// the state that this spells.
+/// the state that this spells, whose next record number is at most `most`.
 pub(crate) fn front_from<R: Threads + Sync>(
     rt: &R,
     alloc: Global,
     bytes: &LogBytes<'_>,
     offset: u64,
+    most: u64,
     plan: &Plan,
 ) -> Result<FoundFront, Fault>
-    ensures { FindsFrontAt bytes.now offset result }
+    requires { most ≤ carried_next }
+    ensures { FindsFrontAt most bytes.now offset result }
 {
-    let begun = Begun::begun_at(rt, alloc, bytes.as_slice(), offset, plan)?;
+    let begun = Begun::begun_at(rt, alloc, bytes.as_slice(), offset, most, plan)?;
     let front = Front::of(
         rt,
         alloc,
@@ -127,6 +131,27 @@ pub(crate) fn front_from<R: Threads + Sync>(
     })
 }
 
+// The restart from a checkpoint of bytes that nobody else needs, in a state whose next record number
+// is at most this. They are let go or kept as `restart_own` does it.
+fn restart_own_up_to<R: Threads + Sync, G: Gate + Sync>(
+    rt: &R,
+    alloc: Global,
+    bytes: Vec<u8>,
+    offset: u64,
+    most: u64,
+    plan: &Plan,
+    gate: &G,
+) -> Result<Restarted, Fault>
+    requires { most ≤ carried_next }
+    ensures { RestartsUpTo most bytes.items offset result }
+{
+    let total = bytes.len();
+    let owned = ArcSlice::from_vec(bytes)?;
+    let from = front_from(rt, alloc, &LogBytes::shared(&owned), offset, most, plan)?;
+    drop(owned);
+    finish(rt, alloc, from, total, plan, gate)
+}
+
 /// The restart from a checkpoint of a log that nobody else needs: `restart_at` of its bytes, which
 /// are let go or kept as `restart_own` does it.
 pub fn restart_own_at<R: Threads + Sync, G: Gate + Sync>(
@@ -139,27 +164,40 @@ pub fn restart_own_at<R: Threads + Sync, G: Gate + Sync>(
 ) -> Result<Restarted, Fault>
     ensures { RestartsAt bytes.items offset result }
 {
-    let total = bytes.len();
-    let owned = ArcSlice::from_vec(bytes)?;
-    let from = front_from(rt, alloc, &LogBytes::shared(&owned), offset, plan)?;
-    drop(owned);
-    finish(rt, alloc, from, total, plan, gate)
+    restart_own_up_to(rt, alloc, bytes, offset, State::RECORDS, plan, gate)
 }
 
-/// The restart from a checkpoint of a log whose bytes may be shared: `restart_at` of them. If they
-/// are, another checkpoint behind that one, and a payload of more than 22 bytes, are parts of them
-/// and no copies.
+/// The same of a carried file that is read as a log, from a checkpoint of it: `restart_carried` of its
+/// bytes.
+pub fn restart_own_carried<R: Threads + Sync, G: Gate + Sync>(
+    rt: &R,
+    alloc: Global,
+    bytes: Vec<u8>,
+    offset: u64,
+    plan: &Plan,
+    gate: &G,
+) -> Result<Restarted, Fault>
+    ensures { RestartsCarried bytes.items offset result }
+{
+    restart_own_up_to(rt, alloc, bytes, offset, State::CARRIED_RECORDS, plan, gate)
+}
+
+/// The restart from a checkpoint of a log whose bytes may be shared, in a state whose next record
+/// number is at most `most`. If they are, another checkpoint behind that one, and a payload of more
+/// than 22 bytes, are parts of them and no copies.
 pub(crate) fn restart_of_at<R: Threads + Sync, G: Gate + Sync>(
     rt: &R,
     alloc: Global,
     bytes: &LogBytes<'_>,
     offset: u64,
+    most: u64,
     plan: &Plan,
     gate: &G,
 ) -> Result<Restarted, Fault>
-    ensures { RestartsAt bytes.now offset result }
+    requires { most ≤ carried_next }
+    ensures { RestartsUpTo most bytes.now offset result }
 {
-    let from = front_from(rt, alloc, bytes, offset, plan)?;
+    let from = front_from(rt, alloc, bytes, offset, most, plan)?;
     finish(rt, alloc, from, bytes.len(), plan, gate)
 }
 
@@ -180,5 +218,22 @@ pub fn restart_at<R: Threads + Sync, G: Gate + Sync>(
 ) -> Result<Restarted, Fault>
     ensures { RestartsAt bytes.now offset result }
 {
-    restart_of_at(rt, alloc, &LogBytes::borrowed(bytes), offset, plan, gate)
+    let log = LogBytes::borrowed(bytes);
+    restart_of_at(rt, alloc, &log, offset, State::RECORDS, plan, gate)
+}
+
+/// The same of a carried file that is read as a log, from a checkpoint of it. The next record number of
+/// the state there may be up to 9,223,372,036,854,775,807, where `restart_at` takes 4,294,967,295.
+pub fn restart_carried<R: Threads + Sync, G: Gate + Sync>(
+    rt: &R,
+    alloc: Global,
+    bytes: &[u8],
+    offset: u64,
+    plan: &Plan,
+    gate: &G,
+) -> Result<Restarted, Fault>
+    ensures { RestartsCarried bytes.now offset result }
+{
+    let log = LogBytes::borrowed(bytes);
+    restart_of_at(rt, alloc, &log, offset, State::CARRIED_RECORDS, plan, gate)
 }

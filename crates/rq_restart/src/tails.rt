@@ -14,6 +14,7 @@ use rq_front::{LOG_LIMIT, append_frame};
 use rq_judged::{Edge, before};
 use rq_plan::Plan;
 use rq_record::{Fault, LogBytes, Record, UnitNo, Version, encode};
+use rq_state::State;
 use std::alloc::Global;
 use std::marker::Sync;
 use std::thread::Threads;
@@ -129,10 +130,11 @@ impl Ending {
         ending_behind(alloc, &from, bytes)
     }
 
-    /// The same of the front from the checkpoint at an offset on, which is taken at its word.
+    /// The same of the front of a carried file that is read as a log, from the checkpoint at an offset
+    /// on, which is taken at its word.
     ///
     /// Refuses with `TooLarge` if the front followed by the tail would have more than 4,294,967,295
-    /// bytes, and else as `restart_at` does.
+    /// bytes, and else as `restart_carried` does.
     pub fn ending_at<R: Threads + Sync>(
         rt: &R,
         alloc: Global,
@@ -142,7 +144,8 @@ impl Ending {
     ) -> Result<Ending, Fault>
         ensures { EndsLogAt bytes.now offset result }
     {
-        let from = front_from(rt, alloc, &LogBytes::borrowed(bytes), offset, plan)?;
+        let most = State::CARRIED_RECORDS;
+        let from = front_from(rt, alloc, &LogBytes::borrowed(bytes), offset, most, plan)?;
         ending_behind(alloc, &from, bytes)
     }
 }

@@ -3,7 +3,9 @@
 use crate::logs::{ONE_ELEMENT, log_of};
 use rq_journal::{Growth, NotTaken, Opened, Rule, carried, is_carried, read_as_log};
 use rq_record::{LogBytes, QueueNo, Record, UnitNo, Version};
-use rq_restart::{Fault, Open, Plan, RedoneFront, Restarted, audit, restart, restart_at};
+use rq_restart::{
+    Fault, Open, Plan, RedoneFront, Restarted, audit, restart, restart_at, restart_carried,
+};
 use std::alloc::Global;
 use std::test::Fail;
 use std::thread::Threads;
@@ -81,7 +83,7 @@ fn is_carried_on<R: Threads + Sync + AllocGlobal>(
     let is_other = is_carried(&new) && !is_carried(log);
     let is_none = is_no_log(restart(rt, rt.alloc(), &new, plan, &Open));
     let is_read = read_as_log(&mut new).is_some();
-    let has_all = has_five(restart_at(rt, rt.alloc(), &new, 72, plan, &Open));
+    let has_all = has_five(restart_carried(rt, rt.alloc(), &new, 72, plan, &Open));
     Ok(is_other && is_none && is_read && has_all)
 }
 

@@ -3,8 +3,8 @@
 ghost use Rattle.std.specs.Prelude.{◌≡◌};
 ghost use Rattle.rq_live.specs.Managers.{IsInOrder, stand_of};
 
-use rq_device::{Device, Memory, WINDOW};
-use rq_live::{Manager, NotDone};
+use rq_device::{Device, Memory, Successor, WINDOW};
+use rq_live::{Manager, NotCarried, NotDone};
 use rq_record::{By, ElemId, LogBytes, Name, Payload, QueueNo, UnitNo};
 use rq_reopen::{FoundLog, Opening};
 use rq_restart::{Plan, closed};
@@ -87,4 +87,52 @@ pub fn goes_on_from<R: Threads + Sync + AllocGlobal>(
     let resumed = m.resume(rt.alloc(), left.len());
     let bytes = m.device().bytes();
     Ok(resumed.is_ok() && bytes == want.as_slice() && m.device().synced() == bytes.len())
+}
+
+/// Goes on in another file with a unit open, which is committed there, and then in a third one. How
+/// many records were done before each.
+pub fn goes_on_twice<D: Device + Drop, S: Successor<D>>(
+    alloc: Global,
+    m: &mut Manager<D>,
+    next: &mut S,
+) -> Result<(u64, u64), NotCarried>
+    requires { IsInOrder (stand_of D.written D.synced D.doubted D.failed m.old) }
+    ensures { IsInOrder (stand_of D.written D.synced D.doubted D.failed m.new) }
+{
+    let Ok(unit) = m.begin(alloc) else {
+        return Err(NotCarried::Spent);
+    };
+    let first = m.carry(alloc, next)?;
+    let Ok(()) = m.commit(alloc, unit) else {
+        return Err(NotCarried::Spent);
+    };
+    let second = m.carry(alloc, next)?;
+    Ok((first, second))
+}
+
+/// How a manager stands that goes on from what a crash left of a file of either kind, of which nothing
+/// was synced: how many units began, how many records were done, and its bytes. None if it does not go
+/// on.
+pub fn goes_on_in<R: Threads + Sync + AllocGlobal>(
+    rt: &R,
+    mut left: Vec<u8>,
+    plan: &Plan,
+) -> Result<Option<(u64, u64, Vec<u8>)>, Fail> {
+    let stands = left.len();
+    if stands > WINDOW {
+        return Ok(None);
+    }
+    let Ok(opened) = Opening::of_file(rt, rt.alloc(), &mut left, plan, false) else {
+        return Ok(None);
+    };
+    let found = found_in(opened);
+    let mut m = Manager::over(Memory::left_by_crash(left, 0), found.kernel);
+    let Ok(()) = m.resume(rt.alloc(), stands) else {
+        return Ok(None);
+    };
+    let (Ok(unit), Ok(records)) = (m.greatest(), m.record_count()) else {
+        return Ok(None);
+    };
+    let bytes = Vec::from_slice(rt.alloc(), m.device().bytes())?;
+    Ok(Some((unit.0, records, bytes)))
 }

@@ -1,3 +1,5 @@
 pub mod Numbers
 pub mod Lines
 pub mod Adding
+pub mod Cutting
+pub mod Pairs

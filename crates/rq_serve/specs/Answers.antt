@@ -22,6 +22,8 @@ refused_word refusals.Version = codes "version"
 refused_word refusals.Doomed = codes "doomed"
 refused_word refusals.Full = codes "full"
 refused_word refusals.Large = codes "large"
+refused_word refusals.Ended = codes "ended"
+refused_word refusals.Carry = codes "carry"
 
 -- and what it means, for people
 abbrev pub refused_text : Refused → List ℕ
@@ -36,6 +38,8 @@ refused_text refusals.Version = codes "the log has version 1"
 refused_text refusals.Doomed = codes "a line was refused in the unit: abort it"
 refused_text refusals.Full = codes "the log has no room for it and the ends of all open units"
 refused_text refusals.Large = codes "the state has more bytes than a checkpoint may"
+refused_text refusals.Ended = codes "more records were done than a checkpoint may count"
+refused_text refusals.Carry = codes "the new log could not be made"
 
 -- an element that was taken, and the name of the queue that it was put into
 abbrev pub taken_text : List ℕ → Element → List ℕ
@@ -59,6 +63,7 @@ answer_text (answers.Unit unit) = codes "unit " ++ decimal unit.0
 answer_text (answers.Element id) = codes "element " ++ decimal id.0
 answer_text (answers.Taken from e) = taken_text from e
 answer_text (answers.Checkpoint offset) = codes "checkpoint " ++ decimal offset
+answer_text (answers.Carried records) = codes "carried " ++ decimal records
 answer_text (answers.Closed bytes) = codes "closed " ++ decimal bytes
 answer_text (answers.Lines count lines) = codes "lines " ++ decimal count
 answer_text (answers.Refused refused) = codes "refused "

@@ -2,4 +2,5 @@ pub mod Requests
 pub mod Refusals
 pub mod Answers
 pub mod Units
+pub mod Carrying
 pub mod Serving

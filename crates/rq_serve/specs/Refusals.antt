@@ -4,6 +4,8 @@ use Rattle.rq_lawful.specs.declared.rules.Rule.{Rule}
 use Rattle.rq_lawful.specs.declared.rules.Rule.TheVariants as rules
 use Rattle.rq_live.specs.declared.kernel.NotDone.{NotDone}
 use Rattle.rq_live.specs.declared.kernel.NotDone.TheVariants as causes
+use Rattle.rq_live.specs.declared.carries.NotCarried.{NotCarried}
+use Rattle.rq_live.specs.declared.carries.NotCarried.TheVariants as uncarried
 use Rattle.rq_serve.specs.declared.refusals.Refused.{Refused}
 use Rattle.rq_serve.specs.declared.refusals.Refused.TheVariants as refusals
 
@@ -28,3 +30,16 @@ refused_for causes.Full = Some refusals.Full
 refused_for causes.Large = Some refusals.Large
 refused_for causes.Ended = Some refusals.Unit
 refused_for causes.Spent = None
+
+-- the refusal of a checkpoint: the records are at their end, and not the units
+abbrev pub refused_checkpoint : NotDone → Option Refused
+refused_checkpoint causes.Ended = Some refusals.Ended
+refused_checkpoint why = refused_for why
+
+-- the refusal of a log that was not carried on; none if the manager is spent
+abbrev pub refused_carry : NotCarried → Option Refused
+refused_carry uncarried.Large = Some refusals.Large
+refused_carry uncarried.Ended = Some refusals.Ended
+refused_carry uncarried.Unmade = Some refusals.Carry
+refused_carry uncarried.Resources = Some refusals.Carry
+refused_carry uncarried.Spent = None

@@ -7,24 +7,9 @@ use Rattle.hex.specs.Hex.{decode_of}
 use Rattle.rq_bytes.specs.Readers.{◌>>=◌}
 use Rattle.rq_record.specs.declared.record.UnitNo.{UnitNo}
 use Rattle.rq_record.specs.declared.record.ElemId.{ElemId}
-use Rattle.rq_writer.specs.Reading.{cut_at, field_at, number_of, number_field, by_of, name_of}
+use Rattle.rq_writer.specs.Reading.{cut_at, field_at, number_of, number_field, by_of, bytes_of_hex, name_of}
 use Rattle.rq_serve.specs.declared.requests.Request.{Request}
 use Rattle.rq_serve.specs.declared.requests.Request.TheVariants as requests
-
--- a digit of hexadecimal in lower case
-abbrev pub is_hex_digit : ℕ → Bool
-is_hex_digit b = (nat_le 48 b && nat_le b 57) || (nat_le 97 b && nat_le b 102)
-
--- the bytes that were decoded, at most 65,535
-abbrev pub at_most_a_payload : {E : Type 0} → Result (List ℕ) E → Option (List ℕ)
-at_most_a_payload (Ok bytes) = if nat_le (length bytes) 65535 then Some bytes else None
-at_most_a_payload (Err e) = None
-
--- the payload of digits, two a byte, or `-` for the empty one
-abbrev pub payload_of : List ℕ → Option (List ℕ)
-payload_of text = if bytes_eq text (codes "-") then Some []
-    else if length text == 0 || not (list_all is_hex_digit text) then None
-    else at_most_a_payload (decode_of text)
 
 -- a name, and what comes after its space
 abbrev pub name_field : List ℕ → Option (List ℕ × List ℕ)
@@ -65,7 +50,7 @@ enqueue_words text = do
   who ← field_at priority.1
   tag ← number_field 18446744073709551615 who.1
   by ← by_of who.0 tag.0
-  payload ← payload_of tag.1
+  payload ← bytes_of_hex 65535 tag.1
   Some (requests.Enqueue (record { 0 = unit.0 }) queue.0 priority.0 by payload)
 
 -- `dequeue UNIT QUEUE WHO TAG`
@@ -107,6 +92,7 @@ word_request text =
     if bytes_eq text (codes "begin") then Some (requests.Begin None)
     else if bytes_eq text (codes "settle") then Some requests.Settle
     else if bytes_eq text (codes "checkpoint") then Some requests.Checkpoint
+    else if bytes_eq text (codes "carry") then Some requests.Carry
     else if bytes_eq text (codes "queues") then Some requests.Queues
     else if bytes_eq text (codes "close") then Some requests.Close
     else None

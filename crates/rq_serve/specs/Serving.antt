@@ -2,9 +2,9 @@
 use Rattle.std.specs.Prelude.{◌≡◌, ◌⊎◌, ◌||◌, ◌&&◌, ℕ, Bool, true, false, not, List, ◌++◌, Option, Some, None}
 use Rattle.std.specs.Prelude.{[], ◌∷◌, length, string_bytes, Result, IsErr, ⊤}
 use Rattle.rq_live.specs.Managers.{Stand, IsManaged}
-use Rattle.rq_model.specs.Records.{Record, Version}
-use Rattle.rq_model.specs.States.{empty}
-use Rattle.rq_model.specs.Machine.{is_open, run}
+use Rattle.rq_live.specs.Starts.{Start, state_reached}
+use Rattle.rq_model.specs.Records.{Record}
+use Rattle.rq_model.specs.Machine.{is_open}
 use Rattle.rq_serve.specs.Answers.{answer_lines}
 use Rattle.rq_serve.specs.Units.{is_doomed, KeepsDoomed, KeepsOthers}
 use Rattle.rq_serve.specs.declared.answers.Answer.{Answer}
@@ -25,6 +25,7 @@ asks_safety (requests.Commit unit is_later) = not is_later
 asks_safety requests.Settle = true
 asks_safety (requests.Kill queue element) = true
 asks_safety requests.Checkpoint = true
+asks_safety requests.Carry = true
 asks_safety requests.Close = true
 asks_safety _ = false
 
@@ -52,8 +53,8 @@ KeepsBut _ a b = KeepsDoomed a b
 
 -- an operation of the unit that is refused dooms it, if it is open there
 abbrev pub DoomsUnit : Stand → ℕ → Undone → Doomed → Type 0
-DoomsUnit m unit (undone.Refused refused) doomed = (version : Version) (rs : List Record)
-    → IsManaged version rs m → is_open (run empty rs) unit ≡ true → is_doomed doomed unit ≡ true
+DoomsUnit m unit (undone.Refused refused) doomed = (from : Start) (rs : List Record)
+    → IsManaged from rs m → is_open (state_reached from rs) unit ≡ true → is_doomed doomed unit ≡ true
 DoomsUnit m unit undone.Spent doomed = ⊤
 
 -- the same of the unit of the request, if that is such an operation

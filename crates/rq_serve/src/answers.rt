@@ -38,6 +38,8 @@ pub enum Answer {
     Taken(Name, KeptElement),
     /// A checkpoint stands at the offset.
     Checkpoint(usize),
+    /// The log goes on in a new one, behind so many records.
+    Carried(u64),
     /// The log has so many bytes, and the service ends.
     Closed(usize),
     /// So many lines.
@@ -145,6 +147,7 @@ impl Answer {
             Answer::Element(id) => write!(text, "element {}", id.0),
             Answer::Taken(from, e) => put_taken(text, from, e),
             Answer::Checkpoint(offset) => write!(text, "checkpoint {offset}"),
+            Answer::Carried(records) => write!(text, "carried {records}"),
             Answer::Closed(bytes) => write!(text, "closed {bytes}"),
             Answer::Lines(count, _) => write!(text, "lines {count}"),
             Answer::Refused(refused) => put_refused(text, *refused),

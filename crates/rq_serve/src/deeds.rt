@@ -1,6 +1,7 @@
 //! What is done for each request.
 
-ghost use Rattle.std.specs.Prelude.{◌≡◌, true, IsErr, IfErr};
+ghost use Rattle.std.specs.Prelude.{◌≡◌, true, IsErr, IfErr, IfOk};
+ghost use Rattle.rq_live.specs.Carries.{GoesOver};
 ghost use Rattle.rq_live.specs.Managers.{IsInOrder, stand_of};
 ghost use Rattle.rq_serve.specs.Serving.{DoomsIfRefused, DoomsUnit, KeepsBut, NeverCommits};
 ghost use Rattle.rq_serve.specs.Units.{is_doomed, KeepsDoomed, KeepsOthers};
@@ -8,24 +9,31 @@ ghost use Rattle.rq_serve.specs.Units.{is_doomed, KeepsDoomed, KeepsOthers};
 use crate::answers::Answer;
 use crate::doomed::Doomed;
 use crate::listings::{listed, queue_at, queues_told};
+use crate::operators::Operator;
+use crate::queue_names::QueueNames;
 use crate::refusals::{Refused, Undone};
 use crate::requests::Request;
-use rq_device::Device;
+use rq_device::{Device, Successor};
 use rq_live::Manager;
 use rq_record::{By, ElemId, KeptName, Name, Payload, QueueNo, Record, UnitNo};
 use std::alloc::Global;
 
 // The number of the queue of this name, if there is one.
-fn number_of<D: Device + Drop>(m: &Manager<D>, queue: &Name) -> Result<Option<QueueNo>, Undone> {
-    match m.definitions()?.iter().position(|d| d.name == *queue) {
-        Some(place) => Ok(Some(queue_at(place)?)),
-        None => Ok(None),
-    }
+fn number_of<D: Device + Drop>(
+    m: &Manager<D>,
+    names: &mut QueueNames,
+    queue: &Name,
+) -> Result<Option<QueueNo>, Undone> {
+    names.look_up(m.definitions()?, queue)
 }
 
 // The number of the queue of this name. Refused with `NoQueue`.
-fn expect_queue<D: Device + Drop>(m: &Manager<D>, queue: &Name) -> Result<QueueNo, Undone> {
-    match number_of(m, queue)? {
+fn expect_queue<D: Device + Drop>(
+    m: &Manager<D>,
+    names: &mut QueueNames,
+    queue: &Name,
+) -> Result<QueueNo, Undone> {
+    match number_of(m, names, queue)? {
         Some(number) => Ok(number),
         None => Err(Undone::Refused(Refused::NoQueue)),
     }
@@ -74,6 +82,7 @@ fn define_new<D: Device + Drop>(
 fn define<D: Device + Drop>(
     alloc: Global,
     m: &mut Manager<D>,
+    names: &mut QueueNames,
     queue: Name,
     limit: u16,
     error: Option<Name>,
@@ -82,10 +91,10 @@ fn define<D: Device + Drop>(
     ensures { IsInOrder (stand_of D.written D.synced D.doubted D.failed m.new) }
 {
     let error = match error {
-        Some(name) => number_of(m, &name)?,
+        Some(name) => number_of(m, names, &name)?,
         None => Some(QueueNo::NONE),
     };
-    match number_of(m, &queue)? {
+    match number_of(m, names, &queue)? {
         Some(number) => defined_so(m, number, limit, error),
         None => define_new(alloc, m, queue, limit, error),
     }
@@ -109,13 +118,14 @@ fn last_of<D: Device + Drop>(
 fn register<D: Device + Drop>(
     alloc: Global,
     m: &mut Manager<D>,
+    names: &mut QueueNames,
     queue: Name,
     who: Name,
 ) -> Result<Answer, Undone>
     requires { IsInOrder (stand_of D.written D.synced D.doubted D.failed m.old) }
     ensures { IsInOrder (stand_of D.written D.synced D.doubted D.failed m.new) }
 {
-    let queue = expect_queue(m, &queue)?;
+    let queue = expect_queue(m, names, &queue)?;
     if let Some(answer) = last_of(alloc, m, queue, &who)? {
         return Ok(answer);
     }
@@ -126,13 +136,14 @@ fn register<D: Device + Drop>(
 fn deregister<D: Device + Drop>(
     alloc: Global,
     m: &mut Manager<D>,
+    names: &mut QueueNames,
     queue: Name,
     who: Name,
 ) -> Result<Answer, Undone>
     requires { IsInOrder (stand_of D.written D.synced D.doubted D.failed m.old) }
     ensures { IsInOrder (stand_of D.written D.synced D.doubted D.failed m.new) }
 {
-    let queue = expect_queue(m, &queue)?;
+    let queue = expect_queue(m, names, &queue)?;
     m.deregister(alloc, queue, who)?;
     Ok(Answer::Done)
 }
@@ -140,10 +151,11 @@ fn deregister<D: Device + Drop>(
 fn tell_last<D: Device + Drop>(
     alloc: Global,
     m: &Manager<D>,
+    names: &mut QueueNames,
     queue: &Name,
     who: &Name,
 ) -> Result<Answer, Undone> {
-    let queue = expect_queue(m, queue)?;
+    let queue = expect_queue(m, names, queue)?;
     match last_of(alloc, m, queue, who)? {
         Some(answer) => Ok(answer),
         None => Err(Undone::Refused(Refused::NoRegistrant)),
@@ -170,6 +182,7 @@ fn begin<D: Device + Drop>(
 fn enqueue<D: Device + Drop>(
     alloc: Global,
     m: &mut Manager<D>,
+    names: &mut QueueNames,
     unit: UnitNo,
     queue: &Name,
     priority: u8,
@@ -179,7 +192,7 @@ fn enqueue<D: Device + Drop>(
     requires { IsInOrder (stand_of D.written D.synced D.doubted D.failed m.old) }
     ensures { IsInOrder (stand_of D.written D.synced D.doubted D.failed m.new) }
 {
-    let queue = expect_queue(m, queue)?;
+    let queue = expect_queue(m, names, queue)?;
     let id = m.enqueue(alloc, unit, queue, priority, by, payload)?;
     Ok(Answer::Element(id))
 }
@@ -187,6 +200,7 @@ fn enqueue<D: Device + Drop>(
 fn dequeue<D: Device + Drop>(
     alloc: Global,
     m: &mut Manager<D>,
+    names: &mut QueueNames,
     unit: UnitNo,
     queue: &Name,
     by: Option<By>,
@@ -194,7 +208,7 @@ fn dequeue<D: Device + Drop>(
     requires { IsInOrder (stand_of D.written D.synced D.doubted D.failed m.old) }
     ensures { IsInOrder (stand_of D.written D.synced D.doubted D.failed m.new) }
 {
-    let queue = expect_queue(m, queue)?;
+    let queue = expect_queue(m, names, queue)?;
     match m.dequeue_free(alloc, unit, queue, by)? {
         Some(e) => Ok(Answer::Taken(name_of(m, e.origin)?, e)),
         None => Ok(Answer::Nothing),
@@ -268,13 +282,14 @@ fn abort<D: Device + Drop>(
 fn kill<D: Device + Drop>(
     alloc: Global,
     m: &mut Manager<D>,
+    names: &mut QueueNames,
     queue: &Name,
     element: ElemId,
 ) -> Result<Answer, Undone>
     requires { IsInOrder (stand_of D.written D.synced D.doubted D.failed m.old) }
     ensures { IsInOrder (stand_of D.written D.synced D.doubted D.failed m.new) }
 {
-    let queue = expect_queue(m, queue)?;
+    let queue = expect_queue(m, names, queue)?;
     Ok(if m.kill_free(alloc, queue, element)? {
         Answer::Done
     } else {
@@ -291,12 +306,54 @@ fn close<D: Device + Drop>(alloc: Global, m: &mut Manager<D>) -> Result<Answer, 
     Ok(Answer::Closed(m.len()))
 }
 
-// Does a request that is of no unit.
-fn done_outside<D: Device + Drop>(
+// Takes a checkpoint.
+fn checkpoint<D: Device + Drop>(alloc: Global, m: &mut Manager<D>) -> Result<Answer, Undone>
+    requires { IsInOrder (stand_of D.written D.synced D.doubted D.failed m.old) }
+    ensures { IsInOrder (stand_of D.written D.synced D.doubted D.failed m.new) }
+{
+    match m.checkpoint(alloc) {
+        Ok(offset) => Ok(Answer::Checkpoint(offset)),
+        Err(why) => Err(Undone::from(Refused::of_checkpoint(why))),
+    }
+}
+
+/// Goes on in a new log, behind so many records. If none could be made, the operator hears why.
+pub(crate) fn carry_state<D, S>(
     alloc: Global,
     m: &mut Manager<D>,
+    next: &mut S,
+) -> Result<u64, Undone>
+where
+    D: Device + Drop,
+    S: Successor<D> + Operator,
+    requires { IsInOrder (stand_of D.written D.synced D.doubted D.failed m.old) }
+    ensures order { IsInOrder (stand_of D.written D.synced D.doubted D.failed m.new) }
+    ensures carried { IfOk result (GoesOver (stand_of D.written D.synced D.doubted D.failed m.old)
+        (stand_of D.written D.synced D.doubted D.failed m.new)) }
+{
+    match m.carry(alloc, next) {
+        Ok(records) => Ok(records),
+        Err(why) => match Refused::of_carry(why) {
+            Some(refused) => {
+                next.hear_refused(refused);
+                Err(Undone::Refused(refused))
+            }
+            None => Err(Undone::Spent),
+        },
+    }
+}
+
+// Does a request that is of no unit.
+fn done_outside<D, S>(
+    alloc: Global,
+    m: &mut Manager<D>,
+    next: &mut S,
+    names: &mut QueueNames,
     request: &Request,
 ) -> Result<Answer, Undone>
+where
+    D: Device + Drop,
+    S: Successor<D> + Operator,
     requires { IsInOrder (stand_of D.written D.synced D.doubted D.failed m.old) }
     ensures { IsInOrder (stand_of D.written D.synced D.doubted D.failed m.new) }
 {
@@ -305,16 +362,17 @@ fn done_outside<D: Device + Drop>(
             queue,
             limit,
             error,
-        } => define(alloc, m, *queue, *limit, *error),
-        Request::Register { queue, who } => register(alloc, m, *queue, *who),
-        Request::Deregister { queue, who } => deregister(alloc, m, *queue, *who),
+        } => define(alloc, m, names, *queue, *limit, *error),
+        Request::Register { queue, who } => register(alloc, m, names, *queue, *who),
+        Request::Deregister { queue, who } => deregister(alloc, m, names, *queue, *who),
         Request::Begin { unit } => begin(alloc, m, *unit),
-        Request::Kill { queue, element } => kill(alloc, m, queue, *element),
-        Request::Checkpoint => Ok(Answer::Checkpoint(m.checkpoint(alloc)?)),
-        Request::Last { queue, who } => tell_last(alloc, m, queue, who),
+        Request::Kill { queue, element } => kill(alloc, m, names, queue, *element),
+        Request::Checkpoint => checkpoint(alloc, m),
+        Request::Carry => Ok(Answer::Carried(carry_state(alloc, m, next)?)),
+        Request::Last { queue, who } => tell_last(alloc, m, names, queue, who),
         Request::Queues => queues_told(alloc, m),
         Request::Queue { queue, count } => {
-            let queue = expect_queue(m, queue)?;
+            let queue = expect_queue(m, names, queue)?;
             listed(alloc, m, queue, *count as usize)
         }
         Request::Close => close(alloc, m),
@@ -323,12 +381,17 @@ fn done_outside<D: Device + Drop>(
 }
 
 /// Does a request.
-pub(crate) fn done<D: Device + Drop>(
+pub(crate) fn done<D, S>(
     alloc: Global,
     m: &mut Manager<D>,
+    next: &mut S,
+    names: &mut QueueNames,
     doomed: &mut Doomed,
     request: Request,
 ) -> Result<Answer, Undone>
+where
+    D: Device + Drop,
+    S: Successor<D> + Operator,
     requires { IsInOrder (stand_of D.written D.synced D.doubted D.failed m.old) }
     ensures order { IsInOrder (stand_of D.written D.synced D.doubted D.failed m.new) }
     ensures keeps { KeepsBut request doomed.old doomed.new }
@@ -343,16 +406,16 @@ pub(crate) fn done<D: Device + Drop>(
             priority,
             by,
             payload,
-        } => match enqueue(alloc, m, unit, &queue, priority, by, payload) {
+        } => match enqueue(alloc, m, names, unit, &queue, priority, by, payload) {
             Ok(answer) => Ok(answer),
             Err(why) => Err(doomed_by(m, doomed, unit, why)),
         },
-        Request::Dequeue { unit, queue, by } => match dequeue(alloc, m, unit, &queue, by) {
+        Request::Dequeue { unit, queue, by } => match dequeue(alloc, m, names, unit, &queue, by) {
             Ok(answer) => Ok(answer),
             Err(why) => Err(doomed_by(m, doomed, unit, why)),
         },
         Request::Commit { unit, is_later } => commit(alloc, m, doomed, unit, is_later),
         Request::Abort { unit } => abort(alloc, m, doomed, unit),
-        other => done_outside(alloc, m, &other),
+        other => done_outside(alloc, m, next, names, &other),
     }
 }

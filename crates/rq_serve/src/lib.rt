@@ -6,6 +6,9 @@ mod answers;
 mod deeds;
 mod doomed;
 mod listings;
+mod operators;
+mod payloads;
+mod queue_names;
 mod refusals;
 mod requests;
 mod service;
@@ -13,6 +16,7 @@ mod session;
 mod words;
 
 pub use answers::Answer;
+pub use operators::{CarryPoint, Operator};
 pub use refusals::Refused;
 pub use requests::{LONGEST, Request};
 pub use service::{Unserved, serve};

@@ -2,10 +2,10 @@
 
 ghost use Rattle.std.specs.Prelude.{◌≡◌};
 ghost use Rattle.rq_serve.specs.Answers.{refused_text, refused_word};
-ghost use Rattle.rq_serve.specs.Refusals.{refused_by, refused_for};
+ghost use Rattle.rq_serve.specs.Refusals.{refused_by, refused_carry, refused_checkpoint, refused_for};
 
 use rq_lawful::Rule;
-use rq_live::NotDone;
+use rq_live::{NotCarried, NotDone};
 use rq_record::Fault;
 use std::alloc::AllocError;
 
@@ -34,6 +34,10 @@ pub enum Refused {
     Full,
     /// The state has more bytes than a checkpoint may.
     Large,
+    /// More records were done than a checkpoint may count.
+    Ended,
+    /// The new log could not be made.
+    Carry,
 }
 
 impl Refused {
@@ -68,6 +72,28 @@ impl Refused {
         }
     }
 
+    /// The refusal of a checkpoint that a manager did not take; none if it is spent.
+    pub fn of_checkpoint(why: NotDone) -> Option<Refused>
+        ensures { result ≡ refused_checkpoint why }
+    {
+        match why {
+            NotDone::Ended => Some(Refused::Ended),
+            other => Refused::of(other),
+        }
+    }
+
+    /// The refusal of a log that was not carried on; none if the manager is spent.
+    pub fn of_carry(why: NotCarried) -> Option<Refused>
+        ensures { result ≡ refused_carry why }
+    {
+        match why {
+            NotCarried::Large => Some(Refused::Large),
+            NotCarried::Ended => Some(Refused::Ended),
+            NotCarried::Unmade | NotCarried::Resources => Some(Refused::Carry),
+            NotCarried::Spent => None,
+        }
+    }
+
     /// The word of the protocol.
     pub fn word(self) -> &'static str
         ensures { result.now ≡ refused_word self }
@@ -84,6 +110,8 @@ impl Refused {
             Refused::Doomed => "doomed",
             Refused::Full => "full",
             Refused::Large => "large",
+            Refused::Ended => "ended",
+            Refused::Carry => "carry",
         }
     }
 
@@ -103,6 +131,8 @@ impl Refused {
             Refused::Doomed => "a line was refused in the unit: abort it",
             Refused::Full => "the log has no room for it and the ends of all open units",
             Refused::Large => "the state has more bytes than a checkpoint may",
+            Refused::Ended => "more records were done than a checkpoint may count",
+            Refused::Carry => "the new log could not be made",
         }
     }
 }
@@ -116,12 +146,18 @@ pub(crate) enum Undone {
     Spent,
 }
 
-impl From<NotDone> for Undone {
-    fn from(why: NotDone) -> Undone {
-        match Refused::of(why) {
+impl From<Option<Refused>> for Undone {
+    fn from(refused: Option<Refused>) -> Undone {
+        match refused {
             Some(refused) => Undone::Refused(refused),
             None => Undone::Spent,
         }
+    }
+}
+
+impl From<NotDone> for Undone {
+    fn from(why: NotDone) -> Undone {
+        Undone::from(Refused::of(why))
     }
 }
 

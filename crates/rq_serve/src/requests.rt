@@ -5,9 +5,8 @@ ghost use Rattle.rq_writer.specs.Reading.{Gives};
 ghost use Rattle.rq_serve.specs.Requests as spec;
 ghost use Rattle.rq_serve.specs.Serving.{asks_safety};
 
-use crate::words::{
-    cut_once, number_word, optional_name, read_by, read_name, read_number, read_payload, word,
-};
+use crate::payloads::read_payload;
+use crate::words::{cut_once, number_word, optional_name, read_by, read_name, read_number, word};
 use rq_record::{By, ElemId, Fault, Name, Payload, UnitNo};
 use std::alloc::Global;
 
@@ -70,6 +69,8 @@ pub enum Request {
     },
     /// A checkpoint is to be taken.
     Checkpoint,
+    /// The log is to go on in a new one.
+    Carry,
     /// The last operation of a registrant is to be told.
     Last {
         queue: Name,
@@ -202,6 +203,8 @@ fn of_word(text: &[u8]) -> Result<Request, Fault>
         Ok(Request::Settle)
     } else if text == b"checkpoint".as_slice() {
         Ok(Request::Checkpoint)
+    } else if text == b"carry".as_slice() {
+        Ok(Request::Carry)
     } else if text == b"queues".as_slice() {
         Ok(Request::Queues)
     } else if text == b"close".as_slice() {
@@ -276,7 +279,8 @@ impl Request {
         match self {
             Request::Define { .. } | Request::Register { .. } | Request::Deregister { .. } => true,
             Request::Commit { is_later, .. } => !*is_later,
-            Request::Settle | Request::Kill { .. } | Request::Checkpoint | Request::Close => true,
+            Request::Settle | Request::Kill { .. } | Request::Checkpoint => true,
+            Request::Carry | Request::Close => true,
             _ => false,
         }
     }

@@ -3,14 +3,17 @@
 ghost use Rattle.std.specs.Prelude.{◌≡◌, ◌<◌, ◌≤◌, [], length, Err, OnOk, IfOk, IfSome, true, false};
 ghost use Rattle.std.specs.Prelude.{string_bytes};
 ghost use Rattle.std.specs.Io.KnownBytes.{Appends};
-ghost use Rattle.rq_live.specs.Managers.{IsInOrder, Settles, stand_of};
+ghost use Rattle.rq_live.specs.Managers.{AllIsSafe, IsInOrder, Settles, stand_of};
 ghost use Rattle.rq_writer.specs.Reading.{cut_at};
 ghost use Rattle.rq_serve.specs.Serving.{EndsLine};
 
+use crate::deeds::carry_state;
+use crate::operators::{CarryPoint, Operator};
+use crate::refusals::Undone;
 use crate::requests::LONGEST;
 use crate::session::{Session, Spent};
 use crate::words::cut_once;
-use rq_device::Device;
+use rq_device::{Device, Successor};
 use rq_live::{Manager, NotDone};
 use rq_report::{Input, Output, write_all};
 use std::alloc::Global;
@@ -91,16 +94,17 @@ fn next_line(is_closed: bool, bytes: &[u8]) -> Option<(&[u8], &[u8])>
     cut_once(b'\n', bytes)
 }
 
-// Does a line, and tells all answers if they are long together.
-fn done_line<D, O>(
+// Carries the log on, once all answers are told.
+fn carry_on<D, S, O>(
     alloc: Global,
     m: &mut Manager<D>,
+    next: &mut S,
     session: &mut Session,
     output: &mut O,
-    line: &[u8],
 ) -> Result<(), Unserved>
 where
     D: Device + Drop,
+    S: Successor<D> + Operator,
     O: Output,
     requires order { IsInOrder (stand_of D.written D.synced D.doubted D.failed m.old) }
     requires faults { O.faults output.old < 18446744073709551615 }
@@ -108,7 +112,44 @@ where
     ensures works { OnOk result (O.faults output.new ≡ O.faults output.old) }
     ensures spent { result ≡ Err Unserved.Spent → O.faults output.new ≡ O.faults output.old }
 {
-    session.take(alloc, m, line)?;
+    tell(m, session, output)?;
+    match carry_state(alloc, m, next) {
+        Ok(records) => {
+            next.hear_carried(records);
+            session.point.begin_anew(m.len());
+            Ok(())
+        }
+        Err(Undone::Refused(_)) => {
+            session.point.put_off(m.len());
+            Ok(())
+        }
+        Err(Undone::Spent) => Err(Unserved::Spent),
+    }
+}
+
+// Does a line. Carries the log on, if that is due, or tells all answers, if they are long together.
+fn done_line<D, S, O>(
+    alloc: Global,
+    m: &mut Manager<D>,
+    next: &mut S,
+    session: &mut Session,
+    output: &mut O,
+    line: &[u8],
+) -> Result<(), Unserved>
+where
+    D: Device + Drop,
+    S: Successor<D> + Operator,
+    O: Output,
+    requires order { IsInOrder (stand_of D.written D.synced D.doubted D.failed m.old) }
+    requires faults { O.faults output.old < 18446744073709551615 }
+    ensures order { IsInOrder (stand_of D.written D.synced D.doubted D.failed m.new) }
+    ensures works { OnOk result (O.faults output.new ≡ O.faults output.old) }
+    ensures spent { result ≡ Err Unserved.Spent → O.faults output.new ≡ O.faults output.old }
+{
+    session.take(alloc, m, next, line)?;
+    if !session.is_closed && session.point.is_due(m.len()) {
+        return carry_on(alloc, m, next, session, output);
+    }
     if session.answers.len() > ANSWERS {
         return tell(m, session, output);
     }
@@ -116,15 +157,17 @@ where
 }
 
 // Does each whole line of the bytes, and answers how many bytes these are.
-fn done_lines<D, O>(
+fn done_lines<D, S, O>(
     alloc: Global,
     m: &mut Manager<D>,
+    next: &mut S,
     session: &mut Session,
     output: &mut O,
     bytes: &[u8],
 ) -> Result<usize, Unserved>
 where
     D: Device + Drop,
+    S: Successor<D> + Operator,
     O: Output,
     requires order { IsInOrder (stand_of D.written D.synced D.doubted D.failed m.old) }
     requires faults { O.faults output.old < 18446744073709551615 }
@@ -135,7 +178,7 @@ where
 {
     let mut rest = bytes;
     while let Some((line, after)) = next_line(session.is_closed, rest) {
-        done_line(alloc, m, session, output, line)?;
+        done_line(alloc, m, next, session, output, line)?;
         rest = after;
     }
     Ok(bytes.len().saturating_sub(rest.len()))
@@ -150,15 +193,17 @@ fn keep_rest(held: &mut Vec<u8>, used: usize)
 }
 
 // Does the lines of the input until it ends, or one closes.
-fn serve_lines<D, I, O>(
+fn serve_lines<D, S, I, O>(
     alloc: Global,
     m: &mut Manager<D>,
+    next: &mut S,
     session: &mut Session,
     input: &mut I,
     output: &mut O,
 ) -> Result<(), Unserved>
 where
     D: Device + Drop,
+    S: Successor<D> + Operator,
     I: Input,
     O: Output,
     requires order { IsInOrder (stand_of D.written D.synced D.doubted D.failed m.old) }
@@ -182,7 +227,7 @@ where
         if held.extend_from_slice(&piece[..count]).is_err() {
             return Err(Unserved::Spent);
         }
-        let used = done_lines(alloc, m, session, output, &held)?;
+        let used = done_lines(alloc, m, next, session, output, &held)?;
         tell(m, session, output)?;
         if session.is_closed {
             break;
@@ -193,24 +238,30 @@ where
 }
 
 /// Serves a program: does what the lines of the input ask for, and writes an answer to each. If one
-/// closes, or at the end of the input, all open units are aborted, and all is safe.
-pub fn serve<D, I, O>(
+/// closes, or at the end of the input, all open units are aborted, and all is safe. At the point, and if
+/// a line asks for that, the log goes on in a new one.
+pub fn serve<D, S, I, O>(
     alloc: Global,
     m: &mut Manager<D>,
+    next: &mut S,
+    point: CarryPoint,
     input: &mut I,
     output: &mut O,
 ) -> Result<(), Unserved>
 where
     D: Device + Drop,
+    S: Successor<D> + Operator,
     I: Input,
     O: Output,
     requires order { IsInOrder (stand_of D.written D.synced D.doubted D.failed m.old) }
     requires reads { I.faults input.old < 18446744073709551615 }
     requires writes { O.faults output.old < 18446744073709551615 }
-    ensures { IsInOrder (stand_of D.written D.synced D.doubted D.failed m.new) }
+    ensures order { IsInOrder (stand_of D.written D.synced D.doubted D.failed m.new) }
+    ensures safe { OnOk result (AllIsSafe
+        (stand_of D.written D.synced D.doubted D.failed m.new)) }
 {
-    let mut session = Session::new(alloc);
-    match serve_lines(alloc, m, &mut session, input, output) {
+    let mut session = Session::new(alloc, point);
+    match serve_lines(alloc, m, next, &mut session, input, output) {
         Ok(()) => {
             if m.abort_open(alloc).is_err() || m.settle().is_err() {
                 return Err(Unserved::Spent);

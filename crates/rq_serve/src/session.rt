@@ -9,9 +9,11 @@ ghost use Rattle.rq_serve.specs.Serving.{AddsAnswer};
 use crate::answers::Answer;
 use crate::deeds::done;
 use crate::doomed::Doomed;
+use crate::operators::{CarryPoint, Operator};
+use crate::queue_names::QueueNames;
 use crate::refusals::Undone;
 use crate::requests::Request;
-use rq_device::Device;
+use rq_device::{Device, Successor};
 use rq_live::Manager;
 use rq_record::Fault;
 use std::alloc::Global;
@@ -20,12 +22,15 @@ use std::alloc::Global;
 #[derive(Drop)]
 pub(crate) struct Session {
     doomed: Doomed,
+    names: QueueNames,
     /// The lines of the answers.
     pub(crate) answers: String,
     /// One of them says that it is safe.
     pub(crate) asks_sync: bool,
     /// The service was closed.
     pub(crate) is_closed: bool,
+    /// When the log is carried on.
+    pub(crate) point: CarryPoint,
 }
 
 /// The service cannot go on: memory was refused, or the log failed.
@@ -34,12 +39,14 @@ pub(crate) struct Spent;
 
 impl Session {
     /// Nothing was asked yet.
-    pub(crate) fn new(alloc: Global) -> Session {
+    pub(crate) fn new(alloc: Global, point: CarryPoint) -> Session {
         Session {
             doomed: Doomed::none(alloc),
+            names: QueueNames::none(alloc),
             answers: String::new(alloc),
             asks_sync: false,
             is_closed: false,
+            point,
         }
     }
 
@@ -71,40 +78,65 @@ impl Session {
         }
     }
 
+    // What is answered to a request that was done, or refused.
+    fn heard<D: Device + Drop>(
+        &mut self,
+        m: &Manager<D>,
+        done: Result<Answer, Undone>,
+    ) -> Result<Answer, Spent>
+        ensures { (self.new.answers ≡ self.old.answers) × (self.new.asks_sync ≡ self.old.asks_sync) }
+    {
+        match done {
+            Ok(answer) => {
+                if matches!(answer, Answer::Carried(_)) {
+                    self.point.begin_anew(m.len());
+                }
+                Ok(answer)
+            }
+            Err(Undone::Refused(refused)) => Ok(Answer::Refused(refused)),
+            Err(Undone::Spent) => Err(Spent),
+        }
+    }
+
     // Does a request, and adds its answer.
-    fn answer<D: Device + Drop>(
+    fn answer<D, S>(
         &mut self,
         alloc: Global,
         m: &mut Manager<D>,
+        next: &mut S,
         request: Request,
     ) -> Result<(), Spent>
+    where
+        D: Device + Drop,
+        S: Successor<D> + Operator,
         requires { IsInOrder (stand_of D.written D.synced D.doubted D.failed m.old) }
         ensures order { IsInOrder (stand_of D.written D.synced D.doubted D.failed m.new) }
         ensures adds { OnOk result (AddsAnswer (Some request) self.old self.new) }
     {
         let asks = request.asks_safety();
         self.is_closed = matches!(request, Request::Close);
-        let answer = match done(alloc, m, &mut self.doomed, request) {
-            Ok(answer) => answer,
-            Err(Undone::Refused(refused)) => Answer::Refused(refused),
-            Err(Undone::Spent) => return Err(Spent),
-        };
+        let done = done(alloc, m, next, &mut self.names, &mut self.doomed, request);
+        let answer = self.heard(m, done)?;
         self.add(&answer, asks && !answer.is_refused())
     }
 
     /// Does what a line asks for, and adds its answer.
-    pub(crate) fn take<D: Device + Drop>(
+    pub(crate) fn take<D, S>(
         &mut self,
         alloc: Global,
         m: &mut Manager<D>,
+        next: &mut S,
         line: &[u8],
     ) -> Result<(), Spent>
+    where
+        D: Device + Drop,
+        S: Successor<D> + Operator,
         requires { IsInOrder (stand_of D.written D.synced D.doubted D.failed m.old) }
         ensures order { IsInOrder (stand_of D.written D.synced D.doubted D.failed m.new) }
         ensures adds { OnOk result (AddsAnswer (request_of line.now) self.old self.new) }
     {
         match Request::of(alloc, line) {
-            Ok(request) => self.answer(alloc, m, request),
+            Ok(request) => self.answer(alloc, m, next, request),
             Err(Fault::Form) => self.doom_all(m),
             Err(_) => Err(Spent),
         }

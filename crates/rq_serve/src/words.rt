@@ -1,30 +1,24 @@
-//! The words of a line: numbers, names, and bytes in hexadecimal.
+//! The words of a line: numbers and names.
 
-ghost use Rattle.std.specs.Prelude.{◌≡◌, ◌≤◌, [], IfOk};
+ghost use Rattle.std.specs.Prelude.{◌≡◌, ◌≤◌, IfOk};
 ghost use Rattle.std.specs.Option.{option_map};
-ghost use Rattle.std.specs.List.{list_all};
 ghost use Rattle.rq_writer.specs.Reading.{Gives, cut_at, field_at, number_of, name_of, by_of};
 ghost use Rattle.rq_writer.specs.Reading as reading;
-ghost use Rattle.hex.specs.Hex.{decode_of};
 ghost use Rattle.rq_serve.specs.Requests as spec;
 
-use hex::FromHexError;
-use rq_record::{By, Fault, Name, Payload};
+use memchr::memchr;
+use rq_record::{By, Fault, Name};
 use rq_writer::decimal_number;
-use std::alloc::Global;
 
 /// What comes before the first such byte, and what after it.
+#[tactic(auto, using(crate::proofs::Cutting::first_cuts, crate::proofs::Cutting::none_cuts))]
 pub(crate) fn cut_once(byte: u8, bytes: &[u8]) -> Option<(&[u8], &[u8])>
     ensures { option_map (λ x. (x.0.now, x.1.now)) result ≡ cut_at byte bytes.now }
 {
-    let mut at = 0;
-    while at < bytes.len() {
-        if bytes[at] == byte {
-            return Some((&bytes[..at], &bytes[at + 1..]));
-        }
-        at += 1;
+    match memchr(byte, bytes) {
+        Some(at) => Some((&bytes[..at], &bytes[at + 1..])),
+        None => None,
     }
-    None
 }
 
 /// A word, and what comes after its space.
@@ -90,54 +84,4 @@ pub(crate) fn read_by(who: &[u8], tag: u64) -> Result<Option<By>, Fault>
     }
     let name = read_name(who)?;
     Ok(Some(By { name, tag }))
-}
-
-// Whether it is a digit of hexadecimal in lower case.
-fn is_hex_digit(byte: u8) -> bool
-    ensures { result ≡ spec.is_hex_digit byte }
-{
-    matches!(byte, b'0'..=b'9' | b'a'..=b'f')
-}
-
-fn are_hex_digits(text: &[u8]) -> bool
-    ensures { result ≡ list_all spec.is_hex_digit text.now }
-{
-    text.iter().all(|byte| is_hex_digit(*byte))
-}
-
-// The bytes that digits of hexadecimal are, two a byte.
-fn decoded(alloc: Global, digits: &[u8]) -> Result<Payload, Fault>
-    ensures { Gives (λ x. x) result (spec.at_most_a_payload (decode_of digits.now)) }
-{
-    match hex::decode(alloc, digits) {
-        Ok(bytes) => match Payload::new(bytes) {
-            Some(payload) => Ok(payload),
-            None => Err(Fault::Form),
-        },
-        Err(FromHexError::OutOfMemory) => Err(Fault::Resources),
-        Err(_) => Err(Fault::Form),
-    }
-}
-
-// No bytes.
-fn no_payload(alloc: Global) -> Result<Payload, Fault>
-    ensures { Gives (λ x. x) result (Some []) }
-{
-    match Payload::new(Vec::new(alloc)) {
-        Some(payload) => Ok(payload),
-        None => Err(Fault::Resources),
-    }
-}
-
-/// The payload that a text is in hexadecimal; `-` is the empty one.
-pub(crate) fn read_payload(alloc: Global, text: &[u8]) -> Result<Payload, Fault>
-    ensures { Gives (λ x. x) result (spec.payload_of text.now) }
-{
-    if text == b"-".as_slice() {
-        return no_payload(alloc);
-    }
-    if text.is_empty() || !are_hex_digits(text) {
-        return Err(Fault::Form);
-    }
-    decoded(alloc, text)
 }

@@ -10,7 +10,7 @@ use Rattle.rq_model.specs.States.{id_before}
 use Rattle.rq_model.specs.Queues.{Part, part_of}
 use Rattle.rq_state.specs.Laws.{gathered, PartsMakeTheState}
 use Rattle.rq_model.specs.StateSpelling.{counted, element_number, kind_byte, definition_bytes, last_bytes}
-use Rattle.rq_model.specs.StateSpelling.{registrant_bytes, mark_bytes, element_bytes, note_bytes, state_bytes}
+use Rattle.rq_model.specs.StateSpelling.{registrant_bytes, mark_bytes, element_bytes, note_bytes, state_bytes, carried_next}
 use Rattle.rq_model.specs.WellFormed.{IsWellFormed}
 use Rattle.rq_model.proofs.WellFormedRuns.{length-put}
 use Rattle.rq_state.specs.Orders.{put_in_order, place_before}
@@ -155,10 +155,10 @@ too_short s kept short = by_cases (bytes_eq kept (state_bytes s)) (λ b. b ≡ f
 -- nor is anything, if no record can have the next number
 pub not_spelled : (s : State) (kept : List ℕ) (next : ℕ) (head : Option (List ℕ)) (may : Bool) → next ≡ s.next
     → head ≡ left_after (head_of s) (Some kept)
-    → may ≡ (nat_le next 4294967295 && (is_some head && nat_le (least_bytes s) (length kept)))
-    → may ≡ false → false ≡ (nat_le s.next 4294967295 && bytes_eq kept (state_bytes s))
+    → may ≡ (nat_le next carried_next && (is_some head && nat_le (least_bytes s) (length kept)))
+    → may ≡ false → false ≡ (nat_le s.next carried_next && bytes_eq kept (state_bytes s))
 not_spelled s kept next head may same begins is not_so =
-    by_cases (nat_le s.next 4294967295)
+    by_cases (nat_le s.next carried_next)
     (λ b. (b && (is_some head && nat_le (least_bytes s) (length kept))) ≡ false
     → false ≡ (b && bytes_eq kept (state_bytes s)))
     (λ _ other. by_cases (is_some head)
@@ -167,21 +167,21 @@ not_spelled s kept next head may same begins is not_so =
     (λ _ _ short. sym (too_short s kept short))
     (λ _ differs _. sym (otherwise_begun s kept head begins differs)) refl other)
     (λ _ _. refl)
-    (ap (λ n. nat_le n 4294967295 && (is_some head && nat_le (least_bytes s) (length kept))) (sym same)
+    (ap (λ n. nat_le n carried_next && (is_some head && nat_le (least_bytes s) (length kept))) (sym same)
     ∙ sym is ∙ not_so)
 
 -- what may be the spelling is it if its lists follow
 pub is_spelled : (s : State) (kept : List ℕ) (next : ℕ) (head whole : Option (List ℕ)) (may : Bool) → next ≡ s.next
     → head ≡ left_after (head_of s) (Some kept)
-    → may ≡ (nat_le next 4294967295 && (is_some head && nat_le (least_bytes s) (length kept)))
+    → may ≡ (nat_le next carried_next && (is_some head && nat_le (least_bytes s) (length kept)))
     → may ≡ true → whole ≡ left_after (members_of s) head
-    → is_matched whole ≡ (nat_le s.next 4294967295 && bytes_eq kept (state_bytes s))
+    → is_matched whole ≡ (nat_le s.next carried_next && bytes_eq kept (state_bytes s))
 is_spelled s kept next head whole may same begins is so follows = spelled_so s kept head whole begins follows
-    ∙ by_cases (nat_le s.next 4294967295) (λ b. nat_le s.next 4294967295 ≡ b
+    ∙ by_cases (nat_le s.next carried_next) (λ b. nat_le s.next carried_next ≡ b
     → bytes_eq kept (state_bytes s) ≡ (b && bytes_eq kept (state_bytes s)))
     (λ _ _. refl)
     (λ _ no. absurd (false≢true (sym (sym so ∙ is
-    ∙ ap (λ n. nat_le n 4294967295 && (is_some head && nat_le (least_bytes s) (length kept))) same
+    ∙ ap (λ n. nat_le n carried_next && (is_some head && nat_le (least_bytes s) (length kept))) same
     ∙ ap (λ b. b && (is_some head && nat_le (least_bytes s) (length kept))) no))))
     refl
 

@@ -10,7 +10,7 @@ ghost use Rattle.rq_model.specs.Machine as machine;
 ghost use Rattle.rq_model.specs.Queues as queues;
 ghost use Rattle.rq_model.specs.Reports.{IsListing};
 ghost use Rattle.rq_model.specs.States as model;
-ghost use Rattle.rq_model.specs.StateSpelling.{state_bytes};
+ghost use Rattle.rq_model.specs.StateSpelling.{carried_next, state_bytes};
 ghost use Rattle.rq_record.specs.Views.{record_of, version_of};
 ghost use Rattle.rq_record.specs.declared.fault.Fault.TheVariants.{Resources};
 ghost use Rattle.rq_state.specs.Spelling.{ReadsState, Spelled};
@@ -254,7 +254,6 @@ impl Machine {
     /// lent, and none is copied but the numbers of the open units. `TooLarge` if there would be more
     /// than 268,435,455 bytes, `Resources` if memory runs out.
     pub fn spell(&self, alloc: Global) -> Result<Vec<u8>, Fault>
-        requires { self.now.next ≤ 4294967295 }
         ensures { Spelled self.now result }
     {
         self.queues.spell(alloc)
@@ -268,7 +267,8 @@ impl Machine {
         self.queues.fits(len)
     }
 
-    /// Whether these bytes, which are at most as many as a record holds, spell the state. Members
+    /// Whether these bytes, which are at most as many as a record holds, spell the state, whose next
+    /// record number is at most that of a carried file. Members
     /// are compared with them as they come, and none is copied. So it costs the bytes up to the
     /// first that differs. If that is behind the registrants, it costs the elements and notes too,
     /// times a logarithm, since those of all queues are put in order: the bytes are enough for
@@ -276,7 +276,7 @@ impl Machine {
     pub fn is_spelled_by(&self, alloc: Global, kept: &[u8]) -> Result<bool, Fault>
         requires { length kept.now ≤ 268435455 }
         ensures truth { IfOk result (λ t.
-            t ≡ (nat_le self.now.next 4294967295 && bytes_eq kept.now (state_bytes self.now))) }
+            t ≡ (nat_le self.now.next carried_next && bytes_eq kept.now (state_bytes self.now))) }
         ensures refused { IfErr result (λ e. e ≡ Resources) }
     {
         self.queues.is_spelled_by(alloc, kept)

@@ -254,8 +254,8 @@ impl Queues {
         ensures refused { IfErr result (λ e. e ≡ Resources) }
     {
         rq_model::runs_are_well_formed();
-        // No log has so many records: past here a number could run over.
-        if self.next > 1 << 62 {
+        // No file numbers so many records: past here a number could run over.
+        if self.next > 3 << 62 {
             return Err(Fault::Resources);
         }
         let id = self.does(alloc, what)?;

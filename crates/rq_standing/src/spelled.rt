@@ -6,14 +6,14 @@ ghost use Rattle.std.specs.Prelude.{is_some, OnOk};
 ghost use Rattle.std.specs.List.{flat_map};
 ghost use Rattle.rq_model.specs.Queues as model;
 ghost use Rattle.rq_model.specs.StateSpelling.{registrant_bytes, counted, element_bytes};
-ghost use Rattle.rq_model.specs.StateSpelling.{note_bytes, state_bytes};
+ghost use Rattle.rq_model.specs.StateSpelling.{note_bytes, state_bytes, carried_next};
 ghost use Rattle.rq_record.specs.declared.fault.Fault.TheVariants.{Resources};
 ghost use Rattle.rq_state.specs.Comparing.{left_after};
 ghost use Rattle.rq_state.specs.Spelling.{Spelled};
 ghost use Rattle.std.specs.Str.{bytes_eq};
 ghost use Rattle.rq_model.specs.States as states;
 ghost use Rattle.rq_queue.specs.Rooms.{member_bytes};
-ghost use Rattle.rq_standing.specs.Spelled.{head_of, members_of, least_bytes};
+ghost use Rattle.rq_standing.specs.Spelled.{HoldsFew, head_of, members_of, least_bytes};
 ghost use Rattle.rq_standing.specs.Stands.{HoldsState};
 
 use crate::lent_members::lent_registrants;
@@ -94,16 +94,15 @@ impl Queues {
     // at no more parts than as many bytes can spell.
     fn may_follow(&self, bytes: &Compared<'_>, len: usize) -> bool
         ensures { (t : states.State) → HoldsState self.now t
-            → result ≡ (nat_le self.now.next 4294967295
+            → result ≡ (nat_le self.now.next carried_next
             && (is_some bytes.now && nat_le (least_bytes t) len)) }
     {
-        self.next <= State::RECORDS && bytes.agree() && self.fits(len)
+        self.next <= State::CARRIED_RECORDS && bytes.agree() && self.fits(len)
     }
 
     // The number of registrants and their spellings are to come next.
     fn compare_registrants(&self, bytes: &mut Compared<'_>)
-        requires holds { (t : states.State) × HoldsState self.now t }
-        requires next { self.now.next ≤ 4294967295 }
+        requires few { HoldsFew self.now }
         ensures { (t : states.State) → HoldsState self.now t
             → bytes.new ≡ left_after (counted registrant_bytes t.registrants) bytes.old }
     {
@@ -115,8 +114,7 @@ impl Queues {
     // The number of elements and their spellings are to come next. Those of all queues come by id,
     // so they are lent and put in order, if the bytes agree so far.
     fn compare_elements(&self, alloc: Global, bytes: &mut Compared<'_>) -> Result<(), Fault>
-        requires holds { (t : states.State) × HoldsState self.now t }
-        requires next { self.now.next ≤ 4294967295 }
+        requires few { HoldsFew self.now }
         ensures compared { OnOk result ((t : states.State) → HoldsState self.now t
             → bytes.new ≡ left_after (counted element_bytes t.elements) bytes.old) }
         ensures refused { IfErr result (λ e. e ≡ Resources) }
@@ -132,8 +130,7 @@ impl Queues {
 
     // The same of the notes, which come by place.
     fn compare_notes(&self, alloc: Global, bytes: &mut Compared<'_>) -> Result<(), Fault>
-        requires holds { (t : states.State) × HoldsState self.now t }
-        requires next { self.now.next ≤ 4294967295 }
+        requires few { HoldsFew self.now }
         ensures compared { OnOk result ((t : states.State) → HoldsState self.now t
             → bytes.new ≡ left_after (counted note_bytes t.notes) bytes.old) }
         ensures refused { IfErr result (λ e. e ≡ Resources) }
@@ -149,8 +146,7 @@ impl Queues {
 
     // All members are to come next, each list but that of the definitions behind its number.
     fn compare_lists(&self, alloc: Global, bytes: &mut Compared<'_>) -> Result<(), Fault>
-        requires holds { (t : states.State) × HoldsState self.now t }
-        requires next { self.now.next ≤ 4294967295 }
+        requires few { HoldsFew self.now }
         ensures compared { OnOk result ((t : states.State) → HoldsState self.now t
             → bytes.new ≡ left_after (members_of t) bytes.old) }
         ensures refused { IfErr result (λ e. e ≡ Resources) }
@@ -163,12 +159,13 @@ impl Queues {
         Ok(())
     }
 
-    /// Whether these bytes spell the state that they hold. Refused only with `Resources`.
+    /// Whether these bytes spell the state that they hold, in a log or a carried file. Refused only with
+    /// `Resources`.
     pub(crate) fn is_spelled_by(&self, alloc: Global, kept: &[u8]) -> Result<bool, Fault>
         requires holds { (t : states.State) × HoldsState self.now t }
         requires short { length kept.now ≤ 268435455 }
         ensures truth { IfOk result (λ b. (t : states.State) → HoldsState self.now t
-            → b ≡ (nat_le t.next 4294967295 && bytes_eq kept.now (state_bytes t))) }
+            → b ≡ (nat_le t.next carried_next && bytes_eq kept.now (state_bytes t))) }
         ensures refused { IfErr result (λ e. e ≡ Resources) }
     {
         let mut bytes = Compared::new(kept);
@@ -182,8 +179,7 @@ impl Queues {
 
     /// The bytes that spell the state that they hold.
     pub(crate) fn spell(&self, alloc: Global) -> Result<Vec<u8>, Fault>
-        requires holds { (t : states.State) × HoldsState self.now t }
-        requires next { self.now.next ≤ 4294967295 }
+        requires { (t : states.State) × HoldsState self.now t }
         ensures { (t : states.State) → HoldsState self.now t → Spelled t result }
     {
         rq_state::parts_make_the_state();

@@ -4,7 +4,7 @@ use Rattle.std.proofs.Common.{◌≡◌, ℕ, List, [], Option, Some, None, Err,
 use Rattle.std.proofs.lemmas.Option.{same_Some}
 use Rattle.rq_model.specs.Records.{Version}
 use Rattle.rq_model.specs.States.{Registrant, State}
-use Rattle.rq_model.specs.StateSpelling.{state_bytes, FitsRegistrant, Fits, SpellsState}
+use Rattle.rq_model.specs.StateSpelling.{state_bytes, FitsRegistrant, Fits, IsCounted, SpellsUpTo}
 use Rattle.rq_bytes.specs.Readers.{alone, after_of, IsBytes}
 use Rattle.rq_bytes.proofs.Together.{reads_alone, spelled_by, read_again}
 use Rattle.rq_model.specs.Reading.{state_read}
@@ -14,7 +14,7 @@ use Rattle.rq_model.proofs.StateCodes.{is_spelled}
 use Rattle.rq_record.specs.declared.fault.Fault.{Fault}
 use Rattle.rq_record.specs.declared.fault.Fault.TheVariants as faults
 use Rattle.rq_state.specs.Keeping.{TellsWhether, KeepsAll}
-use Rattle.rq_state.specs.Spelling.{ReadsState}
+use Rattle.rq_state.specs.Spelling.{ReadsUpTo}
 use Rattle.rq_state.specs.Reading.{FailsAsCheckpoint, form_read}
 use Rattle.rq_state.proofs.Passing.{form_is}
 
@@ -31,19 +31,30 @@ fits s h = record {
   notes = each_weaker _ _ (λ n x. (x.2, x.3.1)) s.notes h.notes.1;
 }
 
-again : (version : Version) (s : State) (bytes : List ℕ) → SpellsState version s bytes
-    → alone state_read bytes ≡ Some (s, [])
-again version s bytes h = read_again bytes s (reads_alone reads_state) (is_spelled version s bytes h) h.spelling
+-- and each count its own
+counted_so : (s : State) → IsSpelled s → IsCounted s
+counted_so s h = record {
+  next = h.next;
+  definitions = h.definitions.0;
+  units = h.units.0;
+  registrants = h.registrants.0;
+  elements = h.elements.0;
+  notes = h.notes.0;
+}
 
-no_state : (version : Version) (bytes : List ℕ) → alone state_read bytes ≡ None → (s : State)
-    → SpellsState version s bytes → ⊥
-no_state version bytes nothing s h = let clash =
-    again version s bytes h in absurd cc
+again : (most : ℕ) (version : Version) (s : State) (bytes : List ℕ) → SpellsUpTo most version s bytes
+    → alone state_read bytes ≡ Some (s, [])
+again most version s bytes h = read_again bytes s (reads_alone reads_state) (is_spelled most version s bytes h) h.spelling
+
+no_state : (most : ℕ) (version : Version) (bytes : List ℕ) → alone state_read bytes ≡ None → (s : State)
+    → SpellsUpTo most version s bytes → ⊥
+no_state most version bytes nothing s h = let clash =
+    again most version s bytes h in absurd cc
 
 -- bytes without the form spell no state
-pub not_formed : (version : Version) (bytes : List ℕ) → None ≡ after_of (form_read bytes) → (s : State)
-    → SpellsState version s bytes → ⊥
-not_formed version bytes nothing = no_state version bytes (none _ (nothing ∙ form_is.after bytes))
+pub not_formed : (most : ℕ) (version : Version) (bytes : List ℕ) → None ≡ after_of (form_read bytes) → (s : State)
+    → SpellsUpTo most version s bytes → ⊥
+not_formed most version bytes nothing = no_state most version bytes (none _ (nothing ∙ form_is.after bytes))
   where
     none : (o : Option (State × List ℕ)) → None ≡ after_of o → o ≡ None
     none (Some s) e = absurd cc
@@ -64,34 +75,36 @@ formed bytes byte is = from _ refl (is ∙ form_is.after bytes)
     from None e h = absurd cc
 
 -- nor do those that are not read
-pub not_read : (version : Version) (bytes : List ℕ) (e : Fault) → IsBytes bytes → Some [] ≡ after_of (form_read bytes)
-    → FailsAsCheckpoint e (alone state_read bytes) → ReadsState version bytes (Err e)
-not_read version bytes faults.BadCheckpoint byte form nothing = no_state version bytes nothing
-not_read version bytes faults.Resources byte form nothing = formed bytes byte form
-not_read version bytes e byte form nothing = grind arith
+pub not_read : (most : ℕ) (version : Version) (bytes : List ℕ) (e : Fault) → IsBytes bytes
+    → Some [] ≡ after_of (form_read bytes) → FailsAsCheckpoint e (alone state_read bytes)
+    → ReadsUpTo most version bytes (Err e)
+not_read most version bytes faults.BadCheckpoint byte form nothing = no_state most version bytes nothing
+not_read most version bytes faults.Resources byte form nothing = formed bytes byte form
+not_read most version bytes e byte form nothing = grind arith
 
 -- nor do bytes from which something is read that does not keep it all
-pub not_kept : (version : Version) (bytes : List ℕ) (t : State) (e : Fault) → IsBytes bytes
-    → alone state_read bytes ≡ Some (t, []) → TellsWhether {A = Unit {0}} (KeepsAll version t) (Err e)
-    → ReadsState version bytes (Err e)
-not_kept version bytes t faults.BadCheckpoint byte is told =
-    λ s h. let same = same_Some _ _ (sym (again version s bytes h) ∙ is) in
+pub not_kept : (most : ℕ) (version : Version) (bytes : List ℕ) (t : State) (e : Fault) → IsBytes bytes
+    → alone state_read bytes ≡ Some (t, []) → TellsWhether {A = Unit {0}} (KeepsAll most version t) (Err e)
+    → ReadsUpTo most version bytes (Err e)
+not_kept most version bytes t faults.BadCheckpoint byte is told =
+    λ s h. let same = same_Some _ _ (sym (again most version s bytes h) ∙ is) in
     told (grind arith)
-not_kept version bytes t faults.Resources byte is told = spelled bytes _ byte is
-not_kept version bytes t e byte is told = absurd told
+not_kept most version bytes t faults.Resources byte is told = spelled bytes _ byte is
+not_kept most version bytes t e byte is told = absurd told
 
 -- if there is no room for what is read and keeps it all
-pub not_built : (version : Version) (bytes : List ℕ) (t : State) (e : Fault) → IsBytes bytes
-    → alone state_read bytes ≡ Some (t, []) → e ≡ faults.Resources → ReadsState version bytes (Err e)
-not_built version bytes t e byte is refused = grind (arith, spelled bytes _ byte is)
+pub not_built : (most : ℕ) (version : Version) (bytes : List ℕ) (t : State) (e : Fault) → IsBytes bytes
+    → alone state_read bytes ≡ Some (t, []) → e ≡ faults.Resources → ReadsUpTo most version bytes (Err e)
+not_built most version bytes t e byte is refused = grind (arith, spelled bytes _ byte is)
 
 -- what is read and keeps it all is spelled by the bytes
-pub is_read : (version : Version) (bytes : List ℕ) (t : State) → IsBytes bytes → alone state_read bytes ≡ Some (t, [])
-    → KeepsAll version t → SpellsState version t bytes
-is_read version bytes t byte is k =
+pub is_read : (most : ℕ) (version : Version) (bytes : List ℕ) (t : State) → IsBytes bytes
+    → alone state_read bytes ≡ Some (t, []) → KeepsAll most version t → SpellsUpTo most version t bytes
+is_read most version bytes t byte is k =
     let taken = spelled_by bytes _ (reads_alone reads_state) byte is in
     record {
       next = k.numbers.next;
+      counted = counted_so t taken.0;
       keeps = grind arith;
       fits = fits t taken.0;
       deep = grind arith;

@@ -1,5 +1,5 @@
 -- What a spelled state must keep, piece by piece as it is tested.
-use Rattle.std.specs.Prelude.{◌≡◌, ◌+◌, ◌<◌, ◌≤◌, ⊤, true, false, length, Result, Ok, Err}
+use Rattle.std.specs.Prelude.{◌≡◌, ◌+◌, ◌<◌, ◌≤◌, ⊤, ℕ, true, false, length, Result, Ok, Err}
 use Rattle.std.specs.List.{AllByRecursion}
 use Rattle.std.specs.Str.{bytes_eq}
 use Rattle.rq_model.specs.Records.{Version}
@@ -16,8 +16,8 @@ TellsWhether P (Err BadCheckpoint) = P → ⊥
 TellsWhether P (Err Resources) = ⊤
 TellsWhether P (Err e) = ⊥
 
-pub record KeepsNumbers (s : State) : Type 0 where
-  pub next : s.next ≤ 4294967295
+pub record KeepsNumbers (most : ℕ) (s : State) : Type 0 where
+  pub next : s.next ≤ most
   pub few : length s.definitions ≤ 4096
   pub counts : s.committed + s.aborted + length s.units ≤ s.next
   pub registrants_few : length s.registrants ≤ s.next
@@ -44,8 +44,8 @@ pub record KeepsNotes (s : State) : Type 0 where
   pub notes_rise : Ordered (λ n m. n.last.place < m.last.place) s.notes
 
 -- all of it
-pub record KeepsAll (version : Version) (s : State) : Type 0 where
-  pub numbers : KeepsNumbers s
+pub record KeepsAll (most : ℕ) (version : Version) (s : State) : Type 0 where
+  pub numbers : KeepsNumbers most s
   pub definitions : KeepsDefinitions version s
   pub units : KeepsUnits s
   pub registrants : KeepsRegistrants s

@@ -3,7 +3,7 @@ use Rattle.std.specs.Prelude.{◌≡◌, ◌≤◌, ◌<◌, ⊤, ℕ, List, len
 use Rattle.std.specs.Global.{Vec}
 use Rattle.rq_model.specs.Records.{Version}
 use Rattle.rq_model.specs.States.{State}
-use Rattle.rq_model.specs.StateSpelling.{state_bytes, Fits, SpellsState}
+use Rattle.rq_model.specs.StateSpelling.{state_bytes, Fits, SpellsUpTo, log_next}
 use Rattle.rq_record.specs.declared.fault.Fault.{Fault}
 use Rattle.rq_record.specs.declared.fault.Fault.TheVariants.{Resources, TooLarge, BadCheckpoint}
 
@@ -18,11 +18,15 @@ IsWritten text (Err e) = ⊥
 abbrev pub Spelled : State → Result (Vec ℕ) Fault → Type 0
 Spelled s result = IsWritten (state_bytes s) result
 
--- The state that the bytes spell in a log of the version, or they spell none. Memory is asked for
--- only if all bytes have the form of a state: they spell numbers and members in their widths,
--- whether or not these are a state's
+-- The state that the bytes spell, whose next record number is at most this, in a log of the version,
+-- or they spell none. Memory is asked for only if all bytes have the form of a state: they spell
+-- numbers and members in their widths, whether or not these are a state's
+abbrev pub ReadsUpTo : ℕ → Version → List ℕ → Result State Fault → Type 0
+ReadsUpTo most version bytes (Ok s) = SpellsUpTo most version s bytes
+ReadsUpTo most version bytes (Err BadCheckpoint) = (s : State) → SpellsUpTo most version s bytes → ⊥
+ReadsUpTo most version bytes (Err Resources) = (s : State) × Fits s × (bytes ≡ state_bytes s)
+ReadsUpTo most version bytes (Err e) = ⊥
+
+-- that of a log
 abbrev pub ReadsState : Version → List ℕ → Result State Fault → Type 0
-ReadsState version bytes (Ok s) = SpellsState version s bytes
-ReadsState version bytes (Err BadCheckpoint) = (s : State) → SpellsState version s bytes → ⊥
-ReadsState version bytes (Err Resources) = (s : State) × Fits s × (bytes ≡ state_bytes s)
-ReadsState version bytes (Err e) = ⊥
+ReadsState version bytes result = ReadsUpTo log_next version bytes result

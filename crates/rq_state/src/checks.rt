@@ -23,15 +23,14 @@ use crate::checks::lists::{
 };
 use crate::fields::KeptFields;
 use crate::members::Definition;
-use crate::state::State;
 use rq_record::{Fault, Name, Version};
 use std::alloc::Global;
 
 // Queues and records stay within their bounds, and units and registrants are no more than records.
-fn are_numbers(fields: &KeptFields) -> bool
-    ensures { IsTrue result ↔ KeepsNumbers (state_of fields.now) }
+fn are_numbers(most: u64, fields: &KeptFields) -> bool
+    ensures { IsTrue result ↔ KeepsNumbers most (state_of fields.now) }
 {
-    fields.next <= State::RECORDS
+    fields.next <= most
         && fields.definitions.len() <= Definition::MOST
         && fields.committed <= fields.next
         && fields.aborted <= fields.next - fields.committed
@@ -122,16 +121,17 @@ fn check_notes(fields: &KeptFields) -> Result<(), Fault>
     kept(are_notes(fields))
 }
 
-/// Checks that the fields are those of a well-formed state of the version. `BadCheckpoint` if they
-/// are not, `Resources` if there is no room to sort names.
+/// Checks that the fields are those of a well-formed state of the version, whose next record number
+/// is at most this. `BadCheckpoint` if they are not, `Resources` if there is no room to sort names.
 pub(crate) fn check_fields(
     alloc: Global,
     version: Version,
+    most: u64,
     fields: &KeptFields,
 ) -> Result<(), Fault>
-    ensures { TellsWhether (KeepsAll (version_of version) (state_of fields.now)) result }
+    ensures { TellsWhether (KeepsAll most (version_of version) (state_of fields.now)) result }
 {
-    kept(are_numbers(fields))?;
+    kept(are_numbers(most, fields))?;
     check_definitions(alloc, version, fields)?;
     check_units(fields)?;
     check_registrants(fields)?;

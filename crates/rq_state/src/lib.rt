@@ -31,7 +31,9 @@ pub use laws::{any_order_makes_the_state, parts_make_the_state};
 pub use lent_state::LentState;
 pub use members::{Definition, Last, Mark, Note, OpKind, Registrant};
 pub use orders::{Ordinal, order};
-pub use readers::{read, read_in};
+pub use readers::{read, read_in, read_up_to};
 pub use state::State;
 pub use tables::empty_lists;
-pub use writers::{Spell, put_registrant, registrant_size, spell, spell_lent, spelled_len};
+pub use writers::{
+    Spell, put_registrant, registrant_size, spell, spell_carried, spell_lent, spelled_len,
+};

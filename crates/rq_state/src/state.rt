@@ -44,8 +44,11 @@ impl Model for State {
 }
 
 impl State {
-    /// The most records before a state that is spelled.
+    /// The most records before a state that is spelled in a log.
     pub const RECORDS: u64 = 4_294_967_295;
+
+    /// The most records before a state that is spelled in a carried file.
+    pub const CARRIED_RECORDS: u64 = 9_223_372_036_854_775_807;
 
     /// The state before the first record. It takes no memory.
     pub fn empty(alloc: Global) -> State

@@ -29,6 +29,13 @@ pub fn spell(alloc: Global, state: &State) -> Result<Vec<u8>, Fault>
     requires { state.now.next ≤ 4294967295 }
     ensures { Spelled state.now result }
 {
+    spell_carried(alloc, state)
+}
+
+/// The same of a state of any next record number, as that of a carried file may be.
+pub fn spell_carried(alloc: Global, state: &State) -> Result<Vec<u8>, Fault>
+    ensures { Spelled state.now result }
+{
     spell_lent(alloc, &state.fields().lent())
 }
 
@@ -37,7 +44,6 @@ pub fn spell_lent<R: Spell, E: Spell, N: Spell>(
     alloc: Global,
     state: &LentState<'_, R, E, N>,
 ) -> Result<Vec<u8>, Fault>
-    requires { AreCountable state.now }
     ensures { IsWritten (text_of R.spelling E.spelling N.spelling state.now) result }
 {
     let size = lent_len(state);

@@ -5,6 +5,7 @@ use Rattle.std.specs.Io.KnownBytes.{Appends}
 use Rattle.rq_model.specs.Reports.{IsReport}
 use Rattle.rq_model.specs.Checkpoints.{IsReportAt, TrueAt}
 use Rattle.rq_model.specs.LogLaws.{TrueSaysTheSame}
+use Rattle.rq_model.specs.StateSpelling.{log_next}
 use Rattle.rq_model.specs.Fates.{with_aborts}
 use Rattle.rq_model.specs.FateLaws.{ReportAccounts}
 use Rattle.rq_model.specs.AllFiles.{FilesReportAccounts}
@@ -60,8 +61,8 @@ files_account accounts tells b offset old new (Ok done) h = λ version log files
       text,
       h.2,
       record {
-        requests = λ p low. accounts version log files newest records text p low are report;
-        clients = tells version log files newest records text are report;
+        requests = λ p low. accounts log_next version log files newest records text p low are report;
+        clients = tells log_next version log files newest records text are report;
       },
     )
 files_account accounts tells b offset old new (Err e) h = λ version log files newest records are bytes at. tt

@@ -7,7 +7,7 @@ use Rattle.std.proofs.KnownBytes.{Keeps-refl}
 use Rattle.rq_model.specs.Frames.{AreBytes, HasHeader, header, log_limit}
 use Rattle.rq_model.specs.Records.{Version}
 use Rattle.rq_model.specs.States.{State}
-use Rattle.rq_model.specs.StateSpelling.{SpellsState}
+use Rattle.rq_model.specs.StateSpelling.{SpellsState, carried_next}
 use Rattle.rq_model.specs.Checkpoints.{IsCheckpointAt, TrueAt}
 use Rattle.rq_model.specs.LogLaws.{EveryLogHasReport, OneVersion, TrueSaysTheSame}
 use Rattle.rq_model.proofs.Restarts.{header_long}
@@ -16,7 +16,7 @@ use Rattle.rq_model.specs.Reports.{IsReport, IsText}
 use Rattle.rq_front.specs.Chains.{IsHeaded, Refused, IsLog}
 use Rattle.rq_record.specs.declared.fault.Fault.{Fault}
 use Rattle.rq_record.specs.declared.fault.Fault.TheVariants as faults
-use Rattle.rq_judged.specs.Refusals.{RefusedAt}
+use Rattle.rq_judged.specs.Refusals.{RefusedAt, RefusedUpTo}
 use Rattle.rq_restart.specs.Tails.{StaysOpen}
 use Rattle.rq_writer.specs.Made.{Made}
 use Rattle.rq_report.specs.Streams.{Delivers, Reports}
@@ -60,7 +60,14 @@ one_kept b offset kept other x y =
     let same : 9 ∷ kept ≡ 9 ∷ other = sym x.body ∙ y.body in
     cc
 
--- no log is refused from any offset, and has no true checkpoint
+-- no log is refused from any offset
+pub refused_from : (most : ℕ) (b : List ℕ) (offset : ℕ) (e : Fault) → Refused b e → RefusedUpTo most b offset e
+refused_from most b offset faults.TooLong h = h
+refused_from most b offset faults.NotALog h = h
+refused_from most b offset faults.Resources h = h
+refused_from most b offset _ h = absurd h
+
+-- and has no true checkpoint
 no_log_at : (b : List ℕ) (offset : ℕ) (e : Fault) → Refused b e → HasNoReportAt b offset e
 no_log_at b offset faults.TooLong h = (
   h,
@@ -102,6 +109,7 @@ stays_open b _ h = h
 pub refuses : (work : Work) (b : List ℕ) (e : Fault) → Refused b e → IsWhyNot work b e
 refuses works.Report b e h = h
 refuses (works.ReportAt offset) b e h = no_log_at b offset e h
+refuses (works.CarriedReport offset) b e h = refused_from carried_next b offset e h
 refuses works.Audit b e h = h
 refuses works.Close b e h = stays_open b e h
 refuses works.Upgrade b e h = h

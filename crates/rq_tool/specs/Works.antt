@@ -9,15 +9,16 @@ use Rattle.rq_model.specs.Closing.{IsClosed, StandsFor}
 use Rattle.rq_model.specs.Upgrading.{IsUpgraded, SaysTheSame}
 use Rattle.rq_model.specs.Reports.{IsReport}
 use Rattle.rq_model.specs.Checkpoints.{Audited, IsAudit, IsReportAt, TrueAt}
+use Rattle.rq_model.specs.Carrying.{IsCarriedReport}
 use Rattle.rq_record.specs.declared.fault.Fault.{Fault}
 use Rattle.rq_record.specs.declared.fault.Fault.TheVariants.{Resources, TooLong}
 use Rattle.rq_front.specs.Chains.{IsLog, Refused}
-use Rattle.rq_judged.specs.Refusals.{RefusedAt}
+use Rattle.rq_judged.specs.Refusals.{RefusedAt, RefusedCarried}
 use Rattle.rq_restart.specs.Tails.{StaysOpen}
 use Rattle.rq_writer.specs.Made.{Made}
 use Rattle.rq_tool.specs.Streams.{Writes}
 use Rattle.rq_tool.specs.declared.works.Work.{Work}
-use Rattle.rq_tool.specs.declared.works.Work.TheVariants.{Report, ReportAt, Audit, Close, Upgrade}
+use Rattle.rq_tool.specs.declared.works.Work.TheVariants.{Report, ReportAt, CarriedReport, Audit, Close, Upgrade}
 
 abbrev pub truth_text : Bool → List ℕ
 truth_text true = codes "true"
@@ -54,6 +55,7 @@ HasNoReportAt b offset e = RefusedAt b offset e × (TrueAt b offset → e ≡ Re
 abbrev pub IsTextOf : Work → List ℕ → List ℕ → Type 0
 IsTextOf Report b text = IsLog b × IsReport b text
 IsTextOf (ReportAt offset) b text = IsLog b × IsReportAt b offset text
+IsTextOf (CarriedReport offset) b text = IsLog b × IsCarriedReport b offset text
 IsTextOf Audit b text = IsLog b × IsAuditText b text
 IsTextOf Close b text = IsClosedLog b text
 IsTextOf Upgrade b text = IsUpgradedLog b text
@@ -62,6 +64,7 @@ IsTextOf Upgrade b text = IsUpgradedLog b text
 abbrev pub IsWhyNot : Work → List ℕ → Fault → Type 0
 IsWhyNot Report b e = Refused b e
 IsWhyNot (ReportAt offset) b e = HasNoReportAt b offset e
+IsWhyNot (CarriedReport offset) b e = RefusedCarried b offset e
 IsWhyNot Audit b e = Refused b e
 IsWhyNot Close b e = StaysOpen b e
 IsWhyNot Upgrade b e = Refused b e

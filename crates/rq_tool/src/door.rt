@@ -8,7 +8,9 @@ ghost use Rattle.rq_tool.specs.Streams.{PutsText, ReadFaults, TakesInput, WriteF
 ghost use Rattle.rq_tool.specs.Works.{IsTextOf, IsWhyNot};
 
 use crate::input::read_log;
-use crate::works::{Work, audited_lines, closed_log, put_report, put_report_at, upgraded_log};
+use crate::works::{
+    Work, audited_lines, closed_log, put_carried_report, put_report, put_report_at, upgraded_log,
+};
 use rq_report::{Input, Output, write_all};
 use rq_restart::{Fault, Gate, Plan};
 use std::alloc::Global;
@@ -33,6 +35,9 @@ fn put<R: Threads + Sync, O: Output, G: Gate + Sync>(
     match work {
         Work::Report => put_report(rt, alloc, bytes, output, plan, gate),
         Work::ReportAt(offset) => put_report_at(rt, alloc, bytes, offset, output, plan, gate),
+        Work::CarriedReport(offset) => {
+            put_carried_report(rt, alloc, bytes, offset, output, plan, gate)
+        }
         Work::Audit => {
             let text = audited_lines(rt, alloc, bytes, plan)?;
             write_all(output, text.as_bytes())

@@ -3,9 +3,11 @@
 ghost use Rattle.std.specs.Prelude.{◌≡◌, ◌<◌, ◌++◌, IfOk, IfErr, OnOk, map};
 ghost use Rattle.std.specs.Prelude.{string_bytes};
 ghost use Rattle.std.specs.List.{flat_map};
+ghost use Rattle.rq_model.specs.Carrying.{IsCarriedReport};
 ghost use Rattle.rq_model.specs.Checkpoints.{IsReportAt};
 ghost use Rattle.rq_model.specs.Reports.{IsReport};
 ghost use Rattle.rq_front.specs.Chains.{IsLog, Refused};
+ghost use Rattle.rq_judged.specs.Refusals.{RefusedCarried};
 ghost use Rattle.rq_restart.specs.Audits.{audited_of};
 ghost use Rattle.rq_tool.specs.Streams.{PutsText};
 ghost use Rattle.rq_tool.specs.Works.{HasNoReportAt, IsTextOf, IsWhyNot, audit_line};
@@ -14,7 +16,8 @@ ghost use Rattle.rq_tool.specs.declared.works.Work.TheVariants.{Audit, Close, Up
 use crate::input::are_bytes;
 use rq_report::{Output, write_report_by};
 use rq_restart::{
-    Fault, Gate, LogBytes, Plan, audit_of, closed, restart_own, restart_own_at, upgrade,
+    Fault, Gate, LogBytes, Plan, audit_of, closed, restart_own, restart_own_at,
+    restart_own_carried, upgrade,
 };
 use std::alloc::{AllocError, Global};
 use std::fmt::Write;
@@ -29,6 +32,9 @@ pub enum Work {
     Report,
     /// Its report from the checkpoint at an offset.
     ReportAt(u64),
+    /// Its report from the checkpoint at an offset, if it is a carried file that is read as a log: record
+    /// numbers may be greater there than in a log.
+    CarriedReport(u64),
     /// A line for each checkpoint of its front, rising: its offset, and whether it is true.
     Audit,
     /// The closed log: its front, and behind it an ABORT for each unit that is open.
@@ -86,6 +92,25 @@ pub(crate) fn put_report_at<R: Threads + Sync, O: Output, G: Gate + Sync>(
     are_bytes(&bytes);
     let from_there = restart_own_at(rt, alloc, bytes, offset, plan, gate)?;
     write_report_by(rt, alloc, &from_there, plan, output)
+}
+
+/// Writes the report of a carried file that is read as a log, from the checkpoint at an offset.
+pub(crate) fn put_carried_report<R: Threads + Sync, O: Output, G: Gate + Sync>(
+    rt: &R,
+    alloc: Global,
+    bytes: Vec<u8>,
+    offset: u64,
+    output: &mut O,
+    plan: &Plan,
+    gate: &G,
+) -> Result<(), Fault>
+    requires { O.faults output.old < 18446744073709551615 }
+    ensures { PutsText (λ text. IsLog bytes.items × IsCarriedReport bytes.items offset text)
+        (RefusedCarried bytes.items offset) (O.faults output.old) (O.faults output.new)
+        (O.contents output.old) (O.contents output.new) result }
+{
+    let carried = restart_own_carried(rt, alloc, bytes, offset, plan, gate)?;
+    write_report_by(rt, alloc, &carried, plan, output)
 }
 
 fn put_line(text: &mut String, offset: u64, truth: bool) -> Result<(), AllocError>

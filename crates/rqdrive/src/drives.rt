@@ -5,14 +5,16 @@ ghost use Rattle.rq_live.specs.Managers.{IsInOrder, stand_of};
 use crate::answers::{Answer, told};
 use crate::looks::{Shows, looked};
 use crate::openings::gone_on;
-use crate::times::time;
+use crate::times::{time, time_file};
 use crate::words::{Unanswered, first_word, number_in};
 use rq_device::{Device, Memory};
 use rq_live::{Manager, NotDone};
 use rq_record::{Record, UnitNo, Version};
 use rq_writer::{ScriptLine, line_at};
 use std::alloc::Global;
+use std::fs::{File, Files};
 use std::rt::Clock;
+use std::str;
 use std::thread::Threads;
 
 // Does a record by the call of its kind. A BEGIN's own number does not count.
@@ -146,8 +148,13 @@ where
     }
 }
 
-// Answers each line.
-fn drive<R, D>(rt: &R, m: &mut Manager<D>, version: Version, lines: &[u8]) -> Result<(), Unanswered>
+// Answers each line up to one that begins anew, and gives that back and what is behind it.
+fn drive<'a, R, D>(
+    rt: &R,
+    m: &mut Manager<D>,
+    version: Version,
+    lines: &'a [u8],
+) -> Result<&'a [u8], Unanswered>
 where
     R: Print + AllocGlobal + Threads + Sync,
     D: Device + Shows + Drop,
@@ -155,7 +162,7 @@ where
 {
     let mut rest = lines;
     for number in 1..u64::MAX {
-        if rest.is_empty() {
+        if rest.is_empty() || rest.starts_with(b"new ".as_slice()) {
             break;
         }
         let (text, after) = line_at(number, rest)?;
@@ -163,19 +170,36 @@ where
         println!(rt; "{answer}")?;
         rest = after;
     }
-    Ok(())
+    Ok(rest)
 }
 
-/// Drives a new manager of the version that the first line tells by the lines behind it; or, if
-/// that tells a count, times a manager.
-pub(crate) fn drive_new<R>(rt: &R, lines: &[u8]) -> Result<(), Unanswered>
+// Times a manager over a new file: the words are a count, and the file's path.
+fn timed_file<R>(rt: &R, words: &[u8]) -> Result<(), Unanswered>
 where
-    R: Print + Clock + AllocGlobal + Threads + Sync,
+    R: Files<File = File> + Print + Clock + AllocGlobal,
+{
+    let (count, path) = first_word(words);
+    match str::from_utf8(path) {
+        Ok(path) => time_file(rt, number_in(count)?, path),
+        Err(_) => Err(Unanswered::Line),
+    }
+}
+
+// Drives a new manager of the version that the first line tells by the lines behind it, up to the next
+// such line; or, if that tells a count, times a manager. Gives back what is left.
+fn drive_one<'a, R>(rt: &R, lines: &'a [u8]) -> Result<&'a [u8], Unanswered>
+where
+    R: Files<File = File> + Print + Clock + AllocGlobal + Threads + Sync,
 {
     let (head, rest) = line_at(1, lines)?;
     let (word, told) = first_word(head);
     if word == b"time".as_slice() {
-        return time(rt, number_in(told)?);
+        time(rt, number_in(told)?)?;
+        return Ok(rest);
+    }
+    if word == b"file".as_slice() {
+        timed_file(rt, told)?;
+        return Ok(rest);
     }
     let version = if told == b"1".as_slice() {
         Version::One
@@ -184,4 +208,19 @@ where
     };
     let mut m = Manager::new(rt.alloc(), version, Memory::new(rt.alloc()))?;
     drive(rt, &mut m, version, rest)
+}
+
+/// Drives one new manager after the other, each by its lines.
+pub(crate) fn drive_new<R>(rt: &R, lines: &[u8]) -> Result<(), Unanswered>
+where
+    R: Files<File = File> + Print + Clock + AllocGlobal + Threads + Sync,
+{
+    let mut rest = lines;
+    for _ in 0..u64::MAX {
+        if rest.is_empty() {
+            break;
+        }
+        rest = drive_one(rt, rest)?;
+    }
+    Ok(())
 }

@@ -13,6 +13,7 @@ mod words;
 use crate::drives::drive_new;
 use crate::words::Unanswered;
 use rq_file::read_limited;
+use std::fs::{File, Files};
 use std::process::ExitCode;
 use std::rt::Clock;
 use std::thread::Threads;
@@ -29,7 +30,7 @@ fn main(rt: HostRuntime) -> ExitCode {
 // Answers the lines of standard input.
 fn start<R>(rt: &R) -> Result<(), Unanswered>
 where
-    R: Input + Print + Clock + AllocGlobal + Threads + Sync,
+    R: Files<File = File> + Input + Print + Clock + AllocGlobal + Threads + Sync,
 {
     let lines = read_limited(rt, rt.reader())?;
     drive_new(rt, &lines)

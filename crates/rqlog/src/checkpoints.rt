@@ -67,7 +67,7 @@ pub(crate) fn carried_on<R: Threads + Sync>(
     drops: bool,
 ) -> Result<(RedoneFront, Option<LeftOut>, Vec<u8>), Refusal> {
     let (front, left_out) = redone_log(rt, alloc, log, plan, drops)?;
-    if front.state.next() >= State::RECORDS {
+    if front.state.next() >= State::CARRIED_RECORDS {
         return Err(Refusal::Ended);
     }
     let made = carried(alloc, &front)?;

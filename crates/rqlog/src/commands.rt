@@ -85,7 +85,7 @@ fn tell_carried<R: Print>(rt: &R, json: bool, next: u64, bytes: u64) -> io::Resu
 // Says how many records may still be numbered, if a log that is carried on could need more before
 // it is full.
 fn warn_of_end<R: Eprint>(rt: &R, next: u64) {
-    let left = State::RECORDS.saturating_sub(next);
+    let left = State::CARRIED_RECORDS.saturating_sub(next);
     if left < OF_FULL_LOG {
         let _ = eprintln!(rt;
             "rqlog: {left} records more, and numbers end: begin a new log before"
@@ -153,9 +153,9 @@ pub(crate) fn print_report<R>(rt: &R, path: &str, plan: &Plan) -> Result<(), Ref
 where
     R: Files<File = File> + Print + Clock + AllocGlobal + Threads + Sync,
 {
-    let (is_carried, from) = begun_log(rt, opened(rt, path)?)?;
+    let (is_carried, from) = begun_log(rt, opened(rt, path, Stream::Log)?)?;
     let work = if is_carried {
-        Work::ReportAt(CARRIED_AT as u64)
+        Work::CarriedReport(CARRIED_AT as u64)
     } else {
         Work::Report
     };
@@ -230,7 +230,7 @@ where
     let rule = replaced_by(words);
     rule.expect_replaceable(rt, out)
         .map_err(|error| failed(Stream::Out, error))?;
-    let log = log_from(rt, opened(rt, path)?)?;
+    let log = log_from(rt, opened(rt, path, Stream::Log)?)?;
     let (made, left) = closed_of(rt, log, plan, true)?;
     rule.put_over(rt, out, &[&made])
         .map_err(|error| failed(Stream::Out, error))?;
@@ -269,7 +269,7 @@ pub(crate) fn print_audit<R>(rt: &R, path: &str, plan: &Plan) -> Result<(), Refu
 where
     R: Files<File = File> + Print + Clock + AllocGlobal + Threads + Sync,
 {
-    let (is_carried, from) = begun_log(rt, opened(rt, path)?)?;
+    let (is_carried, from) = begun_log(rt, opened(rt, path, Stream::Log)?)?;
     if is_carried {
         return tell_audit(rt, from, plan);
     }

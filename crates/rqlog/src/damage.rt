@@ -53,6 +53,8 @@ pub(crate) struct BadEnd {
     total: usize,
     // Why no crash left what stands there; none if one can have.
     damage: Option<Damage>,
+    // Whether a word of the command leaves it out.
+    is_left_out: bool,
 }
 
 impl BadEnd {
@@ -62,6 +64,17 @@ impl BadEnd {
             end,
             total,
             damage: Some(damage),
+            is_left_out: true,
+        }
+    }
+
+    /// The same of a log that is not served.
+    pub(crate) fn not_served(end: Edge, total: usize, damage: Damage) -> BadEnd {
+        BadEnd {
+            end,
+            total,
+            damage: Some(damage),
+            is_left_out: false,
         }
     }
 
@@ -92,6 +105,7 @@ impl fmt::Display for BadEnd {
         self.put_damage(f)?;
         f.write_str(match self.damage {
             None => ": use rqlog recover",
+            Some(_) if !self.is_left_out => ": use rqlook check, rqlook mend and rqlook salvage",
             Some(_) => ": use rqlook check, rqlook mend and rqlook salvage; --drop leaves it out",
         })
     }
@@ -116,8 +130,8 @@ pub(crate) fn tell_left_out<R: Eprint>(rt: &R, left: Option<LeftOut>) {
     );
 }
 
-// The same damage of a log, before whose last bytes stand so many.
-fn moved(damage: Damage, before: usize) -> Damage {
+/// The same damage of a log, before whose last bytes stand so many.
+pub(crate) fn moved(damage: Damage, before: usize) -> Damage {
     match damage {
         Damage::Right(place) => Damage::Right(place.saturating_add(before)),
         Damage::Unsearched(place) => Damage::Unsearched(place.saturating_add(before)),
@@ -142,6 +156,7 @@ fn bad_end(
         end,
         total: last.total,
         damage: damage.map(|damage| moved(damage, last.before)),
+        is_left_out: true,
     }))
 }
 

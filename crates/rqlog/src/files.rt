@@ -2,7 +2,7 @@
 
 use crate::refusal::{Refusal, Stream, failed};
 use rq_file::Replaces;
-use rq_journal::{Ending, Growth};
+use rq_journal::Growth;
 use rq_log_file::HeldLog;
 use std::fs::{File, Files, OpenFile};
 use std::io::{self, Seek, SeekFrom, Write};
@@ -18,7 +18,8 @@ fn take_back(file: &mut File, used: usize) -> Stream {
 }
 
 /// Writes the frames that were gathered behind the front of a log of which so many bytes were read, and
-/// tells the disk. If that fails, what was written is taken back, as far as the system lets us.
+/// tells the disk of them, and of the log's name before. If that fails, what was written is taken back, as
+/// far as the system lets us.
 pub(crate) fn write_frames<R>(
     rt: &R,
     held: &mut HeldLog,
@@ -26,8 +27,11 @@ pub(crate) fn write_frames<R>(
     growth: &Growth,
 ) -> Result<(), Refusal>
 where
-    R: Files<File = File>,
+    R: Files<File = File> + AllocGlobal,
 {
+    if let Err(error) = held.sync_name(rt) {
+        return Err(failed(Stream::LogAsItWas, error));
+    }
     held.expect_as_read(rt, read)?;
     let used = growth.end().used;
     match write_behind(held.file(), read, used, growth.frames()) {
@@ -36,24 +40,6 @@ where
             let left = take_back(held.file(), used);
             Err(Refusal::Failed(left, error))
         }
-    }
-}
-
-/// Cuts a carried file, of which so many bytes were read, to its front, writes the tail behind that,
-/// and tells the disk. A log that is left between is recovered again.
-pub(crate) fn write_ending<R>(
-    rt: &R,
-    held: &mut HeldLog,
-    read: usize,
-    ending: &Ending,
-) -> Result<(), Refusal>
-where
-    R: Files<File = File>,
-{
-    held.expect_as_read(rt, read)?;
-    match write_behind(held.file(), read, ending.end.used, &ending.tail) {
-        Ok(()) => Ok(()),
-        Err(error) => Err(Refusal::Failed(Stream::LogToRecover, error)),
     }
 }
 

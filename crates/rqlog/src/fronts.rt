@@ -1,10 +1,10 @@
 //! Where the front of a log ends, plain or carried on.
 
-ghost use Rattle.std.specs.Prelude.{◌≤◌, List, ℕ, length, IfOk, OnOk};
+ghost use Rattle.std.specs.Prelude.{List, ℕ, OnOk};
 ghost use Rattle.rq_judged.specs.GrowingFronts.{GoesAlong};
 
 use crate::damage::{LINK_LEN, LastBytes, LeftOut, expect_end};
-use crate::inputs::{LentLog, bytes_from};
+use crate::inputs::{LentLog, bytes_from, read_piece};
 use crate::refusal::{Refusal, Stream, failed};
 use byteorder::{BigEndian, ByteOrder};
 use rq_front::HEADER_LEN;
@@ -16,7 +16,7 @@ use rq_restart::RedoneFront;
 use rq_state::State;
 use std::alloc::{AllocError, Global};
 use std::fs::File;
-use std::io::{ErrorKind, Read, Seek, SeekFrom};
+use std::io::{Read, Seek, SeekFrom};
 use std::os::unix::fs::FileExt;
 use std::thread::Threads;
 
@@ -50,9 +50,9 @@ impl OpenLog {
         Ok(())
     }
 
-    /// Whether a state behind one record more can be spelled: it numbers 4,294,967,295 at most.
+    /// Whether a state behind one record more can be spelled: it numbers 9,223,372,036,854,775,807 at most.
     pub(crate) fn has_number(&self) -> bool {
-        self.next < State::RECORDS
+        self.next < State::CARRIED_RECORDS
     }
 }
 
@@ -108,20 +108,6 @@ fn begins_carried(file: &File) -> bool {
     }
 }
 
-// One read, which begins again if a signal ends it.
-fn read_piece(file: &mut File, piece: &mut [u8]) -> Result<usize, Refusal>
-    ensures { IfOk result (λ count. count ≤ length piece.new) }
-{
-    for _ in 0..u64::MAX {
-        match file.read(piece) {
-            Ok(count) => return Ok(count),
-            Err(error) if error.kind() == ErrorKind::Interrupted => {}
-            Err(error) => return Err(Refusal::Failed(Stream::Log, error)),
-        }
-    }
-    Err(Refusal::Refused(Stream::Log, Fault::ReadFailed))
-}
-
 // Room for what is read at a time. (A function of its own, since the check of one that knows its
 // bytes would look at each.)
 fn room_for_piece(alloc: Global) -> Result<Vec<u8>, AllocError> {
@@ -144,7 +130,7 @@ where
     let mut piece = room_for_piece(rt.alloc())?;
     let mut total = 0usize;
     for _ in 0..u64::MAX {
-        let count = read_piece(file, &mut piece)?;
+        let count = read_piece(file, &mut piece, Stream::Log)?;
         front.feed(rt, rt.alloc(), &piece[..count], plan)?;
         if count == 0 {
             break;

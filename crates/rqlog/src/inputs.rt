@@ -1,12 +1,14 @@
-//! Reading logs whole.
+//! Reading logs, whole or piece by piece.
+
+ghost use Rattle.std.specs.Prelude.{◌≤◌, length, IfOk};
 
 use crate::refusal::{Refusal, Stream, failed};
 use rq_file::read_limited;
 use rq_front::HEADER_LEN;
-use rq_journal::read_as_log;
+use rq_journal::{Fault, read_as_log};
 use rq_record::LogBytes;
 use std::fs::{self, File, Files};
-use std::io::{Chain, Cursor, Read};
+use std::io::{Chain, Cursor, ErrorKind, Read};
 
 /// A log that was read.
 #[derive(Drop)]
@@ -69,12 +71,30 @@ pub(crate) fn begun_log<A: AllocGlobal>(
 }
 
 /// Opens a log to read it.
-pub(crate) fn opened<R>(rt: &R, path: &str) -> Result<File, Refusal>
+pub(crate) fn opened<R>(rt: &R, path: &str, stream: Stream) -> Result<File, Refusal>
 where
     R: Files<File = File>,
 {
     match fs::open(rt, path) {
         Ok(file) => Ok(file),
-        Err(error) => Err(Refusal::Failed(Stream::Log, error)),
+        Err(error) => Err(Refusal::Failed(stream, error)),
     }
+}
+
+/// One read, which begins again if a signal ends it.
+pub(crate) fn read_piece<F: Read>(
+    from: &mut F,
+    piece: &mut [u8],
+    stream: Stream,
+) -> Result<usize, Refusal>
+    ensures { IfOk result (λ count. count ≤ length piece.new) }
+{
+    for _ in 0..u64::MAX {
+        match from.read(piece) {
+            Ok(count) => return Ok(count),
+            Err(error) if error.kind() == ErrorKind::Interrupted => {}
+            Err(error) => return Err(Refusal::Failed(stream, error)),
+        }
+    }
+    Err(Refusal::Refused(stream, Fault::ReadFailed))
 }

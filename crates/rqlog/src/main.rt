@@ -1,12 +1,15 @@
-//! The program `rqlog`: begins logs, appends to them, serves them, makes them whole after a crash, marks
-//! them with checkpoints, and carries them on into new files.
+//! The program `rqlog`: begins logs, appends to them, serves them, goes along with them, makes them whole
+//! after a crash, marks them with checkpoints, and carries them on into new files.
 #![tactic(auto)]
 
+mod carrier;
 mod checkpoints;
 mod commands;
+mod copies;
 mod damage;
 mod expected;
 mod files;
+mod follow;
 mod fronts;
 mod inputs;
 mod lines;
@@ -15,13 +18,15 @@ mod recovery;
 mod refusal;
 mod refused_lines;
 mod serve;
+mod streams;
 mod words;
 
 use crate::commands::{carry, checkpoint, close, new_log, print_audit, print_report};
+use crate::follow::stand_by;
 use crate::lines::append;
 use crate::recovery::recover;
 use crate::refusal::Refusal;
-use crate::serve::serve_log;
+use crate::serve::{CARRY_AT, serve_log};
 use crate::words::program;
 use clap::ArgMatches;
 use rq_file::hold_standard;
@@ -89,12 +94,19 @@ where
         return new_log(rt, words);
     }
     let plan = plan_of(words)?;
+    if name == "follow" {
+        return stand_by(rt, &plan, words);
+    }
     let path = words.get_str("LOG").unwrap_or("-");
     match name {
         "append" => append(rt, path, &plan, words),
         "checkpoint" => checkpoint(rt, path, &plan, words),
         "carry" => carry(rt, path, &plan, words),
-        "serve" => serve_log(rt, path, &plan, words.get_flag("create")),
+        "serve" => {
+            let least = words.get_one::<u32>("carry-at");
+            let least = least.map_or(CARRY_AT, |least| least as usize);
+            serve_log(rt, path, &plan, words.get_flag("create"), least)
+        }
         "restart" => print_report(rt, path, &plan),
         "close" => close(rt, path, &plan, words),
         "recover" => {

@@ -1,20 +1,19 @@
 //! A log that a crash left is made whole where it stands.
 
 ghost use Rattle.std.specs.Arc.{arc_slice_items};
-ghost use Rattle.std.specs.Prelude.{IfOk, length};
+ghost use Rattle.std.specs.Prelude.{◌≡◌, IfOk, length};
 ghost use Rattle.rq_live.specs.Kernels.{StandsWithin};
 
 use crate::damage::{BadEnd, LastBytes, LeftOut, left_out, tell_left_out};
-use crate::files::write_ending;
-use crate::inputs::{bytes_from, rest_of_log};
+use crate::inputs::bytes_from;
 use crate::new_log::put_new;
 use crate::refusal::{Refusal, Stream, failed, untold};
 use rq_file::{NamedFile, folder_within};
-use rq_journal::{CARRIED_AT, Damage, Fault, MadeWhole, NotRecovered, Plan};
+use rq_journal::{Damage, Fault, Plan};
 use rq_judged::Edge;
 use rq_live::{Kernel, Manager};
 use rq_log_file::{HeldLog, Hold, LogFile};
-use rq_record::{LogBytes, Version};
+use rq_record::Version;
 use rq_reopen::{FoundLog, NotOpened, Opening};
 use std::alloc::{AllocError, Global};
 use std::fs::{File, Files, OpenFile, OpenOptions};
@@ -39,20 +38,6 @@ struct Recovered {
     bytes: usize,
 }
 
-// How a carried file goes on; damage stays, unless it is to be dropped.
-fn made_whole<R>(rt: &R, bytes: &[u8], plan: &Plan, drops: bool) -> Result<MadeWhole, Refusal>
-where
-    R: AllocGlobal + Threads + Sync,
-{
-    match MadeWhole::made_at(rt, rt.alloc(), bytes, CARRIED_AT as u64, plan, drops) {
-        Ok(made) => Ok(made),
-        Err(NotRecovered::Log(fault)) => Err(Refusal::from(fault)),
-        Err(NotRecovered::Damaged(ending, damage)) => {
-            Err(Refusal::Damaged(BadEnd::damaged(ending.end, bytes.len(), damage)))
-        }
-    }
-}
-
 // Refuses a log that would be too long with the ABORTs of the units that are open behind its front.
 fn expect_room(found: &FoundLog) -> Result<(), Refusal> {
     if found.kernel.has_room_for_ends() {
@@ -62,13 +47,16 @@ fn expect_room(found: &FoundLog) -> Result<(), Refusal> {
     }
 }
 
-// How a manager goes on behind a plain log; damage stays, unless it is to be dropped.
-fn opened_log<R>(rt: &R, whole: &ArcSlice<u8>, plan: &Plan, drops: bool) -> Result<Opening, Refusal>
+// How a manager goes on behind what a crash left of a log, plain or carried on; damage stays, unless it is to
+// be dropped. Payloads are copied, as when it is served.
+fn opened_log<R>(rt: &R, bytes: &mut [u8], plan: &Plan, drops: bool) -> Result<Opening, Refusal>
 where
     R: AllocGlobal + Threads + Sync,
-    ensures { IfOk result (λ o. StandsWithin o.found.kernel (length (arc_slice_items whole.now))) }
+    ensures same { bytes.new ≡ bytes.old }
+    ensures within { IfOk result (λ o. StandsWithin o.found.kernel (length bytes.old)) }
 {
-    match Opening::of(rt, rt.alloc(), &LogBytes::shared(whole), plan, drops) {
+    let total = bytes.len();
+    match Opening::of_file(rt, rt.alloc(), bytes, plan, drops) {
         Ok(opened) => {
             expect_room(&opened.found)?;
             Ok(opened)
@@ -76,7 +64,7 @@ where
         Err(NotOpened::Log(fault)) => Err(Refusal::from(fault)),
         Err(NotOpened::Damaged(found, damage)) => {
             expect_room(&found)?;
-            Err(Refusal::Damaged(BadEnd::damaged(found.end, whole.len(), damage)))
+            Err(Refusal::Damaged(BadEnd::damaged(found.end, total, damage)))
         }
     }
 }
@@ -172,14 +160,17 @@ pub(crate) fn why_spent(file: &LogFile<HeldLog>, stream: Stream) -> Refusal {
     Refusal::Failed(stream, error)
 }
 
-// Goes on from a plain log that was read, which has room for the ABORTs of the units that are open
-// behind its front: cuts off what stands there, and writes them. How many bytes it has then.
+// Goes on from a log that was read, which has room for the ABORTs of the units that are open behind its
+// front: tells the disk of its name, cuts off what stands there, and writes them. How many bytes it has then.
 fn go_on<R>(rt: &R, held: HeldLog, whole: ArcSlice<u8>, kernel: Kernel) -> Result<usize, Refusal>
 where
     R: Files<File = File> + AllocGlobal,
     requires { StandsWithin kernel (length (arc_slice_items whole)) }
 {
     let read = whole.len();
+    if let Err(error) = held.sync_name(rt) {
+        return Err(failed(Stream::Log, error));
+    }
     held.expect_as_read(rt, read)?;
     let mut manager = Manager::over(LogFile::new(held, Some(whole)), kernel);
     match manager.resume(rt.alloc(), read) {
@@ -188,27 +179,27 @@ where
     }
 }
 
-// Makes a plain log whole where it stands. One that is whole, with no open unit, is not written.
-fn recover_plain<R>(
+// Makes a log of these bytes whole where it stands. One that is whole, with no open unit, is not written.
+fn make_whole<R>(
     rt: &R,
     path: &str,
     held: HeldLog,
-    whole: ArcSlice<u8>,
+    mut bytes: Vec<u8>,
     plan: &Plan,
     drops: bool,
 ) -> Result<Recovered, Refusal>
 where
     R: Files<File = File> + AllocGlobal + Threads + Sync,
 {
-    let opened = opened_log(rt, &whole, plan, drops)?;
+    let opened = opened_log(rt, &mut bytes, plan, drops)?;
     let (version, end, cut) = (opened.found.version, opened.found.end, opened.cut.len());
-    let left = dropped(rt.alloc(), &whole, version, end, opened.damage)?;
+    let left = dropped(rt.alloc(), &bytes, version, end, opened.damage)?;
     let kept = kept_cut(rt, path, end.used, &opened.cut)?;
     let units = opened.found.kernel.open_count();
-    let bytes = if cut == 0 && units == 0 {
-        whole.len()
+    let len = if cut == 0 && units == 0 {
+        bytes.len()
     } else {
-        go_on(rt, held, whole, opened.found.kernel)?
+        go_on(rt, held, ArcSlice::from_vec(bytes)?, opened.found.kernel)?
     };
     Ok(Recovered {
         left,
@@ -216,36 +207,7 @@ where
         offset: end.used,
         cut,
         units,
-        bytes,
-    })
-}
-
-// Makes a carried file whole where it stands.
-fn recover_carried<R>(
-    rt: &R,
-    path: &str,
-    mut held: HeldLog,
-    bytes: &[u8],
-    plan: &Plan,
-    drops: bool,
-) -> Result<Recovered, Refusal>
-where
-    R: Files<File = File> + AllocGlobal + Threads + Sync,
-{
-    let made = made_whole(rt, bytes, plan, drops)?;
-    let ending = &made.ending;
-    let left = dropped(rt.alloc(), bytes, ending.version, ending.end, made.damage)?;
-    let kept = kept_cut(rt, path, ending.end.used, &made.cut)?;
-    if !made.cut.is_empty() || !ending.tail.is_empty() {
-        write_ending(rt, &mut held, bytes.len(), ending)?;
-    }
-    Ok(Recovered {
-        left,
-        kept,
-        offset: ending.end.used,
-        cut: made.cut.len(),
-        units: ending.units,
-        bytes: ending.end.used.saturating_add(ending.tail.len()),
+        bytes: len,
     })
 }
 
@@ -279,12 +241,8 @@ where
     R: Files<File = File> + Print + Eprint + AllocGlobal + Threads + Sync,
 {
     let mut held = HeldLog::open(rt, path, Hold::ToWrite)?;
-    let read = rest_of_log(rt, held.file())?;
-    let done = if read.is_carried {
-        recover_carried(rt, path, held, &read.bytes, plan, drops)?
-    } else {
-        recover_plain(rt, path, held, ArcSlice::from_vec(read.bytes)?, plan, drops)?
-    };
+    let bytes = bytes_from(rt, &*held.file())?;
+    let done = make_whole(rt, path, held, bytes, plan, drops)?;
     tell_left_out(rt, done.left);
     tell_recovered(rt, json, &done).map_err(|error| untold(error))
 }

@@ -2,10 +2,11 @@
 
 use crate::damage::BadEnd;
 use crate::refused_lines::{LineRefused, Reason};
+pub(crate) use crate::streams::Stream;
 use clap::ArgMatches;
 use clap::error::ErrorKind;
-use rq_found::Seen;
 use rq_journal::{Fault, NotMarked};
+use rq_judged::Edge;
 use rq_log_file::NotHeld;
 use std::alloc::AllocError;
 use std::io;
@@ -21,27 +22,6 @@ const STREAM: u8 = 3;
 
 // The exit status if memory was refused.
 const MEMORY: u8 = 4;
-
-/// What cannot be opened, read or written.
-#[derive(Clone, Copy)]
-pub(crate) enum Stream {
-    Log,
-    Script,
-    New,
-    Out,
-    /// The log, which is as it was: nothing was appended.
-    LogAsItWas,
-    /// The log, where some of what was to be appended may stand.
-    LogUnknown,
-    /// The log, which may be cut to its front already.
-    LogToRecover,
-    /// The file that keeps what is cut off at an offset.
-    Kept(usize),
-    Input,
-    Output,
-    /// The output that was to tell what is done all the same.
-    Telling,
-}
 
 /// Why the program ends before it is done.
 #[derive(Drop)]
@@ -64,6 +44,14 @@ pub(crate) enum Refusal {
     Damaged(BadEnd),
     /// What is to be kept of the log from an offset on has a name under which other bytes stand.
     KeptOther(usize),
+    /// What comes is not served, since no copy is kept.
+    NoCopy,
+    /// A copy has other bytes than those that come.
+    CopyOther,
+    /// A copy has more bytes than came.
+    CopyLonger,
+    /// The front of what comes ends there, and nothing that follows can be done.
+    FrontEnds(Edge),
     /// A line is not appended.
     Line(LineRefused),
     /// There is no room behind the log.
@@ -141,49 +129,6 @@ pub(crate) fn untold(error: io::Error) -> Refusal {
     Refusal::Failed(Stream::Telling, error)
 }
 
-impl Stream {
-    // The word of the command that names it, if one does.
-    fn word(self) -> Option<&'static str> {
-        match self {
-            Stream::Log
-            | Stream::LogAsItWas
-            | Stream::LogUnknown
-            | Stream::LogToRecover
-            | Stream::Kept(_) => Some("LOG"),
-            Stream::Script => Some("SCRIPT"),
-            Stream::New => Some("NEW"),
-            Stream::Out => Some("OUT"),
-            Stream::Input | Stream::Output | Stream::Telling => None,
-        }
-    }
-
-    // What it is called by these words.
-    fn name<'a>(self, words: Option<&'a ArgMatches<'_>>) -> Seen<'a> {
-        if matches!(self, Stream::Input) {
-            return Seen("standard input");
-        }
-        let Some(word) = self.word() else {
-            return Seen("standard output");
-        };
-        match words.and_then(|words| words.get_str(word)) {
-            Some("-") if matches!(self, Stream::Script) => Seen("standard input"),
-            Some(name) => Seen(name),
-            None => Seen(word),
-        }
-    }
-
-    // What is left after it failed, if that is to be told.
-    fn left(self) -> &'static str {
-        match self {
-            Stream::LogAsItWas => ": nothing was appended",
-            Stream::LogUnknown => ": some records may stand there: rqlook check tells",
-            Stream::LogToRecover => ": use rqlog recover again",
-            Stream::Telling => ": it is done all the same",
-            _ => "",
-        }
-    }
-}
-
 // Prints the help or the version that was asked for, and answers the exit status.
 fn show_help<R: Print + Eprint>(rt: &R, help: &clap::Error) -> u8 {
     match print!(rt; "{help}") {
@@ -215,20 +160,25 @@ impl Refusal {
             Refusal::Changed => "it changed meanwhile: try again",
             Refusal::KeptOther(_) => "other bytes stand there: move it away",
             Refusal::Full => "log is full: carry it on",
-            Refusal::Ended => "numbers end at 4294967295: begin a new log",
+            Refusal::Ended => "numbers end at 9223372036854775807: begin a new log",
+            Refusal::NoCopy => "--serve needs a COPY, which it serves",
+            Refusal::CopyOther => "other bytes stand there than those that come: name another file",
+            Refusal::CopyLonger => "more bytes stand there than came: name another file",
             _ => "resources",
         }
     }
 
     fn exit(&self) -> u8 {
         match self {
-            Refusal::Words(_) | Refusal::NoText | Refusal::Plan => USAGE,
+            Refusal::Words(_) | Refusal::NoText | Refusal::Plan | Refusal::NoCopy => USAGE,
             Refusal::Failed(..)
             | Refusal::Held
             | Refusal::There
             | Refusal::KeptOther(_)
+            | Refusal::CopyOther
+            | Refusal::CopyLonger
             | Refusal::Changed => STREAM,
-            Refusal::Damaged(_) | Refusal::Full | Refusal::Ended => REFUSED,
+            Refusal::Damaged(_) | Refusal::FrontEnds(_) | Refusal::Full | Refusal::Ended => REFUSED,
             Refusal::Line(refused) if matches!(refused.reason, Reason::Memory) => MEMORY,
             Refusal::Line(_) => REFUSED,
             Refusal::Refused(_, fault) => fault.exit(),
@@ -242,6 +192,8 @@ impl Refusal {
             Refusal::Failed(stream, _) | Refusal::Refused(stream, _) => Some(*stream),
             Refusal::There => Some(Stream::New),
             Refusal::KeptOther(offset) => Some(Stream::Kept(*offset)),
+            Refusal::FrontEnds(_) => Some(Stream::Source),
+            Refusal::CopyOther | Refusal::CopyLonger => Some(Stream::Log),
             Refusal::Held | Refusal::Changed | Refusal::Damaged(_) => Some(Stream::Log),
             _ => None,
         }
@@ -252,10 +204,14 @@ impl Refusal {
         match self {
             Refusal::Words(error) => eprint!(rt; "{error}"),
             Refusal::Failed(stream, error) => {
-                let left = stream.left();
+                let left = stream.what_is_left();
                 eprintln!(rt; "{error}{left}")
             }
             Refusal::Damaged(bad) => eprintln!(rt; "{bad}"),
+            Refusal::FrontEnds(end) => {
+                let (why, used) = (end.why.word(), end.used);
+                eprintln!(rt; "its front ends by {why} at {used} bytes")
+            }
             Refusal::Line(refused) => eprintln!(rt; "{refused}"),
             Refusal::Refused(_, fault) => {
                 let advice = advice(*fault);
@@ -274,7 +230,7 @@ impl Refusal {
             _ if matches!(self, Refusal::Words(_)) => Ok(()),
             None => eprint!(rt; "rqlog: "),
             Some(stream) => {
-                let name = stream.name(words);
+                let name = stream.called(words);
                 match stream {
                     Stream::Kept(offset) => eprint!(rt; "rqlog: {name}.cut-{offset}: "),
                     _ => eprint!(rt; "rqlog: {name}: "),

@@ -69,7 +69,7 @@ impl fmt::Display for Reason {
             Reason::Checkpoint => f.write_str("use rqlog checkpoint"),
             Reason::Breaks(rule) => fmt::Display::fmt(rule, f),
             Reason::Full => f.write_str("log is full: carry it on"),
-            Reason::Ended => f.write_str("numbers end at 4294967295: begin a new log"),
+            Reason::Ended => f.write_str("numbers end at 9223372036854775807: begin a new log"),
             Reason::Memory => f.write_str("resources"),
         }
     }

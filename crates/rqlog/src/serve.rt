@@ -1,23 +1,25 @@
 //! A log is served to one program, line by line.
 
-ghost use Rattle.std.specs.Arc.{arc_slice_items};
-ghost use Rattle.std.specs.Prelude.{IfOk, length};
+ghost use Rattle.std.specs.Prelude.{◌≡◌, IfOk, None, length};
 ghost use Rattle.rq_live.specs.Kernels.{StandsWithin};
+ghost use Rattle.rq_live.specs.Managers.{IsInOrder, stand_of};
 
+use crate::carrier::Carrier;
 use crate::damage::BadEnd;
-use crate::inputs::rest_of_log;
+use crate::inputs::bytes_from;
 use crate::new_log::{expect_free, put_new};
 use crate::recovery::{kept_cut, why_spent};
 use crate::refusal::{Refusal, Stream, failed};
-use rq_device::WINDOW;
+use rq_device::{Device, Successor, WINDOW};
 use rq_file::Patient;
-use rq_front::header_of;
+use rq_front::{CARRIED_AT, FRAME_LEN, HEADER_LEN, header_of, is_carried};
 use rq_journal::{Damage, Fault, Plan, Why};
+use rq_judged::Edge;
 use rq_live::{Kernel, Manager, NotDone};
 use rq_log_file::{HeldLog, Hold, LogFile};
-use rq_record::{LogBytes, Version};
+use rq_record::Version;
 use rq_reopen::{NotOpened, Opening};
-use rq_serve::{Unserved, serve};
+use rq_serve::{CarryPoint, Operator, Unserved, serve};
 use rq_tool::{OverRead, OverWrite};
 use std::fs::{File, Files};
 use std::io;
@@ -25,13 +27,16 @@ use std::rt::Clock;
 use std::sync::ArcSlice;
 use std::thread::Threads;
 
-// What is told of a log before it is served.
+/// The bytes at which a log is carried on, if nothing else is told.
+pub(crate) const CARRY_AT: usize = 3_221_225_472;
+
+/// What is told of a log before it is served.
 #[derive(Clone, Copy)]
-struct Greeting {
-    // How many units were open, which are aborted.
-    aborted: usize,
-    // How many bytes behind the front were cut off.
-    cut: usize,
+pub(crate) struct Greeting {
+    /// How many units were open, which are aborted.
+    pub(crate) aborted: usize,
+    /// How many bytes behind the front were cut off.
+    pub(crate) cut: usize,
 }
 
 // Makes a log without records, unless something stands there.
@@ -51,19 +56,10 @@ where
     }
 }
 
-// The bytes of a log, which is held, and plain.
-fn plain_log<R: AllocGlobal>(rt: &R, held: &mut HeldLog) -> Result<ArcSlice<u8>, Refusal> {
-    let read = rest_of_log(rt, held.file())?;
-    if read.is_carried {
-        return Err(Refusal::Refused(Stream::Log, Fault::NotALog));
-    }
-    Ok(ArcSlice::from_vec(read.bytes)?)
-}
-
-// Whether a crash can have left so many bytes behind a front. Frames that are right can stand behind a
-// page that was not written: a crash may leave any of the pages that were not synced. But a manager
-// leaves no more bytes than these unsynced.
-fn is_left_by_crash(damage: Option<Damage>, behind: usize) -> bool {
+/// Whether a crash can have left so many bytes behind a front. Frames that are right can stand behind a
+/// page that was not written: a crash may leave any of the pages that were not synced. But a manager
+/// leaves no more bytes than these unsynced.
+pub(crate) fn is_left_by_crash(damage: Option<Damage>, behind: usize) -> bool {
     match damage {
         None => true,
         Some(Damage::Right(_) | Damage::Unsearched(_)) => behind <= WINDOW,
@@ -73,36 +69,55 @@ fn is_left_by_crash(damage: Option<Damage>, behind: usize) -> bool {
 
 // Where a manager goes on behind what a crash left. Payloads are copied: lent, a few that stay would
 // keep all of the log in memory.
-fn opened<R>(rt: &R, bytes: &[u8], plan: &Plan) -> Result<Opening, Refusal>
+fn opened<R>(rt: &R, bytes: &mut [u8], plan: &Plan) -> Result<Opening, Refusal>
 where
     R: AllocGlobal + Threads + Sync,
-    ensures { IfOk result (λ o. StandsWithin o.found.kernel (length bytes.now)) }
+    ensures { IfOk result (λ o. StandsWithin o.found.kernel (length bytes.old)) }
 {
-    match Opening::of(rt, rt.alloc(), &LogBytes::borrowed(bytes), plan, true) {
+    let total = bytes.len();
+    match Opening::of_file(rt, rt.alloc(), bytes, plan, true) {
         Ok(opening) => match opening.damage {
             Some(damage) if !is_left_by_crash(opening.damage, opening.cut.len()) => {
                 let end = opening.found.end;
-                Err(Refusal::Damaged(BadEnd::damaged(end, bytes.len(), damage)))
+                Err(Refusal::Damaged(BadEnd::not_served(end, total, damage)))
             }
             _ => Ok(opening),
         },
         Err(NotOpened::Log(fault)) => Err(Refusal::from(fault)),
         Err(NotOpened::Damaged(found, damage)) => {
-            Err(Refusal::Damaged(BadEnd::damaged(found.end, bytes.len(), damage)))
+            Err(Refusal::Damaged(BadEnd::not_served(found.end, total, damage)))
         }
     }
 }
 
-// Keeps what is cut off, if it is more than the beginning of a frame.
-fn keep_cut<R>(rt: &R, path: &str, opening: &Opening) -> Result<(), Refusal>
+/// How many bytes a log began with that has these first ones: its header; or that of a carried file, its
+/// link and its first frame.
+pub(crate) fn begun_with(log: &[u8]) -> usize {
+    let Some(len) = log.get(CARRIED_AT..CARRIED_AT + 4) else {
+        return HEADER_LEN;
+    };
+    if !is_carried(log) {
+        return HEADER_LEN;
+    }
+    let len = u32::from_be_bytes([len[0], len[1], len[2], len[3]]);
+    CARRIED_AT + FRAME_LEN + len as usize
+}
+
+/// Keeps what is cut off behind a front that ends here, if it is more than the beginning of a frame.
+pub(crate) fn keep_cut<R>(
+    rt: &R,
+    path: &str,
+    end: Edge,
+    damage: Option<Damage>,
+    cut: &[u8],
+) -> Result<(), Refusal>
 where
     R: Files<File = File> + AllocGlobal,
 {
-    let end = opening.found.end;
-    if opening.damage.is_none() && matches!(end.why, Why::Cut) {
+    if damage.is_none() && matches!(end.why, Why::Cut) {
         return Ok(());
     }
-    kept_cut(rt, path, end.used, &opening.cut)?;
+    kept_cut(rt, path, end.used, cut)?;
     Ok(())
 }
 
@@ -131,57 +146,102 @@ fn stopped(stream: Stream, error: Option<io::Error>) -> Refusal {
     }
 }
 
-// Serves a log that was read, which is held: goes on behind its front, greets, and does what lines ask
-// for until the input ends, or one closes.
-fn serve_on<R>(
+// Does what the lines of standard input ask for until that ends, or one closes, and answers them. Refused
+// with nothing if the manager is spent.
+fn serve_lines<R, D, S>(
     rt: &R,
-    held: HeldLog,
-    whole: ArcSlice<u8>,
-    kernel: Kernel,
-    greeting: Greeting,
-) -> Result<(), Refusal>
+    manager: &mut Manager<D>,
+    next: &mut S,
+    point: CarryPoint,
+) -> Result<(), Option<Refusal>>
 where
     R: Input + Print + Clock + AllocGlobal,
-    requires { StandsWithin kernel (length (arc_slice_items whole)) }
+    D: Device + Drop,
+    S: Successor<D> + Operator,
+    requires { IsInOrder (stand_of D.written D.synced D.doubted D.failed manager.old) }
 {
-    let stands = whole.len();
-    let mut manager = Manager::over(LogFile::new(held, Some(whole)), kernel);
+    let mut input = OverRead::new(rt.reader());
+    let mut output = OverWrite::new(Patient {
+        rt,
+        inner: io::writer(rt),
+    });
+    match serve(rt.alloc(), manager, next, point, &mut input, &mut output) {
+        Ok(()) => Ok(()),
+        Err(Unserved::Spent) => Err(None),
+        Err(Unserved::Unread) => Err(Some(stopped(Stream::Input, input.into_error()))),
+        Err(Unserved::Unheard) => Err(Some(stopped(Stream::Output, output.into_error()))),
+    }
+}
+
+/// Serves a log in a file, which has so many bytes and this path: goes on behind its front, greets, and
+/// does what lines ask for until the input ends, or one closes. It is carried on at the point.
+pub(crate) fn serve_on<R>(
+    rt: &R,
+    path: &str,
+    file: LogFile<HeldLog>,
+    stands: usize,
+    kernel: Kernel,
+    greeting: Greeting,
+    point: CarryPoint,
+) -> Result<(), Refusal>
+where
+    R: Files<File = File> + Input + Print + Eprint + Clock + AllocGlobal,
+    requires works { file.error ≡ None }
+    requires within { StandsWithin kernel stands }
+{
+    let mut carrier = Carrier::new(rt, path, file.file())?;
+    let mut manager = Manager::over(file, kernel);
+    match manager.record_count() {
+        Ok(records) => carrier.keep_name(manager.device().file(), records)?,
+        Err(_) => return Err(Refusal::Memory),
+    }
     match manager.resume(rt.alloc(), stands) {
         Ok(()) => {}
         Err(NotDone::Full) => return Err(Refusal::from(Fault::TooLarge)),
         Err(_) => return Err(why_spent(manager.device(), Stream::Log)),
     }
     greet(rt, &manager, greeting)?;
-    let mut input = OverRead::new(rt.reader());
-    let mut output = OverWrite::new(Patient {
-        rt,
-        inner: io::writer(rt),
-    });
-    match serve(rt.alloc(), &mut manager, &mut input, &mut output) {
+    match serve_lines(rt, &mut manager, &mut carrier, point) {
         Ok(()) => Ok(()),
-        Err(Unserved::Spent) => Err(why_spent(manager.device(), Stream::Log)),
-        Err(Unserved::Unread) => Err(stopped(Stream::Input, input.into_error())),
-        Err(Unserved::Unheard) => Err(stopped(Stream::Output, output.into_error())),
+        Err(Some(refusal)) => Err(refusal),
+        Err(None) => Err(carrier.why_spent(manager.device())),
     }
 }
 
-/// Serves the queues of a log to the program at standard input and output. A log that is not there
-/// is made, if it is to be.
-pub(crate) fn serve_log<R>(rt: &R, path: &str, plan: &Plan, creates: bool) -> Result<(), Refusal>
+/// Serves the queues of a log, plain or carried on, to the program at standard input and output. A log
+/// that is not there is made, if it is to be. One of so many bytes is carried on.
+pub(crate) fn serve_log<R>(
+    rt: &R,
+    path: &str,
+    plan: &Plan,
+    creates: bool,
+    least: usize,
+) -> Result<(), Refusal>
 where
-    R: Files<File = File> + Input + Print + Clock + AllocGlobal + Threads + Sync,
+    R: Files<File = File> + Input + Print + Eprint + Clock + AllocGlobal + Threads + Sync,
 {
     if creates {
         make_if_free(rt, path)?;
     }
     let mut held = HeldLog::open(rt, path, Hold::ToWrite)?;
-    let whole = plain_log(rt, &mut held)?;
-    let opening = opened(rt, whole.as_slice(), plan)?;
-    keep_cut(rt, path, &opening)?;
-    held.expect_as_read(rt, whole.len())?;
+    let mut bytes = bytes_from(rt, &*held.file())?;
+    let (stands, begins) = (bytes.len(), begun_with(&bytes));
+    let opening = opened(rt, &mut bytes, plan)?;
+    keep_cut(rt, path, opening.found.end, opening.damage, &opening.cut)?;
+    held.expect_as_read(rt, stands)?;
     let greeting = Greeting {
         aborted: opening.found.kernel.open_count(),
         cut: opening.cut.len(),
     };
-    serve_on(rt, held, whole, opening.found.kernel, greeting)
+    let whole = ArcSlice::from_vec(bytes)?;
+    let (file, kernel) = (LogFile::new(held, Some(whole)), opening.found.kernel);
+    serve_on(
+        rt,
+        path,
+        file,
+        stands,
+        kernel,
+        greeting,
+        CarryPoint::new(least, begins),
+    )
 }

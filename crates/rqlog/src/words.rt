@@ -1,6 +1,6 @@
 //! The words of the program.
 
-use WordForm::{Flag, Value, ValueOr};
+use WordForm::{Flag, Value, ValueOr, WithOr};
 use clap::Command;
 use rq_file::VERSION;
 use rq_words::{Subcommand, Word, WordForm};
@@ -10,12 +10,6 @@ const LOG: Word = Word(
     "LOG",
     Value(Word::TEXT),
     "The file of the log, plain or carried on",
-);
-
-const PLAIN: Word = Word(
-    "LOG",
-    Value(Word::TEXT),
-    "The file of the log, which was not carried on",
 );
 
 const NEW: Word = Word(
@@ -38,7 +32,7 @@ const COUNT: Word = Word(
     "How many threads work, 1 to 64",
 );
 
-static COMMANDS: [Subcommand; 9] = [
+static COMMANDS: [Subcommand; 10] = [
     Subcommand {
         name: "new",
         about: "Makes a log that has no record yet, in version 2",
@@ -89,11 +83,38 @@ static COMMANDS: [Subcommand; 9] = [
         name: "serve",
         about: "Serves the queues of a log to the program at standard input and output",
         words: &[
-            PLAIN,
+            LOG,
             Word(
                 "create",
                 Flag,
                 "Makes the log if it is not there, in version 2",
+            ),
+            Word(
+                "carry-at",
+                WithOr("BYTES", Word::SMALL, "3221225472"),
+                "Goes on in a new log when this one has so many bytes",
+            ),
+            Word::WORKERS,
+        ],
+    },
+    Subcommand {
+        name: "follow",
+        about: "Goes along with a log that comes, and prints its report where it ends, or serves a copy",
+        words: &[
+            Word(
+                "COPY",
+                ValueOr(Word::TEXT, "-"),
+                "The file of a copy that is written as the log comes, or - for none",
+            ),
+            Word(
+                "from",
+                WithOr("FILE", Word::TEXT, "-"),
+                "A pipe or a file that the log comes from, or - for standard input",
+            ),
+            Word(
+                "serve",
+                Flag,
+                "Serves the copy where the log ends, in place of the report",
             ),
             Word::WORKERS,
         ],

@@ -1,6 +1,6 @@
 //! Appends members of a state to what is spelled already.
 
-ghost use Rattle.std.specs.Prelude.{◌≡◌, ◌++◌, ◌∷◌, [], ℕ, List, length, option_map};
+ghost use Rattle.std.specs.Prelude.{◌≡◌, ◌≤◌, ◌++◌, ◌∷◌, [], ℕ, List, length, option_map};
 ghost use Rattle.std.specs.Int.{w16, w64, to_be_bytes};
 ghost use Rattle.rq_model.specs.StateSpelling.{name_bytes, element_number, kind_byte};
 ghost use Rattle.rq_model.specs.StateSpelling.{definition_bytes, last_bytes, registrant_bytes};
@@ -125,9 +125,10 @@ pub trait Spell: Drop {
     fn put(&self, out: &mut Vec<u8>) -> Result<(), AllocError>
         ensures { PutsSpelling out.old.items out.new.items (spelling self.now) result };
 
-    /// How many bytes its spelling has.
+    /// How many bytes its spelling has, at least one.
     fn size(&self) -> u32
-        ensures { result ≡ length (spelling self.now) };
+        ensures size { result ≡ length (spelling self.now) }
+        ensures some { 1 ≤ result };
 }
 
 impl Spell for Definition {

@@ -5,7 +5,7 @@ ghost use Rattle.std.specs.List.{flat_map};
 ghost use Rattle.std.specs.Int.{w64, to_be_bytes};
 ghost use Rattle.rq_model.specs.StateSpelling.{last_bytes, mark_bytes, registrant_bytes, state_bytes};
 ghost use Rattle.rq_state.specs.Views.{mark_of, unit_of};
-ghost use Rattle.rq_state.specs.Writing.{text_of};
+ghost use Rattle.rq_state.specs.Writing.{AreCountable, text_of};
 
 use crate::kept_element::KeptElement;
 use crate::kept_registrant::KeptRegistrant;
@@ -80,6 +80,7 @@ pub(crate) fn mark_size(mark: Mark) -> u32
 fn size_of_all<M: Spell>(members: &[M]) -> u128
     ensures size { result ≡ length (flat_map M.spelling members.now) }
     ensures small { result ≤ 4294967295 * length members.now }
+    ensures many { length members.now ≤ result }
 {
     let mut total = 0;
     for member in members {
@@ -91,6 +92,7 @@ fn size_of_all<M: Spell>(members: &[M]) -> u128
 fn units_size(members: &[UnitNo]) -> u128
     ensures size { result ≡ length (flat_map (to_be_bytes w64) (map unit_of members.now)) }
     ensures small { result ≤ 8 * length members.now }
+    ensures many { length members.now ≤ result }
 {
     State::UNIT as u128 * members.len() as u128
 }
@@ -105,7 +107,8 @@ pub fn spelled_len(state: &State) -> u128
 
 /// The same of a state whose lists are lent.
 pub(crate) fn lent_len<R: Spell, E: Spell, N: Spell>(state: &LentState<'_, R, E, N>) -> u128
-    ensures { result ≡ length (text_of R.spelling E.spelling N.spelling state.now) }
+    ensures size { result ≡ length (text_of R.spelling E.spelling N.spelling state.now) }
+    ensures countable { result ≤ 268435455 → AreCountable state.now }
 {
     State::SHORTEST as u128
         + size_of_all(state.definitions)

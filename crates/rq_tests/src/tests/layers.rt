@@ -3,11 +3,13 @@
 mod analysis;
 mod by_hand;
 mod bytes;
+mod carries;
 mod chains;
 mod countdowns;
 mod courses;
 mod ends;
 mod framers;
 mod machine;
+mod numbers;
 mod plain;
 mod rooms;

@@ -1,9 +1,9 @@
 //! A manager serves lines: what it answers, and what stands on its device then.
 
-use rq_device::Memory;
+use rq_device::{Memory, NewMemory};
 use rq_live::Manager;
 use rq_record::Version;
-use rq_rows::answers_to;
+use rq_rows::{Counting, answers_to};
 use std::test::Fail;
 
 // What is asked: each request once at least, and each way in which one is refused.
@@ -86,11 +86,17 @@ const ANSWERED: &str = "queue 0\n\
     refused doomed: a line was refused in the unit: abort it\n\
     closed 966\n";
 
+// No log is as long.
+const NEVER: usize = 4_294_967_296;
+
 #[test]
 fn a_program_is_served(rt: HostRuntime) -> Result<(), Fail> {
     let alloc = rt.alloc();
     let mut m = Manager::new(alloc, Version::Two, Memory::new(alloc))?;
-    let answered = answers_to(alloc, &mut m, ASKED).ok().ok_or("served")?;
+    let mut next = Counting::new(NewMemory::new(alloc));
+    let answered = answers_to(alloc, &mut m, &mut next, NEVER, ASKED)
+        .ok()
+        .ok_or("served")?;
     assert_eq!(rt; answered.as_slice(), ANSWERED.as_bytes());
     assert_eq!(rt; m.device().synced(), m.device().bytes().len());
     Ok(())
@@ -102,7 +108,30 @@ fn half_a_line_is_not_done(rt: HostRuntime) -> Result<(), Fail> {
     let alloc = rt.alloc();
     let mut m = Manager::new(alloc, Version::Two, Memory::new(alloc))?;
     let asked = b"define jobs 0 -\nbegin\nbegin 10".as_slice();
-    let answered = answers_to(alloc, &mut m, asked).ok().ok_or("served")?;
+    let mut next = Counting::new(NewMemory::new(alloc));
+    let answered = answers_to(alloc, &mut m, &mut next, NEVER, asked)
+        .ok()
+        .ok_or("served")?;
     assert_eq!(rt; answered.as_slice(), b"queue 0\nunit 1\n".as_slice());
+    Ok(())
+}
+
+// A log of 300 bytes goes on in a new one, and so does one for which a line asks; a unit stays open.
+#[test]
+fn a_log_is_carried_on(rt: HostRuntime) -> Result<(), Fail> {
+    let alloc = rt.alloc();
+    let mut m = Manager::new(alloc, Version::Two, Memory::new(alloc))?;
+    let mut next = Counting::new(NewMemory::new(alloc));
+    let asked = b"define jobs 0 -\nbegin\nenqueue 1 jobs 5 - 0 6869\ncarry\ncommit 1\nbegin\n\
+        dequeue 2 jobs - 0\ncommit 2\nbegin\nabort 3\nqueues\nclose\n"
+        .as_slice();
+    let answered = answers_to(alloc, &mut m, &mut next, 300, asked)
+        .ok()
+        .ok_or("served")?;
+    let want = "queue 0\nunit 1\nelement 2\ncarried 3\nok\nunit 2\nelement 2 jobs 5 0 6869\nok\n\
+        unit 3\nok\nlines 1\nqueue 0 jobs limit 0 error - free 0 fresh 0 held 0\nclosed 225\n";
+    assert_eq!(rt; answered.as_slice(), want.as_bytes());
+    assert_eq!(rt; (next.carried, next.refused), (1, 0));
+    assert_eq!(rt; m.device().synced(), m.device().bytes().len());
     Ok(())
 }

@@ -3,7 +3,7 @@
 use super::{RETURN_AND_ARRIVAL, machine_spelled};
 use rq_record::{ElemId, KeptRecord, QueueNo, UnitNo, Version, kept_records};
 use rq_restart::{Fault, Plan, front_state, go_on};
-use rq_rows::{CHECKPOINT, ONE_ELEMENT, log_in, log_of, records_of, spelled, told};
+use rq_rows::{CHECKPOINT, ONE_ELEMENT, followed, log_in, log_of, records_of, spelled, told};
 use rq_standing::Machine;
 use std::alloc::Global;
 use std::test::Fail;
@@ -151,6 +151,20 @@ fn a_machine_stops_before_an_unlawful_record(rt: HostRuntime) -> Result<(), Fail
     add_two(&mut records, 1, 2)?;
     let last = records.get(5..).ok_or("last")?;
     assert!(rt; told(&rt, Version::One, &records, last)? == (4, 1, (5, 1, 1)));
+    Ok(())
+}
+
+// Wherever the second piece begins, all records are done, and of a frame that is cut its bytes are counted.
+#[test]
+fn a_log_is_followed_in_two_pieces(rt: HostRuntime) -> Result<(), Fail> {
+    let log = log_of(&rt, ONE_ELEMENT)?;
+    for at in 0..=log.len() {
+        let (first, second) = log.split_at(at);
+        assert!(rt; followed(&rt, first, second)? == (4, log.len(), log.len()));
+    }
+    let (first, second) = log.split_at(log.len() - 1);
+    let (records, used, total) = followed(&rt, first, &[])?;
+    assert!(rt; (records, total, second.len()) == (3, first.len(), 1) && used < total);
     Ok(())
 }
 

@@ -2,6 +2,7 @@ use Rattle.std.proofs.Common.{◌∙◌, ℕ, List, refl, subst, arith}
 use Rattle.rq_record.specs.Views.{version_of}
 use Rattle.rq_front.specs.Chains.{bodies_at}
 use Rattle.rq_front.specs.declared.spans.Span.{Span}
+use Rattle.rq_model.specs.StateSpelling.{carried_next}
 use Rattle.rq_judged.specs.Checkpoints.{IsBegun}
 use Rattle.rq_judged.specs.Passes.{AreJudged}
 use Rattle.rq_judged.specs.Views.{why_of}
@@ -9,8 +10,8 @@ use Rattle.rq_judged.proofs.Checkpoints.{IsJudgedFrom, judged_from}
 use Rattle.rq_judged.proofs.judged.judged_behind.Goals as goal
 use Rattle.rq_judged.proofs.judged.judged_behind.Goals.{After-end_of-end}
 
-judged : (c : After-end_of-end) (offset : ℕ) (is : IsBegun c.args.bytes.now offset c.args.begun.now)
-    → IsJudgedFrom c.args.bytes.now offset c.args.begun.now is.kept c.judge_each.new.judge
+judged : (c : After-end_of-end) (offset : ℕ) (is : IsBegun carried_next c.args.bytes.now offset c.args.begun.now)
+    → IsJudgedFrom carried_next c.args.bytes.now offset c.args.begun.now is.kept c.judge_each.new.judge
     c.in_ok-reach.reach.lawful c.end_of-end.result.0 (why_of c.end_of-end.result.1)
 judged c offset is =
     let b = c.args.bytes.now in
@@ -19,7 +20,7 @@ judged c offset is =
     let are = subst (λ (ss : List Span). AreJudged version x.state
     (bodies_at b ss) c.judge_each.new.judge c.in_ok-reach.reach) c.deref.ensures.value
     (c.in_ok-reach.ensures.judged version x.state c.in_ok-judge.ensures.stands) in
-    judged_from c.frames_are_right.ensures.right c.frames_join.ensures.frames c.one_front.ensures.from_run b
+    judged_from c.frames_are_right.ensures.right c.frames_join.ensures.frames c.one_front.ensures.from_run carried_next b
     offset x is c.judge_each.new.judge c.in_ok-reach.reach are
     (c.end_of-end.result.0, why_of c.end_of-end.result.1) c.end_of-end.ensures
 

@@ -2,10 +2,25 @@ use Rattle.std.proofs.Common.{◌++◌, ◌∙◌, List, ℕ, Bool, refl, sym, a
 use Rattle.rq_found.specs.Ends.{end_line}
 use Rattle.rq_found.proofs.Lines.{same_line}
 use Rattle.rq_look.specs.Looks.{IsClosing}
+use Rattle.rq_look.specs.Objects.{closing_members, object_line}
+use Rattle.rq_look.proofs.Members.{same_members}
+use Rattle.rq_look.proofs.Puts.{then_ok}
 use Rattle.rq_look.proofs.dumps.put_closing.Goals as goal
 
+pub returns-then-wanted : goal.returns-then-wanted
+returns-then-wanted c =
+    let at = c.args.at in
+    let reason = string_bytes c.args.end.now.reason in
+    then_ok _ _ (λ put. λ b r is e.
+    let line : List ℕ = object_line (closing_members at r reason) in (
+      line,
+      subst (λ (j : Bool). IsClosing at b j line) (sym c.if-wanted.true) (r, reason, is, refl),
+      put ∙ ap (λ ms. string_bytes c.args.text.now ++ object_line ms) (same_members at r c.args.end.now reason e),
+    )) c.put_closing_object.result c.put_closing_object.ensures
+
 pub returns : goal.returns
-returns c = λ at b r is e.
+returns c = λ b r is e.
+    let at = c.args.at in
     let reason = string_bytes c.args.end.now.reason in
     let line : List ℕ = end_line r reason in (
       line,

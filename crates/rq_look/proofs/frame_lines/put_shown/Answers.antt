@@ -2,6 +2,7 @@ use Rattle.std.proofs.Common.{◌++◌, Bool, codes, refl, sym, subst, string_by
 use Rattle.rq_look.specs.Dumps.{IsLineOf}
 use Rattle.rq_look.specs.Entries.{shown_entry}
 use Rattle.rq_look.specs.Lines.{record_line}
+use Rattle.rq_look.specs.Objects.{object_line, record_members}
 use Rattle.rq_look.proofs.Gathered.{once_put, put_more}
 use Rattle.rq_look.proofs.Puts.{then_ok}
 use Rattle.rq_look.proofs.frame_lines.put_shown.Goals as goal
@@ -10,11 +11,10 @@ pub returns-then-wanted : goal.returns-then-wanted
 returns-then-wanted c =
     let full = c.args.wanted.now.full in
     let e = shown_entry c.args.it.now in
-    then_ok _ _ (λ put. (
-      put.0 ++ codes "\n",
-      subst (λ (json : Bool). IsLineOf json full e (put.0 ++ codes "\n")) (sym c.if-wanted.true) (put.0, refl),
-      put.1,
-    )) c.put_object.result c.put_object.ensures
+    let line = object_line (record_members e) in
+    then_ok _ _ (λ put.
+    (line, subst (λ (json : Bool). IsLineOf json full e line) (sym c.if-wanted.true) refl, put))
+    c.put_record_object.result c.put_record_object.ensures
 
 pub returns : goal.returns
 returns c =

@@ -10,11 +10,8 @@ returns-then-json-clause-report g c =
     let known = c.in_ok-restarted.ensures in
     subst (λ (j : Bool). OnOk c.put_json.result (PutsReportAs j log.at log.bytes.now c.args.wanted
     (held c.args.output.now) (held c.put_json.new.output))) (sym c.if-json.true)
-    (then_ok _ _ (λ line. (
-      (known.log, c.in_ok-restarted.restarted, known.restart.0, known.restart.1),
-      line,
-    ))
-    c.put_json.result c.put_json.ensures.line)
+    (then_ok _ _ (λ put. (known.log, c.in_ok-restarted.restarted, known.restart.0, known.restart.1, put))
+    c.put_json.result c.put_json.ensures.report)
 
 pub returns-clause-report : goal.returns-clause-report
 returns-clause-report g c =

@@ -12,7 +12,7 @@ pub catch_up-requires-clause-well : goal.catch_up-requires-clause-well
 catch_up-requires-clause-well c =
     let m = c.in-Some.arrival in
     let left = reverse c.pop.new.self.items in
-    let back = popped c.loop-arrival.coming.items c.pop.new.self.items m c.in-Some.ensures.items in
+    let back = popped c.loop-arrival.arrivals.items c.pop.new.self.items m c.in-Some.ensures.items in
     let since : AllByRecursion (λ n. c.place.result ≤ n.place) (m ∷ left)
     = (
       omega arith,
@@ -27,7 +27,7 @@ pub receive-requires : goal.receive-requires
 receive-requires c =
     let m = c.in-Some.arrival in
     let left = reverse c.pop.new.self.items in
-    let back = popped c.loop-arrival.coming.items c.pop.new.self.items m c.in-Some.ensures.items in
+    let back = popped c.loop-arrival.arrivals.items c.pop.new.self.items m c.in-Some.ensures.items in
     let since : AllByRecursion (λ n. c.place.result ≤ n.place) (m ∷ left)
     = (
       omega arith,
@@ -47,7 +47,7 @@ pub loop-arrival-preserved : goal.loop-arrival-preserved
 loop-arrival-preserved c =
     let m = c.in-Some.arrival in
     let left = reverse c.pop.new.self.items in
-    let back = popped c.loop-arrival.coming.items c.pop.new.self.items m c.in-Some.ensures.items in
+    let back = popped c.loop-arrival.arrivals.items c.pop.new.self.items m c.in-Some.ensures.items in
     let since : AllByRecursion (λ n. c.place.result ≤ n.place) (m ∷ left)
     = (
       omega arith,

@@ -1,4 +1,6 @@
-use Rattle.std.proofs.Common.{sym, ◌∙◌, subst}
+use Rattle.std.proofs.Common.{sym, ap, ◌∙◌, ◌++◌, subst, List}
+use Rattle.rq_model.specs.Queues.{Move}
+use Rattle.rq_model.specs.Redo.{all_sent}
 use Rattle.rq_queue.specs.Case.{AreRising}
 use Rattle.rq_queue.proofs.Cases.{goes_well, arrivals_rise, redone_part, sent_moves}
 use Rattle.rq_queue.proofs.queue_redo.redo_kept.Goals as goal
@@ -16,6 +18,8 @@ pub returns-clause-redone : goal.returns-clause-redone
 returns-clause-redone c = λ version s rs k.
     let ops = c.args.ops.now in
     let ms = c.args.arrivals.items in (
-      c.in_ok-redone.ensures.part ∙ redone_part c.projection.ensures version s rs c.args.part ops ms k,
-      c.in_ok-redone.ensures.sent ∙ sent_moves c.projection.ensures version s rs c.args.part ops ms k,
+      c.in_ok-redo_in_order.ensures.part ∙ redone_part c.projection.ensures version s rs c.args.part ops ms k,
+      c.shrink_to_fit.ensures.items ∙ (c.in_ok-redo_in_order.ensures.sent
+          ∙ (ap (λ (sent : List Move). sent ++ all_sent c.args.part ops ms) c.new-sent.ensures.items
+          ∙ sent_moves c.projection.ensures version s rs c.args.part ops ms k)),
     )

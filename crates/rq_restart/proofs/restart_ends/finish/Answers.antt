@@ -1,123 +1,33 @@
-use Rattle.std.proofs.Common.{◌≡◌, ◌≤◌, ◌+◌, true, List, ◌++◌, ℕ, length, map, ap, refl, sym, subst, ◌∙◌, arith}
-use Rattle.std.proofs.lemmas.List.{length-map}
-use Rattle.rq_model.specs.Records as model
-use Rattle.rq_model.specs.States.{Definition, State}
-use Rattle.rq_model.specs.Machine.{run, all_lawful}
+use Rattle.std.proofs.Common.{arith}
 use Rattle.rq_record.specs.Views.{record_of, version_of}
-use Rattle.rq_state.specs.Views.{unit_of}
-use Rattle.rq_catalog.specs.Analyses.{open_in}
-use Rattle.rq_catalog.proofs.Runs.{front_whole}
+use Rattle.std.proofs.Common.{map}
+use Rattle.std.proofs.lemmas.List.{length-map}
 use Rattle.rq_catalog.proofs.Fronts.{analysis_is_wider, lawful_in_two}
-use Rattle.rq_exchange.specs.Courses.{StartsByLast}
-use Rattle.rq_judged.specs.Views.{why_of}
-use Rattle.rq_restart.proofs.Closings.{AreClosed, closed, answered}
 use Rattle.rq_restart.proofs.restart_ends.finish.Goals as goal
-use Rattle.rq_restart.proofs.restart_ends.finish.Goals.{After-deref, In_ok-append_aborts}
 
-abbrev before : (g : _) → After-deref g → List model.Record
-before g c = map record_of c.args.from.front.records.items
+pub closed_front-requires-clause-lawful : goal.closed_front-requires-clause-lawful
+closed_front-requires-clause-lawful g c κs within =
+    lawful_in_two c.versions.ensures.two (version_of c.args.from.version) c.args.from.state
+    (map record_of c.args.from.front.records.items) c.requires.front.2.front.longest.begins.lawful
 
--- the records, and behind them the aborts of the units that are open then
-abbrev all : (g : _) → After-deref g → List model.Record
-all g c = before g c ++ map model.Abort (open_in c.args.from.front.analysis)
-
-lawful : (g : _) (c : After-deref g)
-    → all_lawful (version_of c.args.from.version) c.args.from.state (before g c) ≡ true
-lawful g c = c.requires.front.2.front.longest.begins.lawful
-
--- the pass found the units that are open after the records
-are_open : (g : _) (c : After-deref g)
-    → open_in c.args.from.front.analysis ≡ (run c.args.from.state (before g c)).units
-are_open g c = c.requires.front.2.analysis.units
-    ∙ ap (λ (xs : List model.Record). (run c.args.from.state xs).units)
-    (front_whole (version_of c.args.from.version) c.args.from.state (before g c) (lawful g c))
-
-are_closed : (g : _) (c : After-deref g)
-    → AreClosed (version_of c.args.from.version) c.args.from.state (before g c) (all g c)
-are_closed g c = closed (version_of c.args.from.version) c.crash_is_harmless.ensures c.runs_are_well_formed.ensures.runs
-    c.args.from.state (before g c) (all g c) (open_in c.args.from.front.analysis) c.requires.front.2.well (lawful g c)
-    (are_open g c) refl
-
-closed_in_two : (g : _) (c : After-deref g) → all_lawful model.Two c.args.from.state (all g c) ≡ true
-closed_in_two g c = lawful_in_two c.versions.ensures.two (version_of c.args.from.version) c.args.from.state (all g c)
-    (are_closed g c).lawful
-
--- there are no more open units than records
-few : (g : _) (c : After-deref g)
-    → length (open_in c.args.from.front.analysis) ≤ c.args.from.state.next + length c.args.from.front.records.items
-few g c =
-    let version = version_of c.args.from.version in
-    let s = c.args.from.state in
+pub closed_front-requires-clause-fits : goal.closed_front-requires-clause-fits
+closed_front-requires-clause-fits g c =
+    let is = c.requires.front.2 in
     omega (
       arith,
-      (c.runs_are_well_formed.ensures.runs version s (before g c) c.requires.front.2.well (lawful g c)).counts,
-      (c.numbers_after.ensures version s (before g c) c.requires.front.2.well (lawful g c)).next,
-      ap length (are_open g c),
+      is.next,
+      is.units,
+      is.short,
+      is.front.few,
+      is.front.within,
       length-map c.args.from.front.records.items record_of,
     )
 
-pub closing_agenda-requires-clause-fits : goal.closing_agenda-requires-clause-fits
-closing_agenda-requires-clause-fits g c =
-    omega (arith, few g c, c.requires.front.2.next, ap length c.deref.ensures.value, c.deref.type_inv.1)
+pub closed_front-requires-clause-within : goal.closed_front-requires-clause-within
+closed_front-requires-clause-within g c = omega (arith, c.requires.front.2.front.within, c.requires.front.3)
 
-pub closing_agenda-requires-clause-lawful : goal.closing_agenda-requires-clause-lawful
-closing_agenda-requires-clause-lawful g c =
-    rw c.deref.ensures.value (closed_in_two g c)
-
-pub closing_agenda-requires-clause-analysed : goal.closing_agenda-requires-clause-analysed
-closing_agenda-requires-clause-analysed g c =
-    rw c.deref.ensures.value
-    (analysis_is_wider c.versions.ensures.two (version_of c.args.from.version) c.args.from.state (before g c)
-    c.args.from.front.analysis (lawful g c) c.requires.front.2.analysis)
-
--- behind the records stand the aborts
-whole : (g : _) (c : In_ok-append_aborts g) → map record_of c.append_aborts.new.records.items
-    ≡ map record_of c.args.from.front.records.items ++ map model.Abort (open_in c.args.from.front.analysis)
-whole g c = c.in_ok-append_aborts.ensures.records
-    ∙ ap (λ (us : List ℕ). map record_of c.args.from.front.records.items ++ map model.Abort us)
-    c.in_ok-agenda.ensures.units
-
-pub redone-requires-clause-lawful : goal.redone-requires-clause-lawful
-redone-requires-clause-lawful g c κs within =
-    let d = (goal.at.redone-requires-clause-lawful g c).After-deref in
-    subst (λ (rs : List model.Record). all_lawful model.Two c.args.from.state rs ≡ true) (sym (whole g c))
-    (closed_in_two g d)
-
-pub returns-clause-answer : goal.returns-clause-answer
-returns-clause-answer g c =
-    let s = c.args.from.state in
-    let version = version_of c.args.from.version in
-    let d = (goal.at.returns-clause-answer g c).After-deref in
-    let e = (goal.at.returns-clause-answer g c).In_ok-append_aborts in
-    let rs = before g d in
-    let next : c.next.result + c.len.result ≡ s.next + length rs =
-    omega (
-      arith,
-      c.next.ensures.next,
-      c.len.ensures,
-      c.args.from.front.records.ok.0,
-      length-map c.args.from.front.records.items record_of,
-    ) in
-    let cut : c.len-cut_off.result ≡ length (open_in c.args.from.front.analysis) =
-    omega (
-      arith,
-      c.len-cut_off.ensures,
-      c.in_ok-agenda.units.ok.0,
-      length-map c.in_ok-agenda.units.items unit_of,
-      ap length c.in_ok-agenda.ensures.units,
-    ) in
-    let here = front_whole version s rs (lawful g d) in
-    answered version c.numbers_after.ensures s c.in_ok-state.state rs (all g d) _ _ _ _ _ _ _
-    (open_in c.args.from.front.analysis) (why_of c.args.from.front.why) c.requires.front.2.well (lawful g d)
-    (are_closed g d) (c.in_ok-state.ensures.state ∙ ap (run s) (whole g e))
-    (omega (arith, c.requires.front.2.front.within, c.requires.front.3)) next
-    (c.committed-committed.ensures ∙ c.requires.front.2.analysis.committed
-    ∙ ap (λ (xs : List model.Record). (run s xs).committed) here)
-    (c.aborted-aborted.ensures ∙ c.requires.front.2.analysis.aborted
-    ∙ ap (λ (xs : List model.Record). (run s xs).aborted) here) (are_open g d) cut
-
--- the course is that of the state that is answered
-pub invariant_of-result : goal.invariant_of-result
-invariant_of-result g c =
-    subst (λ (t : State). StartsByLast (map (λ (d : Definition). d.error) t.definitions) c.in_ok-state.course)
-    (sym c.in_ok-state.ensures.state) c.in_ok-state.ensures.course
+pub closed_front-requires-clause-analysed : goal.closed_front-requires-clause-analysed
+closed_front-requires-clause-analysed g c κs within =
+    analysis_is_wider c.versions.ensures.two (version_of c.args.from.version) c.args.from.state
+    (map record_of c.args.from.front.records.items) c.args.from.front.analysis
+    c.requires.front.2.front.longest.begins.lawful c.requires.front.2.analysis

@@ -7,5 +7,5 @@ finish-requires-clause-front g c κs within =
 
 pub returns : goal.returns
 returns g c =
-    restarts_at c.args.bytes.now c.args.offset c.in_ok-from.from c.in_ok-from.ensures c.len.result c.len.ensures
+    restarts_at c.args.most c.args.bytes.now c.args.offset c.in_ok-from.from c.in_ok-from.ensures c.len.result c.len.ensures
     c.finish.result c.finish.ensures.answer c.finish.ensures.refused

@@ -11,6 +11,9 @@ returns-in-Report g c = rw c.in-Report.is c.put_report.ensures
 pub returns-in-ReportAt : goal.returns-in-ReportAt
 returns-in-ReportAt g c = rw c.in-ReportAt.is c.put_report_at.ensures
 
+pub returns-in-CarriedReport : goal.returns-in-CarriedReport
+returns-in-CarriedReport g c = rw c.in-CarriedReport.is c.put_carried_report.ensures
+
 pub returns-in_ok-text-in-Audit : goal.returns-in_ok-text-in-Audit
 returns-in_ok-text-in-Audit g c =
     let b = c.args.bytes.items in

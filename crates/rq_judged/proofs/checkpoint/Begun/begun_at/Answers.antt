@@ -34,8 +34,8 @@ returns-in_err-state g c =
     (sym c.in-Some.ensures) in
     let begun = begun_at c.frames_are_right.ensures.right b c.args.offset c.in_ok-found.found kept chain some in
     let answer : c.from_residual-in_err-state.result ≡ Err c.in_err-state.field-0.0 = search rules in
-    subst (λ (r : Result Begun Fault). BeginsAt b c.args.offset r) (sym answer)
-    (read_begins (version_of c.in_ok-version.version) b c.args.offset kept c.in_err-state.field-0.0 is.log.0
+    subst (λ (r : Result Begun Fault). BeginsAt c.args.most b c.args.offset r) (sym answer)
+    (read_begins c.args.most (version_of c.in_ok-version.version) b c.args.offset kept c.in_err-state.field-0.0 is.log.0
     c.in_ok-version.ensures.header begun.1 c.in_err-state.ensures)
 
 pub returns : goal.returns

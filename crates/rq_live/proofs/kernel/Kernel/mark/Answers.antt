@@ -6,7 +6,7 @@ use Rattle.rq_live.proofs.kernel.Kernel.mark.Goals as goal
 pub returns-in-Ok-clause-marked : goal.returns-in-Ok-clause-marked
 returns-in-Ok-clause-marked c =
     marks_on c.args.self.now c.take.new.self (Checkpoint c.in_ok-bytes.bytes) _ c.in-Ok.ensures.taken
-    (ap (λ (b : List ℕ). Checkpoint b) c.in_ok-bytes.ensures.spelled) c.in_ok-bytes.ensures.fits
+    (ap (λ (b : List ℕ). Checkpoint b) c.in_ok-bytes.ensures.spelled) c.in_ok-bytes.ensures.fits c.in_ok-bytes.ensures.few
 
 pub returns-clause-refused : goal.returns-clause-refused
 returns-clause-refused c =

@@ -10,8 +10,8 @@ returns-in-Some c =
     let r = record_of c.args.kept.now in
     let e = c.in-Some.ensures.exact in
     let breaks : is_lawful (version_of a.version) a.machine r ≡ false = grind (arith, e) in (
-      λ version rs w h. h,
-      λ version rs w h. breaks_at version rs w r a c.in-Some.rule h
+      λ from rs w h. h,
+      λ from rs w h. breaks_at from rs w r a c.in-Some.rule h
           (breaks, c.in-Some.ensures.which),
     )
 
@@ -21,6 +21,6 @@ returns-in-None c =
     let r = record_of c.args.kept.now in
     let e = c.in-None.ensures.exact in
     let lawful : is_lawful (version_of a.version) a.machine r ≡ true = grind (arith, e) in (
-      λ version rs w h. h,
-      λ version rs w h. no_room version rs w r a a.body.items h c.requires.body.bytes lawful c.requires.long,
+      λ from rs w h. h,
+      λ from rs w h. no_room from rs w r a a.body.items h c.requires.body.bytes lawful c.requires.long,
     )

@@ -3,8 +3,8 @@ use Rattle.rq_live.proofs.Managing.{abort_stops}
 use Rattle.rq_live.proofs.manager.Manager.abort.Goals as goal
 
 pub returns-in-Ok-clause-done : goal.returns-in-Ok-clause-done
-returns-in-Ok-clause-done g c = λ version rs m.
-    let x = c.in-Ok.ensures.taken version rs m in
+returns-in-Ok-clause-done g c = λ from rs m.
+    let x = c.in-Ok.ensures.taken from rs m in
     (x.0, x.1)
 
 pub returns-clause-refused : goal.returns-clause-refused

@@ -5,12 +5,12 @@ use Rattle.rq_live.proofs.Managing.{begin_stops}
 use Rattle.rq_live.proofs.manager.Manager.begin.Goals as goal
 
 pub returns-then-greatest-clause-refused : goal.returns-then-greatest-clause-refused
-returns-then-greatest-clause-refused g c = λ version rs m.
+returns-then-greatest-clause-refused g c = λ from rs m.
     (m, sym (c.greatest-greatest.ensures ∙ ap (λ (s : State). s.greatest) m.at.state) ∙ c.if-greatest.true)
 
 pub returns-in-Ok-clause-begun : goal.returns-in-Ok-clause-begun
-returns-in-Ok-clause-begun g c = λ version rs m.
-    let x = c.in-Ok.ensures.taken version rs m in
+returns-in-Ok-clause-begun g c = λ from rs m.
+    let x = c.in-Ok.ensures.taken from rs m in
     (x.0, ap (λ (n : ℕ). n + 1) (c.greatest-greatest.ensures ∙ ap (λ (s : State). s.greatest) m.at.state))
 
 pub returns-clause-refused : goal.returns-clause-refused
@@ -18,5 +18,5 @@ returns-clause-refused g c =
     begin_stops (stand_of g.D.Device.written g.D.Device.synced g.D.Device.doubted g.D.Device.failed c.args.self.now)
     (stand_of g.D.Device.written g.D.Device.synced g.D.Device.doubted g.D.Device.failed c.take.new.self)
     c.greatest-greatest.result
-    c.in-Err.why (λ version rs m. c.greatest-greatest.ensures ∙ ap (λ (s : State). s.greatest) m.at.state)
+    c.in-Err.why (λ from rs m. c.greatest-greatest.ensures ∙ ap (λ (s : State). s.greatest) m.at.state)
     c.in-Err.ensures.refused

@@ -8,5 +8,5 @@ pub returns-then-is_some-clause-took : goal.returns-then-is_some-clause-took
 returns-then-is_some-clause-took g c =
     takes_one_so _ _ c.args.unit.0 c.args.queue.0 c.args.by _
     (some_copied c.first.result (sym c.is_some.ensures ∙ c.if-is_some.true))
-    (λ version rs m. c.first.ensures ∙ ap (λ (s : State). best c.args.queue.0 s.elements) m.at.state)
+    (λ from rs m. c.first.ensures ∙ ap (λ (s : State). best c.args.queue.0 s.elements) m.at.state)
     c.dequeue.result c.dequeue.ensures.took

@@ -1,16 +1,14 @@
-use Rattle.std.proofs.Common.{◌∙◌, sym, subst}
+use Rattle.std.proofs.Common.{refl, subst}
 use Rattle.rq_live.specs.declared.kernel.NotDone.TheVariants.{Full, Large, Ended}
 use Rattle.rq_live.specs.Kernels.{KernelStopsMark}
 use Rattle.rq_live.specs.Managers.{stand_of}
-use Rattle.rq_live.proofs.Taking.{log_long}
 use Rattle.rq_live.proofs.Managing.{managed_marks, stops_there}
 use Rattle.rq_live.proofs.manager.Manager.marked.Goals as goal
 
 pub returns-in-Ok-clause-marked : goal.returns-in-Ok-clause-marked
 returns-in-Ok-clause-marked g c =
     managed_marks (stand_of g.D.Device.written g.D.Device.synced g.D.Device.doubted g.D.Device.failed c.args.self.now)
-    c.mark.new.self c.len-offset.result
-    c.in-Ok.ensures.marked c.len-offset.ensures (λ version rs m. m.at.framer.len ∙ sym (log_long version rs))
+    c.mark.new.self c.args.self.now.kernel.len c.in-Ok.ensures.marked refl (λ from rs m. m.at.len)
 
 pub returns-in-Err-Full-clause-refused : goal.returns-in-Err-Full-clause-refused
 returns-in-Err-Full-clause-refused g c =

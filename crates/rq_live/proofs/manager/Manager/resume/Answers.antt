@@ -10,7 +10,7 @@ returns-then-not-has_room_for_ends-clause-refused g c =
     let k = c.args.self.now.kernel in
     let e = c.has_room_for_ends.ensures in
     let none = c.if-not-has_room_for_ends.true in
-    let long : log_limit < k.framer.len + 45 * length k.machine.units = grind (arith, nat_tests, e, none) in
+    let long : log_limit < k.len + 45 * length k.machine.units = grind (arith, nat_tests, e, none) in
     (refl, refl, refl, no_room_for_ends k long)
 
 pub returns-then-not-has_room_for_ends-clause-keeps : goal.returns-then-not-has_room_for_ends-clause-keeps
@@ -26,11 +26,11 @@ returns-in-Ok-keep_first-clause-resumed g c =
     let a = (stand_of g.D.Device.written g.D.Device.synced g.D.Device.doubted g.D.Device.failed c.args.self.now) in
     let e = c.has_room_for_ends.ensures in
     let some = c.if-not-has_room_for_ends.false in
-    let room : a.kernel.framer.len + 45 * length a.kernel.machine.units ≤ log_limit =
+    let room : a.kernel.len + 45 * length a.kernel.machine.units ≤ log_limit =
     grind (arith, nat_tests, e, some) in
     resumes_so a
     (stand_of g.D.Device.written g.D.Device.synced g.D.Device.doubted g.D.Device.failed c.keep_first.new.self)
     (stand_of g.D.Device.written g.D.Device.synced g.D.Device.doubted g.D.Device.failed c.settle_pending.new.self)
-    c.abort_open.new.self c.settle_pending.result c.len-used.result c.len-used.ensures room c.in-Ok.ensures
+    c.abort_open.new.self c.settle_pending.result c.args.self.now.kernel.len refl room c.in-Ok.ensures
     c.in-Ok-keep_first.ensures.kernel c.in-Ok-keep_first.ensures.unspent c.in-Ok-keep_first.ensures.serves
     c.in-Ok-keep_first.ensures.bytes c.settle_pending.ensures.safe

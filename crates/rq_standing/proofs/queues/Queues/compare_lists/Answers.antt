@@ -1,22 +1,21 @@
-use Rattle.std.proofs.Common.{◌≤◌, ◌∙◌, ap, subst, List}
+use Rattle.std.proofs.Common.{◌≤◌, ◌∙◌, arith, ap, subst, List}
 use Rattle.std.specs.List.{flat_map}
 use Rattle.rq_model.specs.States.{Definition}
 use Rattle.rq_model.specs.StateSpelling.{definition_bytes}
-use Rattle.rq_model.proofs.StateCodes.{are_few}
 use Rattle.rq_state.specs.Comparing.{left_after}
 use Rattle.rq_standing.proofs.Spellings.{lists_compared}
 use Rattle.rq_standing.proofs.queues.Queues.compare_lists.Goals as goal
 
 pub compare-requires : goal.compare-requires
 compare-requires c =
-    let t = c.requires.holds.0 in
-    let holds = c.requires.holds.1 in
+    let t = c.requires.few.0 in
+    let holds = c.requires.few.1 in
     record {
       few = (
         t,
         holds.well,
         holds.units,
-        (are_few t holds.well (subst (λ n. n ≤ 4294967295) holds.next c.requires.next)).units,
+        omega (arith, c.requires.few.2),
       );
     }
 

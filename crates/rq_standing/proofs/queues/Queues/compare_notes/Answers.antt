@@ -2,7 +2,6 @@ use Rattle.std.proofs.Common.{◌<◌, ◌≤◌, ◌∙◌, arith, ap, sym, sub
 use Rattle.std.specs.List.{flat_map}
 use Rattle.rq_model.specs.States.{Note}
 use Rattle.rq_model.specs.StateSpelling.{counted, note_bytes}
-use Rattle.rq_model.proofs.StateCodes.{are_few}
 use Rattle.rq_state.specs.Comparing.{left_after}
 use Rattle.rq_state.proofs.Behind.{counted_follow, still_differ}
 use Rattle.rq_standing.proofs.queues.Queues.compare_notes.Goals as goal
@@ -13,14 +12,14 @@ returns-then-not-agree-clause-compared c = λ t holds.
 
 pub member_count-requires : goal.member_count-requires
 member_count-requires c =
-    let t = c.requires.holds.0 in
-    let holds = c.requires.holds.1 in
+    let t = c.requires.few.0 in
+    let holds = c.requires.few.1 in
     omega (
       arith,
       c.len.ensures,
       c.in_ok-notes.notes.ok.0,
       ap (λ (ns : List Note). length ns) (c.in_ok-notes.ensures.lent t holds),
-      (are_few t holds.well (subst (λ n. n ≤ 4294967295) holds.next c.requires.next)).notes,
+      c.requires.few.2,
     )
 
 pub returns-clause-compared : goal.returns-clause-compared

@@ -1,8 +1,7 @@
-use Rattle.std.proofs.Common.{◌<◌, ◌≤◌, ◌∙◌, ap, sym, subst, sum_by, length}
+use Rattle.std.proofs.Common.{◌<◌, ◌≤◌, ◌∙◌, arith, ap, sym, subst, sum_by, length}
 use Rattle.std.specs.List.{flat_map}
 use Rattle.rq_model.specs.Queues.{Part}
 use Rattle.rq_model.specs.StateSpelling.{registrant_bytes}
-use Rattle.rq_model.proofs.StateCodes.{are_few}
 use Rattle.rq_state.specs.Comparing.{left_after}
 use Rattle.rq_state.proofs.Behind.{counted_follow}
 use Rattle.rq_standing.proofs.Together.{registrants_counted, registrants_spelled}
@@ -10,23 +9,23 @@ use Rattle.rq_standing.proofs.queues.Queues.compare_registrants.Goals as goal
 
 pub registrants_in-requires : goal.registrants_in-requires
 registrants_in-requires c =
-    let t = c.requires.holds.0 in
-    let holds = c.requires.holds.1 in
+    let t = c.requires.few.0 in
+    let holds = c.requires.few.1 in
     subst (λ n. n < 4294967296)
     (sym (ap (sum_by (λ (p : Part). length p.registrants)) c.deref.ensures.value
     ∙ registrants_counted c.parts_make_the_state.ensures t c.args.self.now.parts.items holds.well holds.parts
     holds.size))
-    (are_few t holds.well (subst (λ n. n ≤ 4294967295) holds.next c.requires.next)).registrants
+    (omega (arith, c.requires.few.2))
 
 pub member_count-requires : goal.member_count-requires
 member_count-requires c =
-    let t = c.requires.holds.0 in
-    let holds = c.requires.holds.1 in
+    let t = c.requires.few.0 in
+    let holds = c.requires.few.1 in
     subst (λ n. n < 4294967296)
     (sym (c.registrants_in.ensures ∙ (ap (sum_by (λ (p : Part). length p.registrants)) c.deref.ensures.value
     ∙ registrants_counted c.parts_make_the_state.ensures t c.args.self.now.parts.items holds.well holds.parts
     holds.size)))
-    (are_few t holds.well (subst (λ n. n ≤ 4294967295) holds.next c.requires.next)).registrants
+    (omega (arith, c.requires.few.2))
 
 pub returns : goal.returns
 returns c = λ t holds.

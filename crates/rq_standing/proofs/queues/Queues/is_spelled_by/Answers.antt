@@ -1,14 +1,23 @@
-use Rattle.std.proofs.Common.{ap, sym, ◌∙◌}
+use Rattle.std.proofs.Common.{ap, arith, sym, ◌≤◌, ◌∙◌}
+use Rattle.std.specs.Prelude.{◌&&◌, is_some, length, nat_le}
 use Rattle.std.proofs.lemmas.Bool.{and_parts, leb-true}
 use Rattle.rq_state.specs.Comparing.{left_after}
-use Rattle.rq_standing.specs.Spelled.{head_of}
+use Rattle.rq_model.specs.StateSpelling.{carried_next}
+use Rattle.rq_standing.specs.Spelled.{head_of, least_bytes}
 use Rattle.rq_standing.proofs.Spellings.{not_spelled, is_spelled}
 use Rattle.rq_standing.proofs.queues.Queues.is_spelled_by.Goals as goal
 
-pub compare_lists-requires-clause-next : goal.compare_lists-requires-clause-next
-compare_lists-requires-clause-next c =
-    leb-true _ _ (and_parts _ _ (sym (c.may_follow.ensures c.requires.holds.0 c.requires.holds.1)
-    ∙ c.if-not-may_follow.false)).0
+pub compare_lists-requires : goal.compare_lists-requires
+compare_lists-requires c =
+    let t = c.requires.holds.0 in
+    let holds = c.requires.holds.1 in
+    let begins = is_some c.compare_head.new.bytes in
+    let fits = nat_le (least_bytes t) (length c.args.kept.now) in
+    let may = and_parts (nat_le c.args.self.now.next carried_next) (begins && fits)
+    (sym (c.may_follow.ensures t holds) ∙ c.if-not-may_follow.false) in
+    let short : least_bytes t ≤ length c.args.kept.now =
+    leb-true (least_bytes t) (length c.args.kept.now) (and_parts begins fits may.1).1 in
+    record { few = (t, holds, omega (arith, short, c.requires.short)) }
 
 pub returns-then-not-may_follow-clause-truth : goal.returns-then-not-may_follow-clause-truth
 returns-then-not-may_follow-clause-truth c = λ t holds.

@@ -2,10 +2,8 @@ use Rattle.std.proofs.Common.{◌≡◌, ◌<◌, ◌≤◌, ◌^◌, ◌∙◌,
 use Rattle.std.specs.List.{flat_map}
 use Rattle.std.proofs.lemmas.List.{length-map}
 use Rattle.rq_model.specs.Queues.{Part}
-use Rattle.rq_model.specs.Reading.{AreFew}
 use Rattle.rq_model.specs.States.{State}
 use Rattle.rq_model.specs.StateSpelling.{state_bytes}
-use Rattle.rq_model.proofs.StateCodes.{are_few}
 use Rattle.rq_state.specs.Spelling.{IsWritten}
 use Rattle.rq_state.specs.Views.{unit_of}
 use Rattle.rq_standing.specs.Stands.{HoldsState}
@@ -44,21 +42,6 @@ lent_is c t holds = λ i. record {
   elements = (c.deref-5.ensures.value ∙ c.in_ok-elements.ensures.lent t holds) i;
   notes = (c.deref-6.ensures.value ∙ c.in_ok-notes.ensures.lent t holds) i;
 }
-
-pub spell_lent-requires : goal.spell_lent-requires
-spell_lent-requires c =
-    let d = (goal.at.spell_lent-requires c).After-deref-6 in
-    let t = c.requires.holds.0 in
-    let holds = c.requires.holds.1 in
-    let few : AreFew (lent d) = subst AreFew (sym (lent_is d t holds))
-    (are_few t holds.well (subst (λ n. n ≤ 4294967295) holds.next c.requires.next)) in
-    record {
-      definitions = few.definitions;
-      units = subst (λ n. n < 2 ^ 32) (length-map c.deref-3.result.now unit_of) few.units;
-      registrants = few.registrants;
-      elements = few.elements;
-      notes = few.notes;
-    }
 
 pub returns : goal.returns
 returns c = λ t holds. subst (λ (s : State). IsWritten (state_bytes s) c.spell_lent.result)

@@ -1,0 +1,5 @@
+mod Frames
+mod Windows
+mod Beginnings
+mod Fronts
+mod Told
