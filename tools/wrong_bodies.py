@@ -195,9 +195,10 @@ def wanted_of(run: Run, words: List[str]) -> List[Batch]:
 
 
 def functions_of(batch: Batch) -> List[str]:
-    """The functions that the receipt names for the wrong bodies of the batch; none, if it does not tell of one."""
+    """The functions that the receipt names for the wrong bodies of the batch; none, if it does not tell of one, or if a twin changes
+    more than that one: all of them have to be proved."""
     lines = receipt_of(TOP, batch.edits[0].crate).lines
-    is_told = all(it.name in lines for it in batch.edits)
+    is_told = all(it.name in lines and not (it.is_twin and len(batch.changed[it]) > 1) for it in batch.edits)
     return [path for it in batch.edits for path in batch.paths(it, lines[it.name].function)] if is_told else []
 
 
