@@ -12,7 +12,8 @@ WAYS = {"raw": "append and fdatasync of the same bytes, a unit each", "sqlite-fu
         "sqlite-off": "SQLite, WAL, OFF: a commit each", "sqlite-off-8": "SQLite, WAL, OFF: eight elements through in a transaction",
         "later-1": "serve without sync, one client", "later-8": "serve without sync, eight units in a write",
         "one-core sqlite-off": "SQLite, WAL, OFF: a commit each, on one processor",
-        "one-core later-1": "serve without sync, one client: both on one processor"}
+        "one-core later-1": "serve without sync, one client: both on one processor",
+        "one-core later-8": "serve without sync, eight units in a write: both on one processor"}
 # What is asked and what answers stay on one processor then: neither has to wake another one.
 ONE_CORE = "one-core "
 # The first byte of a COMMIT.
