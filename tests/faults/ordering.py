@@ -46,6 +46,12 @@ def unsynced(calls: list[Call]) -> list[str]:
     return found + (["left unsynced"] if files or folders else [])
 
 
+def told_before(calls: list[Call]) -> list[str]:
+    """What was done to files behind the first that was said: a line says what it did at its end."""
+    said = next((at for at, it in enumerate(calls) if it.letter in "oe"), len(calls))
+    return [f"done ({it.letter}) behind what was told" for it in calls[said:] if it.letter in "wtln"]
+
+
 def noted(line: str, path: str, **asked: object) -> tuple[Ended, list[Call]]:
     """How a line ends, and its calls."""
     ended, told = run_told(*line.replace("LOG", path).split(), by=rqlog, tells="order", **asked)
@@ -59,6 +65,13 @@ def anew(log: str, before: bytes) -> None:
             os.remove(name)
 
 
+def in_order(line: str, log: bytes, what: str) -> None:
+    anew("order.log", log)
+    ended, calls = noted(line, "order.log")
+    told = ended[0], any(it.letter == "w" for it in calls), unsynced(calls) + told_before(calls)
+    check(f"{line} {what}: synced, and then told", told, (1 if "half" in line else 0, True, []))
+
+
 def order() -> None:
     """What is done is synced before it is told: a file before it gets its name, and its folder behind that."""
     if not has_shim("to see the order of calls"):
@@ -68,12 +81,9 @@ def order() -> None:
     before = content(plain("order", OPENED))
     for rest in (b"", CUT):
         for line in (*APPENDING, *MAKING):
-            anew("order.log", before + rest)
-            ended, calls = noted(line, "order.log")
-            is_half = "half" in line
-            writes = any(it.letter == "w" for it in calls)
-            told = (ended[0], writes, unsynced(calls))
-            check(f"{line} behind {len(rest)} bytes: synced, and then told", told, (1 if is_half else 0, True, []))
+            in_order(line, before + rest, f"behind {len(rest)} bytes")
+    # no unit is open: no ABORT is written behind what is written again
+    in_order("recover LOG", content(plain("ended", START)) + CUT, "without an open unit")
 
 
 def its_name() -> None:
@@ -157,6 +167,21 @@ def another_writer() -> None:
         check(f"{line}, and another log comes", others(line, "replaces", before, grown), [])
 
 
+def looked_at() -> None:
+    """Once the log is held, and before it is read, it is seen that it has its name still: another program may have given that away."""
+    if not has_shim("to see the order of calls"):
+        return
+    put("more.script", b"register 0 bob\n")
+    put("half.script", b"register 0 bob\ncommit 9\n")
+    before = content(plain("looked", OPENED))
+    for line in (*APPENDING, "carry LOG made", "close LOG LOG", "recover LOG"):
+        anew("looked.log", before)
+        log = os.stat("looked.log").st_ino
+        calls = noted(line, "looked.log")[1]
+        read = next(at for at, it in enumerate(calls) if it.letter == "r" and it.file == log)
+        check(f"{line}: looked at, and then read", "".join(it.letter for it in calls[read - 3:read]), "cxx")
+
+
 def read_by_another() -> None:
     """A log that another program reads under a lock is not written, nor replaced by its closed one."""
     log = plain("shared", OPENED)
@@ -170,4 +195,4 @@ def read_by_another() -> None:
             check(f"{line}, read by another", (said, content(log)), ((3, b"", True), before))
 
 
-PARTS = [order, its_name, taken_back, another_writer, read_by_another]
+PARTS = [order, its_name, taken_back, another_writer, looked_at, read_by_another]
