@@ -385,6 +385,16 @@ def kills(folder: str) -> None:
     same_stories(log, records, 20, random.Random(4))
 
 
+def many_records(folder: str) -> None:
+    """The page of a log of more than 10,000 records: what it tells of all, and the lives of elements that are asked for, which end late. Queues
+    and registrants are of other numbers than elements."""
+    lines = ["define jobs 0 -", "define others 0 -", "register 0 ann", "register 0 bob", "register 1 ann", "begin 1", *["enqueue 1 0 5 - 0 61"] * 5005, "commit 1",
+             "begin 2", *["dequeue 2 0 - 0"] * 5001, "commit 2", "begin 3", "dequeue 3 0 - 0", "abort 3"]
+    log, records = made_log(os.path.join(folder, "many"), "make", lines)
+    same_front(log)
+    some_lives(log, Told(records, Stories(records, os.path.getsize(log)), ["jobs", "others"]), random.Random(6))
+
+
 def untold(folder: str) -> None:
     """A script of a log in which the registrant `-` does something: the lines before that, and which record it is."""
     log = os.path.join(folder, "untold.log")
@@ -568,6 +578,7 @@ def main(options: argparse.Namespace) -> None:
     false_checkpoints(folder)
     odd_payloads(folder)
     kills(folder)
+    many_records(folder)
     untold(folder)
     refusals(small, folder)
     if peer:

@@ -2,10 +2,12 @@
 what stands on a page, read; and whether a value of JSON meets a schema: those words of JSON Schema that `docs/report.schema.json` uses."""
 from __future__ import annotations
 import bisect, json, os, re, unicodedata
+from collections import Counter
 from collections.abc import Iterator
 from html.parser import HTMLParser
+from itertools import accumulate
 
-from frames import HEADER, NO_QUEUE
+from frames import HEADER, NO_QUEUE, bodies_of
 from trying import TOP, text_in
 
 SHOWN = 32
@@ -500,14 +502,20 @@ class Told:
 BADGE = re.compile(r'<span class="badge \w+">([^<]*)</span>')
 TILE = re.compile(r"<div><dt>(\w+)</dt><dd>([\d,]+)</dd></div>")
 MARK = re.compile(r'<rect class="(true|false)" ')
+# By whether it is good news, why the front ends; how many units are open at most, and at its end; how many records of each kind there are; and
+# how many bytes the picture shows behind the front.
+REASON = re.compile(r'behind it</th><td><span class="(\w+)">')
+OPEN = re.compile(r"<p>At most ([\d,]+) at once, ([\d,]+) where the front ends\.</p>")
+LEGEND = re.compile(r'<li class="(\w+)">([\d,]+) \w+</li>')
+DAMAGE = re.compile(r'<rect class="damage"[^>]*><title>([\d,]+) bytes behind the front</title>')
 
 
 def told_of(page: Page, report: dict) -> dict[str, object]:
     """What the page tells of the front, by the names of its rows."""
     rows = {cells[0]: cells[1] for _, cells in page.rows if len(cells) == 2}
     names = [name for name, _ in wanted_of(report, b"", [])]
-    tiles = dict(TILE.findall(page.text))
-    return {**{it: rows.get(it) for it in names}, "badge": BADGE.findall(page.text), "tiles": tiles}
+    found = {name: form.findall(page.text) for name, form in (("badge", BADGE), ("reason", REASON), ("open", OPEN), ("damage", DAMAGE))}
+    return {**{it: rows.get(it) for it in names}, **found, "tiles": dict(TILE.findall(page.text)), "kinds": dict(LEGEND.findall(page.text))}
 
 
 def wanted_of(report: dict, log: bytes, audit: list[str]) -> Iterator[tuple[str, object]]:
@@ -524,6 +532,13 @@ def wanted_of(report: dict, log: bytes, audit: list[str]) -> Iterator[tuple[str,
     counts = zip(("bytes", "records", "queues", "elements", "registrants"), (front["total"], front["records"], len(queues), elements, registrants))
     yield "tiles", {name: f"{count:,}" for name, count in counts}
     yield "badge", ["whole" if front["why"] == "whole" else "not whole"]
+    yield "reason", ["whole" if front["why"] == "whole" else "bad"]
+    behind = front["total"] - front["used"]
+    yield "damage", [f"{behind:,}"] if behind else []
+    kinds = [KINDS[body[0]] for body in bodies_of(log[:front["used"]])]
+    yield "kinds", {kind: f"{count:,}" for kind, count in Counter(kinds).items()}
+    open_units = accumulate({"begin": 1, "commit": -1, "abort": -1}.get(it, 0) for it in kinds)
+    yield "open", [(f"{max(open_units, default=0):,}", f"{units['cut_off']:,}")]
 
 
 def marks_of(page: Page) -> list[str]:

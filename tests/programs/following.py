@@ -7,8 +7,9 @@ from collections.abc import Iterable, Iterator
 import trying
 from frames import (CARRIED_AT, HEADER, begin, carried_bytes, chained, checkpoint, commit, define, enqueue, flipped, framed, frames_from, header_of, spelled,
                     write_log)
+from ordering import calls_of, unsynced
 from served import Served
-from trying import EXAMPLES, HANGS, MORE, START, Ended, check, content, done, log_of, plain, put, rqlog, text_in
+from trying import EXAMPLES, HANGS, MORE, START, Ended, check, content, done, has_shim, log_of, plain, put, rqlog, run_told, text_in
 
 # The sizes of pieces: one byte, primes, and more than a small log has.
 SIZES = (1, 2, 3, 5, 13, 37, 61, 97, 251, 1021, 4093)
@@ -176,6 +177,20 @@ def copies() -> None:
     bad = flipped(content(plain("one")), 150)
     rqlog("follow", "bad.copy", script=bad)
     check("the copy of a log with a wrong frame", content("bad.copy"), bad)
+
+
+def synced() -> None:
+    """What came is on the disk before it is told, also if the copy had it already."""
+    if not has_shim("to see the order of calls"):
+        return
+    log = content(plain("one", START + MORE))
+    for there in (None, b"", log[:99], log):
+        if there is not None:
+            put("it.copy", there)
+        ended, told = run_told("follow", "it.copy", by=lambda *words, **how: rqlog(*words, script=log, **how), tells="order")
+        calls = calls_of(told)
+        written = any(it.letter == "w" for it in calls)
+        check(f"a copy of {there and len(there)} bytes: synced, and then told", (ended, written, unsynced(calls)), (restarted(log), True, []))
 
 
 def standing() -> None:
@@ -346,5 +361,5 @@ def hostile() -> None:
     check("payloads that go", rqlog("follow", script=big), restarted(big))
 
 
-PARTS = [pieces, beginnings, damage, wrong_frames, no_logs, copies, standing, killed, taken_over, fifos, refusals, hostile]
+PARTS = [pieces, beginnings, damage, wrong_frames, no_logs, copies, synced, standing, killed, taken_over, fifos, refusals, hostile]
 

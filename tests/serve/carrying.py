@@ -329,6 +329,9 @@ def order() -> None:
     check("order", (ended[0], unsynced(calls)), (0, []))
     letters = "".join(it.letter for it in calls if it.letter in "lnd")
     check("a link, the folder, a rename, the folder", "ldnd" in letters, True)
+    # by the beginning a start knows what a crash left of the new log
+    new = next(it.file for it in calls if it.letter == "n")
+    check("its beginning, and then the rest", "".join(it.letter for it in calls if it.file == new and it.letter in "ws").startswith("wsws"), True)
 
 
 # --- starts --------------------------------------------------------------------------------------------------------

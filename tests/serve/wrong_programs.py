@@ -225,9 +225,9 @@ class ErrorsDoomNobody(WithModel):
     """A line that is no request leaves the open units as they are."""
 
     class made(Model):
-        def answer(self, line: bytes) -> Answer:
+        def answered(self, line: bytes) -> Answer:
             doomed = set(self.doomed)
-            answer = super().answer(line)
+            answer = super().answered(line)
             self.doomed = doomed if answer.text.startswith("error") else self.doomed
             return answer
 

@@ -6,10 +6,11 @@ from collections.abc import Callable, Iterator
 from typing import NamedTuple
 
 from frames import as_log, carried, changed, flipped, framed
-from trying import Ended
+from trying import START, Ended
 from .asking import CHECKPOINT, MAKE, ONE_ELEMENT, Program, Programs, Question, Row, first, rows_of, script, told, whole
 from .reports import windows
 from .works import carried_one, with_points
+from .writing import UNLAWFUL
 
 # An element whose takers abort: two, and it moves to the error queue; and one there.
 SECOND_ABORT = script("""\
@@ -395,9 +396,27 @@ ENDS = [
 ]
 
 
+# Why a front ends by its law: as a sentence, and as the field of an object behind that of the word.
+TOLD_RULE = re.compile(rb'law(?:: |",\s*"reason": ?")([^"<\n]+)')
+
+
+def rule_told(rqlook: Program, words: list[str]) -> bytes:
+    found = TOLD_RULE.search(rqlook.run(*words)[1])
+    return found[1] if found else b""
+
+
 def ends_of(rqlook: Program, words: list[str], begins: bytes, ends: bytes) -> tuple[int, bytes, bytes, bytes]:
     status, output, said = rqlook.run(*words)
     return status, output[:len(begins)], output[-len(ends):], said
+
+
+def rules(rqlook: Program, rq: Program) -> Iterator[Question]:
+    """Which rule ends a front, as each line tells it that says why."""
+    for line, rule in UNLAWFUL.items():
+        log = rq.file(rq.log_of(f"{START.decode()}begin 5\n{line.decode()}\n"))
+        for words in ("check LOG", "dump LOG --limit 0", "dump LOG --limit 0 --json", "report LOG --json", "page LOG -"):
+            ask = functools.partial(rule_told, rqlook, [log if word == "LOG" else word for word in words.split()])
+            yield Question(f"rqlook {words} of {line.decode()}", ask, rule)
 
 
 def ends(rqlook: Program, rq: Program) -> Iterator[Question]:
@@ -513,6 +532,6 @@ def pages(on: Programs) -> Iterator[Question]:
 
 def questions(on: Programs) -> Iterator[Question]:
     yield from rows_of(ROWS + OF_ONE, on)
-    for some in (of_one_log, behind_one, of_each_version, fronts_of_windows, ends, checkpoints, scripted):
+    for some in (of_one_log, behind_one, of_each_version, fronts_of_windows, rules, ends, checkpoints, scripted):
         yield from some(on.rqlook, on.rq)
     yield from pages(on)
