@@ -75,7 +75,7 @@ fn truth_of(offset: u64, is_true: bool) -> Truth
 
 /// Where the checkpoints stand in the front of a carried file that is read as a log, and which of them
 /// are true, with the state that it begins with taken at its word. Costs what `audit_at` does.
-/// Refused as `open_carried` is.
+/// Refused as `Growth::behind_carried` is.
 pub fn audit_carried<R: Threads + Sync>(
     rt: &R,
     alloc: Global,
