@@ -3,16 +3,18 @@ use Rattle.std.proofs.Common.{◌≡◌, ◌+◌, ◌-◌, ◌≤◌, ◌<◌, �
 use Rattle.std.proofs.Common.{append_assoc, arith}
 use Rattle.std.proofs.lemmas.List.{append-nil, length-append, length-drop, length-take, take-append-drop, take-append-le, take_at, drop_at}
 use Rattle.rq_model.specs.Records.{Record, Checkpoint, Version}
-use Rattle.rq_model.specs.Frames.{HasHeader, Whole, before, frames_of, last_of, log_limit}
+use Rattle.rq_model.specs.Spelling.{body_of}
+use Rattle.rq_model.specs.Frames.{HasHeader, HasRightFrame, Whole, before, body_in, digest, frame, frames_of, last_of, log_limit}
 use Rattle.rq_model.specs.LogLaws.{OneRestartAt}
 use Rattle.rq_model.specs.States.{State}
 use Rattle.rq_model.specs.Machine.{run}
 use Rattle.rq_model.specs.StateSpelling.{carried_next, state_bytes}
-use Rattle.rq_model.specs.Fronts.{Ends, Restarted}
+use Rattle.rq_model.specs.Fronts.{Ends, IsLongest, Restarted, restarted}
 use Rattle.rq_model.specs.Appending.{MayFollow}
 use Rattle.rq_model.specs.Carrying.{IsCarriedFront, IsCarriedRestart, LaterSaysTheSame}
-use Rattle.rq_model.proofs.FromCheckpoints.{IsLinked, front_at, restart_at}
 use Rattle.rq_model.proofs.Longest.{frames_of_join, front_stops}
+use Rattle.rq_model.proofs.RecordReaders.{body_fits}
+use Rattle.rq_model.proofs.Runs.{frame_is_right}
 use Rattle.rq_front.specs.Framers.{at_checkpoint, length_with}
 use Rattle.rq_judged.proofs.Passes.{part_more}
 use Rattle.rq_journal.specs.Checkpoints.{IsTrueThere, Marks, MarksTrulyThere, carried_front, checkpoint_in}
@@ -73,23 +75,61 @@ module _ (b : List ℕ) (offset : ℕ) (version : Version) (base : State) (kept 
   head : HasHeader version grown
   head = ap (take 40) grown_is ∙ head_of (fs ++ w) ∙ sym (head_of (fs ++ rest)) ∙ sym (ap (take 40) b_is) ∙ h.header
 
-  at : IsLinked grown offset p (fs ++ w)
-  at = record {
-    ahead = ahead;
-    behind = ap (drop offset) grown_is ∙ drop_at left (fs ++ w) offset left_long;
-  }
-
   bytes : fs ++ w ≡ frames_of p (rs ++ xs)
   bytes = ap (λ (z : List ℕ). fs ++ z) frames ∙ sym (frames_of_join p rs xs)
 
+  behind : drop offset grown ≡ frames_of p (rs ++ xs)
+  behind = ap (drop offset) grown_is ∙ drop_at left (fs ++ w) offset left_long ∙ bytes
+
+  longest : IsLongest version base p (frames_of p (rs ++ xs)) (rs ++ xs) []
+  longest =
+      front_stops version base p (frames_of p (rs ++ xs)) [] (rs ++ xs) (Ends Whole)
+      (record { records = may.records; lawful = may.lawful; whole = sym (append-nil (frames_of p (rs ++ xs))) }) refl
+
+  abbrev body : List ℕ
+  body = body_of (Checkpoint kept)
+
+  abbrev more : List ℕ
+  more = frames_of (digest p body) (after ++ xs)
+
+  right : HasRightFrame p (frame p body ++ more) × (body_in (frame p body ++ more) ≡ body)
+  right = frame_is_right p body more (body_fits version (Checkpoint kept) may.records.0)
+
   -- they are part of it, and nothing stands behind it
   pub grown_front : IsCarriedFront grown offset version base kept (after ++ xs) []
-  grown_front =
-      front_at carried_next grown offset version base kept (after ++ xs) p (fs ++ w) []
-      (omega (arith, short, ap length grown_is, length-append left (fs ++ w), left_long, ap length bytes)) head past at h.spells
-      (front_stops version base p (fs ++ w) [] (rs ++ xs) (Ends Whole)
-          (record { records = may.records; lawful = may.lawful; whole = bytes ∙ sym (append-nil (frames_of p (rs ++ xs))) })
-          refl)
+  grown_front = record {
+    short = omega (arith, short, ap length grown_is, length-append left (fs ++ w), left_long, ap length bytes);
+    header = head;
+    checkpoint = record {
+      past_header = past;
+      frame = subst (λ (z : List ℕ). HasRightFrame z (drop offset grown)) (sym ahead)
+          (subst (HasRightFrame p) (sym behind) right.0);
+      body = ap body_in behind ∙ right.1;
+    };
+    spells = h.spells;
+    front = subst (λ (z : List ℕ). IsLongest version base z (drop offset grown) (rs ++ xs) []) (sym ahead)
+        (subst (λ (z : List ℕ). IsLongest version base p z (rs ++ xs) []) (sym behind) longest);
+  }
+
+-- a restart from a checkpoint behind which all is whole
+restart_there : (b : List ℕ) (offset : ℕ) (version : Version) (s : State) (kept : List ℕ) (after : List Record)
+    → IsCarriedFront b offset version s kept after []
+    → IsCarriedRestart b offset (restarted (run s (Checkpoint kept ∷ after)) 0 (length b) (Ends Whole))
+restart_there b offset version s kept after h = record {
+  version = version;
+  state = s;
+  kept = kept;
+  records = Checkpoint kept ∷ after;
+  rest = [];
+  why = Ends Whole;
+  short = h.short;
+  header = h.header;
+  checkpoint = h.checkpoint;
+  spells = h.spells;
+  front = h.front;
+  ends = refl;
+  answer = refl;
+}
 
 -- a log that is closed
 pub closed_from : (b : List ℕ) (offset : ℕ) (xs : List Record) (g : Growth) → IsGrownFrom b offset xs g
@@ -105,7 +145,7 @@ closed_from b offset xs g h =
       whole = subst (λ (n : ℕ). IsCarriedFront (take n b ++ g.frames.items) offset h.version h.base h.kept (h.after ++ xs) [])
           (sym h.used)
           (grown_front b offset h.version h.base h.kept h.after (drop g.end.used b) h.front xs g.frames.items there.may
-              h.grown.frames there.short);
+          h.grown.frames there.short);
     }
 
 -- a checkpoint that was gathered is true
@@ -132,11 +172,10 @@ marks_truly_there a b s offset later one low m whole first version base kept aft
     ∙ ap (λ (z : List ℕ). first + length (frames_of z (Checkpoint kept ∷ (after ++ xs)))) (sym ahead_is) in
     let low_there : state.next ≤ carried_next = omega (arith, low, ap (λ (z : State). z.next) here) in
     let says = λ (r : Restarted) (k : IsCarriedRestart marked first r). later carried_next marked first version base kept
-        (after ++ xs) (state_bytes state) [] [] r (omega arith) front_there refl low_there k in
-    let found = restart_at carried_next marked first version base kept ((after ++ xs) ++ checkpoint_in state ∷ [])
-        (before first marked) [] (Ends Whole) front_there refl refl in
+    (after ++ xs) (state_bytes state) [] [] r (omega arith) front_there refl low_there k in
+    let found = restart_there marked first version base kept ((after ++ xs) ++ checkpoint_in state ∷ []) front_there in
     let at_offset = λ (n : ℕ) (is : n ≡ offset) (r : Restarted) (k : IsCarriedRestart marked n r). subst
-        (λ (z : ℕ). IsCarriedRestart marked z r) is k in
+    (λ (z : ℕ). IsCarriedRestart marked z r) is k in
     record {
       begins = begins;
       front = front_there;

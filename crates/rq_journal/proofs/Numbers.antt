@@ -38,6 +38,12 @@ spelled_first b version s kept after rest h =
       bytes_are = sym (drop-drop 5 72 b) ∙ sym (drop-drop 1 4 frame) ∙ ap (drop 1) body_is;
     }
 
+-- and it is long enough for that
+pub long_enough : (b : List ℕ) (version : Version) (s : State) (kept : List ℕ) (after : List Record) (rest : List ℕ)
+    → IsCarriedFront b carried_at version s kept after rest → 77 ≤ length b
+long_enough b version s kept after rest h =
+    omega (arith, h.checkpoint.frame.whole.room, length-drop carried_at b)
+
 -- how many records there are behind the first number, and that they have numbers
 pub counted : (b : List ℕ) (f : JudgedFront) (h : IsJudgedAt b carried_at f)
     → h.base.next + f.end.records ≡ (run h.base (Checkpoint h.kept ∷ h.after)).next

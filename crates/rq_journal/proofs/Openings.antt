@@ -9,7 +9,8 @@ use Rattle.rq_model.specs.Fronts.{IsFront}
 use Rattle.rq_model.proofs.Longest.{front_whole, log_joins}
 use Rattle.rq_model.proofs.Restarts.{header_long}
 use Rattle.rq_model.specs.Appending.{CrashWhileAppending, AppendedIsFront}
-use Rattle.rq_model.specs.States.{State}
+use Rattle.rq_model.specs.States.{State, empty}
+use Rattle.rq_model.specs.Machine.{run}
 use Rattle.rq_record.specs.Views.{version_of}
 use Rattle.rq_catalog.specs.declared.judge.Judge.{Judge}
 use Rattle.rq_catalog.specs.Judges.{StandsIn}
@@ -29,7 +30,7 @@ use Rattle.rq_journal.proofs.Taking.{later}
 abbrev pub with_judge : RedoneFront → Judge → JudgedFront
 with_judge f j = record { judge = j; last = f.last; end = f.end }
 
-pub judged_of : (b : List ℕ) (f : RedoneFront) (j : Judge) → IsRedoneFront b f → StandsIn (version_of f.version) j f.state
+abbrev pub judged_of : (b : List ℕ) (f : RedoneFront) (j : Judge) → IsRedoneFront b f → StandsIn (version_of f.version) j f.state
     → IsJudged b (with_judge f j)
 judged_of b f j h stands = record {
   version = version_of f.version;
@@ -42,7 +43,7 @@ judged_of b f j h stands = record {
   judge = subst (λ (s : State). StandsIn (version_of f.version) j s) h.state stands;
 }
 
-pub judged_at : (b : List ℕ) (offset : ℕ) (f : RedoneFront) (j : Judge) → IsRedoneAt b offset f
+abbrev pub judged_at : (b : List ℕ) (offset : ℕ) (f : RedoneFront) (j : Judge) → IsRedoneAt b offset f
     → StandsIn (version_of f.version) j f.state → IsJudgedAt b offset (with_judge f j)
 judged_at b offset f j h stands = record {
   version = version_of f.version;

@@ -16,12 +16,13 @@ impl Growth {
     /// own header again.
     ///
     /// `Resources` is returned if memory is refused.
-    pub fn closed_carried(self, bytes: Vec<u8>) -> Result<Vec<u8>, Fault>
-        ensures file { IfOk result (λ made. IsFileOf (with_frames bytes.items self) made.items) }
-        ensures from { (offset : ℕ) (xs : List Record) → IsGrownFrom bytes.items offset xs self
-            → IsClosedFrom bytes.items offset xs (with_frames bytes.items self) }
+    pub fn closed_carried(&self, bytes: Vec<u8>) -> Result<Vec<u8>, Fault>
+        ensures file { IfOk result (λ made. IsFileOf (with_frames bytes.items self.now) made.items) }
+        ensures from { (offset : ℕ) (xs : List Record) → IsGrownFrom bytes.items offset xs self.now
+            → IsClosedFrom bytes.items offset xs (with_frames bytes.items self.now) }
         ensures refused { IfErr result (λ e. e ≡ Resources) }
     {
+        rq_model::versions();
         let mut made = bytes;
         made.truncate(self.end.used);
         made.extend_from_slice(&self.frames)?;

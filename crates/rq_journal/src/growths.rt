@@ -33,7 +33,6 @@ pub struct Growth {
 
 impl Growth {
     // No records yet, behind a front that was judged, where the next record has this number.
-    #[tactic(auto, using(crate::proofs::Openings::numbered, crate::proofs::Openings::numbered_at))]
     pub(crate) fn numbered(alloc: Global, front: JudgedFront, next: u64) -> Growth
         ensures whole { (b : List ℕ) (h : IsJudged b front) → next ≡ (run empty h.records).next
             → IsGrownBehind b [] result }

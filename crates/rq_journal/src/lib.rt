@@ -12,7 +12,7 @@ mod left_behind;
 mod opened_logs;
 
 pub use appender::NotTaken;
-pub use carried_logs::{Truth, audit_carried, carried};
+pub use carried_logs::{Truth, audit_carried, carried, scarce_numbers};
 pub use checkpoints::NotMarked;
 pub use growths::Growth;
 pub use left_behind::Damage;
