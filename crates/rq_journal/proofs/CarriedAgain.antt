@@ -128,9 +128,13 @@ module _ (b : List ℕ) (f : RedoneFront) (h : IsRedoneAt b carried_at f) where
     state = h.state;
   }
 
-  -- a state without a checkpoint is not carried
+  -- a state behind which no other is spelled is not carried
+  pub no_number : carried_next ≤ f.state.next → StaysThere b faults.TooLong
+  no_number high = inr (f.state, state_of, high)
+
+  -- nor is one without a checkpoint
   pub no_checkpoint : (e : Fault) → HasNoCheckpointOf f.state e → StaysThere b e
-  no_checkpoint faults.TooLong high = inr (f.state, state_of, high)
+  no_checkpoint faults.TooLong high = no_number (omega (arith, high))
   no_checkpoint faults.TooLarge large = (f.state, state_of, large.0, large.1)
   no_checkpoint faults.Resources none = tt
   no_checkpoint _ none = absurd none

@@ -68,10 +68,15 @@ module _ (version : Version) (p : List ℕ) (s : State) (body : List ℕ) (long 
         apart = λ log. apart.headed version log.0 anew head log.1;
       })
 
+-- no log numbers so many records that none behind its checkpoint is spelled
+pub unnumbered : (b : List ℕ) (f : RedoneFront) → FrontsAreSpelt → IsRedoneFront b f → carried_next ≤ f.state.next
+    → StaysHere b faults.TooLong
+unnumbered b f spelt h high = let low = next_fits b f spelt h in absurd (omega (arith, high, low))
+
 -- a log whose state has no checkpoint is not carried
 pub not_carried : (b : List ℕ) (f : RedoneFront) (e : Fault) → FrontsAreSpelt → IsRedoneFront b f
     → HasNoCheckpointOf f.state e → StaysHere b e
-not_carried b f faults.TooLong spelt h high = let low = next_fits b f spelt h in absurd (omega (arith, high, low))
+not_carried b f faults.TooLong spelt h high = unnumbered b f spelt h (omega (arith, high))
 not_carried b f faults.TooLarge spelt h large = (
   version_of f.version,
   h.records,

@@ -9,8 +9,7 @@ use Rattle.rq_model.specs.Appending.{MayFollow, CrashInFrames, CrashWhileAppendi
 use Rattle.rq_model.proofs.Longest.{frames_of_join, last_of_join}
 use Rattle.rq_front.specs.Framers.{Place, at_checkpoint}
 use Rattle.rq_journal.specs.Appenders.{AppendsOne, IsAppenderAt}
-use Rattle.rq_journal.specs.Openings.{AreWrittenBehind}
-use Rattle.rq_journal.specs.Growths.{AreWrittenAt, AreWrittenFrom, GrowsBy, IsGrownAt, IsGrownBehind, IsGrownFrom}
+use Rattle.rq_journal.specs.Growths.{AreWrittenAt, AreWrittenBehind, AreWrittenFrom, GrowsBy, IsGrownAt, IsGrownBehind, IsGrownFrom}
 use Rattle.rq_journal.specs.declared.appender.NotTaken.{NotTaken}
 use Rattle.rq_journal.specs.declared.growths.Growth.{Growth}
 use Rattle.rq_journal.proofs.Taking.{later}

@@ -1,9 +1,11 @@
 mod Taking
 mod Openings
+mod Numbers
 mod Growing
 mod Marking
 mod WithCheckpoint
+mod CarriedFronts
+mod Closing
 mod CarriedOn
 mod CarriedAgain
 mod LeftFrames
-mod Recovering

@@ -1,6 +1,6 @@
 -- Units that are ended, and a checkpoint, among the frames that are gathered behind a front.
 use Rattle.std.proofs.Common.{◌≡◌, ◌+◌, ◌-◌, ◌*◌, ◌/◌, ◌<◌, ◌≤◌, ℕ, List, [], ◌∷◌, ◌++◌, length, map, sym, ap, subst, ◌∙◌}
-use Rattle.std.proofs.Common.{append_assoc, refl, arith}
+use Rattle.std.proofs.Common.{append_assoc, refl, inr, arith}
 use Rattle.std.proofs.lemmas.List.{append-nil, length-append}
 use Rattle.rq_model.specs.Records.{Record, Abort}
 use Rattle.rq_model.specs.Spelling.{body_of}
@@ -76,6 +76,7 @@ no_room len count left is many = omega arith
 pub crowded : (a : Growth) (r : Record) (why : NotTaken) → StopsGrowing a r why → IsCrowdedBy a (r ∷ []) (unmarked why)
 crowded a r untaken.Full h = λ at rs xs g.
     subst (λ (ys : List Record). log_limit < length_with at ys) (append_assoc rs xs (r ∷ [])) (h at rs xs g)
+crowded a r untaken.Ended h = h
 crowded a r (untaken.Unlawful rule) h = tt
 crowded a r untaken.Resources h = tt
 
@@ -135,5 +136,6 @@ stays_unmarked a s r why told h is tells =
     stays : (a : Growth) (s : State) (why : NotTaken) → IsCrowdedBy a (checkpoint_in s ∷ []) (unmarked why)
         → StaysUnmarked a s (unmarked why)
     stays a s untaken.Full h = h
+    stays a s untaken.Ended h = inr h
     stays a s (untaken.Unlawful rule) h = h
     stays a s untaken.Resources h = h

@@ -14,7 +14,7 @@ use Rattle.rq_model.specs.Appending.{MayFollow}
 use Rattle.rq_model.proofs.Lists.{each_append}
 use Rattle.rq_model.proofs.Runs.{frame_long}
 use Rattle.rq_model.proofs.Longest.{frames_of_join, last_of_join}
-use Rattle.rq_model.proofs.Restarts.{run_join, lawful_join, lawful_cut, each_cut}
+use Rattle.rq_model.proofs.Restarts.{run_join, next_run, lawful_join, lawful_cut, each_cut}
 use Rattle.rq_record.specs.Writing.{HasKind}
 use Rattle.rq_catalog.specs.declared.judge.Judge.{Judge}
 use Rattle.rq_front.specs.Framers.{Place, Frames, length_with}
@@ -57,12 +57,13 @@ one_longer at rs r =
 
 -- a judge that still stands where it stood
 pub stands_still : (at : Place) (rs : List Record) (a : Appender) (j : Judge) → KeepsStanding a.judge j
-    → IsAppenderAt at rs a → IsAppenderAt at rs (record { judge = j; framer = a.framer })
+    → IsAppenderAt at rs a → IsAppenderAt at rs (record { judge = j; framer = a.framer; next = a.next })
 stands_still at rs a j kept h = record {
   may = h.may;
   short = h.short;
   judge = kept at.version (run at.state rs) h.judge;
   framer = h.framer;
+  number = h.number;
 }
 
 -- a record that is judged and framed moves it on
@@ -71,8 +72,8 @@ pub moves_on : (a b : Appender) (r : Record) (old new : List ℕ)
     → ((version : Version) (s : State) → StandsIn version a.judge s → is_lawful version s r ≡ true)
     → ((version : Version) (s : State) → StandsIn version a.judge s → StandsIn version b.judge (step s r))
     → Frames a.framer b.framer (body_of r) old new → a.framer.len + (36 + length (body_of r)) ≤ log_limit
-    → AppendsOne a b r old new
-moves_on a b r old new spelled lawful stands framed room at rs h =
+    → b.next ≡ a.next + 1 → AppendsOne a b r old new
+moves_on a b r old new spelled lawful stands framed room next at rs h =
     let here = run at.state rs in
     let allowed = lawful at.version here h.judge in
     let longer = one_longer at rs r in (
@@ -90,6 +91,14 @@ moves_on a b r old new spelled lawful stands framed room at rs h =
               ∙ sym (last_of_join at.link rs (r ∷ []));
           len = omega (arith, framed.len, h.framer.len, longer);
         };
+        number = omega (
+          arith,
+          next,
+          h.number,
+          next_run at.state rs,
+          next_run at.state (rs ++ r ∷ []),
+          length-append rs (r ∷ []),
+        );
       },
       framed.bytes ∙ ap (λ (q : List ℕ). old ++ frame q (body_of r)) h.framer.last,
     )

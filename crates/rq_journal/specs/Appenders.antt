@@ -5,6 +5,7 @@ use Rattle.rq_model.specs.Spelling.{body_of, Spells}
 use Rattle.rq_model.specs.Frames.{IsBodyLength, log_limit, frame, last_of}
 use Rattle.rq_model.specs.States.{State}
 use Rattle.rq_model.specs.Machine.{is_lawful, run, step}
+use Rattle.rq_model.specs.StateSpelling.{carried_next}
 use Rattle.rq_model.specs.Appending.{MayFollow}
 use Rattle.rq_record.specs.Writing.{HasKind}
 use Rattle.rq_front.specs.Framers.{Place, IsFramerAt, length_with}
@@ -14,15 +15,16 @@ use Rattle.rq_catalog.specs.declared.judge.Judge.{Judge}
 use Rattle.rq_catalog.specs.Judges.{StandsIn}
 use Rattle.rq_journal.specs.declared.appender.Appender.{Appender}
 use Rattle.rq_journal.specs.declared.appender.NotTaken.{NotTaken}
-use Rattle.rq_journal.specs.declared.appender.NotTaken.TheVariants.{Unlawful, Full, Resources}
+use Rattle.rq_journal.specs.declared.appender.NotTaken.TheVariants.{Ended, Unlawful, Full, Resources}
 
 -- the appender stands behind the frames of these records, which may follow there, in a log that is
--- no longer than one may be
+-- no longer than one may be; and it knows the number of the next one
 pub record IsAppenderAt (at : Place) (rs : List Record) (a : Appender) : Type 0 where
   pub may : MayFollow at.version at.state rs
   pub short : length_with at rs ≤ log_limit
   pub judge : StandsIn at.version a.judge (run at.state rs)
   pub framer : IsFramerAt at rs a.framer
+  pub number : a.next ≡ (run at.state rs).next
 
 -- the body is that of the record, in each version that has its kind
 pub record IsSpelled (r : Record) (body : List ℕ) : Type 0 where
@@ -47,9 +49,10 @@ AppendsOne a b r old new = (at : Place) (rs : List Record) → IsAppenderAt at r
 abbrev pub KeepsPlace : Appender → Appender → Type 0
 KeepsPlace a b = (at : Place) (rs : List Record) → IsAppenderAt at rs a → IsAppenderAt at rs b
 
--- why a record is not taken behind these: it breaks a rule there, and there would be room; or there
--- is none; or memory was refused
+-- why a record is not taken behind these: so many are numbered that no state behind it is spelled; or
+-- it breaks a rule there, and there would be room; or there is none; or memory was refused
 abbrev pub IsRefused : Place → List Record → Record → NotTaken → Type 0
+IsRefused at rs r Ended = carried_next ≤ (run at.state rs).next
 IsRefused at rs r (Unlawful rule) = Breaks at.version (run at.state rs) r rule
     × (is_lawful at.version (run at.state rs) r ≡ false) × (length_with at (rs ++ r ∷ []) ≤ log_limit)
 IsRefused at rs r Full = log_limit < length_with at (rs ++ r ∷ [])

@@ -1,6 +1,6 @@
 -- A log that goes on from another, and its audit.
 use Rattle.std.specs.Prelude.{◌≡◌, ◌<◌, ◌≤◌, ◌⊎◌, ◌==◌, ℕ, Bool, if◌then◌else◌, List, [], ◌∷◌, ◌++◌}
-use Rattle.std.specs.Prelude.{length, drop, map, Result, Ok, Err}
+use Rattle.std.specs.Prelude.{length, drop, map, nat_lt, ◌-◌, Option, Some, None, Result, Ok, Err}
 use Rattle.std.specs.Global.{Vec}
 use Rattle.rq_model.specs.Records.{Record, Checkpoint, Version}
 use Rattle.rq_model.specs.Frames.{log_limit, start, frame, frames_of, last_of, before, Whole}
@@ -98,12 +98,18 @@ abbrev pub StaysThere : List ℕ → Fault → Type 0
 StaysThere b TooLarge = (s : State) × IsCarriedState b s × (s.next ≤ carried_next)
     × (268435455 < length (state_bytes s))
 StaysThere b TooLong = (log_limit < length b)
-    ⊎ ((s : State) × IsCarriedState b s × (carried_next < s.next))
+    ⊎ ((s : State) × IsCarriedState b s × (carried_next ≤ s.next))
 StaysThere b e = RefusedCarried b carried_at e
 
 abbrev pub CarriesAgain : List ℕ → Result (Vec ℕ) Fault → Type 0
 CarriesAgain b (Ok v) = IsCarriedAgain b v.items
 CarriesAgain b (Err e) = StaysThere b e
+
+-- how many records may still be numbered, if that is fewer than the least frames, of 37 bytes, that a
+-- file has room for
+abbrev pub scarce_numbers : ℕ → Option ℕ
+scarce_numbers next =
+    if nat_lt (carried_next - next) 116080196 then Some (carried_next - next) else None
 
 -- What is told of the checkpoints of a log that was carried on.
 

@@ -1,22 +1,23 @@
 -- A checkpoint of a state, behind the front of a log too, and the ABORTs before it.
-use Rattle.std.specs.Prelude.{◌≡◌, ◌↔◌, ◌+◌, ◌<◌, ◌≤◌, ⊤, ℕ, List, [], ◌∷◌, ◌++◌, length, Result, Ok, Err}
+use Rattle.std.specs.Prelude.{◌≡◌, ◌↔◌, ◌⊎◌, ◌+◌, ◌<◌, ◌≤◌, ⊤, ℕ, List, [], ◌∷◌, ◌++◌, length, take, Result, Ok, Err}
 use Rattle.std.specs.Global.{Vec}
 use Rattle.rq_model.specs.Records.{Checkpoint, Record, Version}
 use Rattle.rq_model.specs.Spelling.{body_of}
-use Rattle.rq_model.specs.Frames.{AreBytes, IsBodyLength, log_limit, log_of}
+use Rattle.rq_model.specs.Frames.{AreBytes, IsBodyLength, log_limit, log_of, frames_of, before}
 use Rattle.rq_model.specs.States.{State, empty}
 use Rattle.rq_model.specs.Machine.{aborts, run}
 use Rattle.rq_model.specs.StateSpelling.{carried_next, state_bytes}
-use Rattle.rq_model.specs.Fronts.{IsFront}
+use Rattle.rq_model.specs.Fronts.{IsFront, Restarted}
 use Rattle.rq_model.specs.Reports.{IsReport}
 use Rattle.rq_model.specs.Checkpoints.{TrueAt, IsReportAt}
 use Rattle.rq_model.specs.Closing.{HaveSameQueues}
 use Rattle.rq_model.specs.Appending.{FitsCheckpoint, with_checkpoint}
+use Rattle.rq_model.specs.Carrying.{IsCarriedFront, IsCarriedRestart}
 use Rattle.rq_record.specs.declared.fault.Fault.{Fault}
 use Rattle.rq_record.specs.declared.fault.Fault.TheVariants as faults
 use Rattle.rq_record.specs.Views as rt
 use Rattle.rq_record.specs.Views.{record_of}
-use Rattle.rq_front.specs.Framers.{Place, behind_header, length_with}
+use Rattle.rq_front.specs.Framers.{Place, behind_header, at_checkpoint, length_with}
 use Rattle.rq_journal.specs.declared.appender.NotTaken.{NotTaken}
 use Rattle.rq_journal.specs.declared.appender.NotTaken.TheVariants as untaken
 use Rattle.rq_journal.specs.declared.checkpoints.NotMarked.{NotMarked}
@@ -54,12 +55,14 @@ SpellsBody s (Err e) = HasNoCheckpointOf s e
 abbrev pub EndsUnits : Growth → Growth → State → State → Type 0
 EndsUnits a b s t = GrowsBy a b (aborts s) × (t ≡ run s (aborts s))
 
--- wherever a stood, the log would be too long with these records, or memory was refused
+-- wherever a stood, the log would be too long with these records, or so many are numbered that no
+-- state behind one more is spelled; or memory was refused
 abbrev pub IsCrowdedBy : Growth → List Record → NotMarked → Type 0
 IsCrowdedBy a ys Full = (at : Place) (rs xs : List Record) → IsGrownAt at rs xs a
     → log_limit < length_with at (rs ++ (xs ++ ys))
 IsCrowdedBy a ys Resources = ⊤
-IsCrowdedBy a ys Ended = ⊥
+IsCrowdedBy a ys Ended = (at : Place) (rs xs : List Record) → IsGrownAt at rs xs a
+    → carried_next ≤ (run at.state (rs ++ xs)).next
 IsCrowdedBy a ys Large = ⊥
 
 -- why not: so many records would be numbered, or the log would be too long; or memory was refused
@@ -93,14 +96,43 @@ MarksTruly a b s offset = (whole : List ℕ) (version : Version) (rs xs : List R
     IsFront whole version rs rest → IsGrownAt (behind_header version) rs xs a → s ≡ run empty (rs ++ xs)
     → IsMarked (log_of version rs ++ b.frames.items) version (rs ++ xs) offset
 
--- why there is no checkpoint: so many records are numbered, the spelling would be too long, or the log;
--- or memory was refused
+-- a carried file that is read as this log, from the checkpoint at the first offset on, with a checkpoint
+-- at the second, behind these records: it spells the state before it, which begins a front of its own,
+-- and a restart from it is that from the first
+pub record IsTrueThere (marked : List ℕ) (first : ℕ) (version : Version) (base : State) (kept : List ℕ)
+    (records : List Record) (offset : ℕ) : Type 0 where
+  pub begins : offset ≡ first + length (frames_of (before first marked) (Checkpoint kept ∷ records))
+  pub front : IsCarriedFront marked first version base kept
+      (records ++ checkpoint_in (run base (Checkpoint kept ∷ records)) ∷ []) []
+  pub there : IsCarriedFront marked offset version (run base (Checkpoint kept ∷ records))
+      (state_bytes (run base (Checkpoint kept ∷ records))) [] []
+  pub restart : (r : Restarted) → IsCarriedRestart marked offset r ↔ IsCarriedRestart marked first r
+
+-- the bytes of a carried file that is read as the log b, up to the end of its front
+abbrev pub carried_front : List ℕ → ℕ → List ℕ → List Record → List ℕ
+carried_front b offset kept after =
+    take (offset + length (frames_of (before offset b) (Checkpoint kept ∷ after))) b
+
+-- wherever a stood behind the front of a carried file, in this state, the file with what b holds is
+-- marked there
+abbrev pub MarksTrulyThere : Growth → Growth → State → ℕ → Type 0
+MarksTrulyThere a b s offset = (whole : List ℕ) (first : ℕ) (version : Version) (base : State)
+    (kept : List ℕ) (after xs : List Record) (rest : List ℕ) →
+    IsCarriedFront whole first version base kept after rest
+    → IsGrownAt (at_checkpoint version base whole first) (Checkpoint kept ∷ after) xs a
+    → s ≡ run base (Checkpoint kept ∷ (after ++ xs))
+    → IsTrueThere (carried_front whole first kept after ++ b.frames.items) first version base kept
+    (after ++ xs) offset
+
+-- why there is no checkpoint: so many records are numbered, in the state or where it stands, the
+-- spelling would be too long, or the log; or memory was refused
 abbrev pub StaysUnmarked : Growth → State → NotMarked → Type 0
-StaysUnmarked a s Ended = carried_next ≤ s.next
+StaysUnmarked a s Ended = (carried_next ≤ s.next) ⊎ IsCrowdedBy a (checkpoint_in s ∷ []) Ended
 StaysUnmarked a s Large = 268435455 < length (state_bytes s)
 StaysUnmarked a s why = IsCrowdedBy a (checkpoint_in s ∷ []) why
 
 -- why a record that is lawful is not taken
 abbrev pub unmarked : NotTaken → NotMarked
 unmarked untaken.Full = Full
+unmarked untaken.Ended = Ended
 unmarked why = Resources

@@ -1,11 +1,11 @@
 -- Records whose frames are gathered behind the front of a log, and what a crash leaves of them.
-use Rattle.std.specs.Prelude.{◌≡◌, ◌+◌, ℕ, List, ◌∷◌, ◌++◌, length, drop}
+use Rattle.std.specs.Prelude.{◌≡◌, ◌+◌, ℕ, List, [], ◌∷◌, ◌++◌, length, drop}
 use Rattle.rq_model.specs.Records.{Record, Checkpoint, Version}
 use Rattle.rq_model.specs.Frames.{log_of, frames_of, last_of, before}
 use Rattle.rq_model.specs.States.{State}
 use Rattle.rq_model.specs.Fronts.{IsFront}
 use Rattle.rq_model.specs.Carrying.{IsCarriedFront}
-use Rattle.rq_model.specs.Appending.{HasGrown}
+use Rattle.rq_model.specs.Appending.{HasGrown, IsLeftOf}
 use Rattle.rq_front.specs.Framers.{Place, behind_header, at_checkpoint}
 use Rattle.rq_journal.specs.Appenders.{IsAppenderAt, IsRefused}
 use Rattle.rq_journal.specs.declared.appender.NotTaken.{NotTaken}
@@ -39,6 +39,17 @@ pub record IsGrownFrom (b : List ℕ) (offset : ℕ) (xs : List Record) (g : Gro
 abbrev pub AreWrittenAt : Place → List Record → List Record → List ℕ → Type 0
 AreWrittenAt at rs xs written = (part missing : List ℕ) → written ≡ part ++ missing
     → HasGrown at.version at.state at.link rs xs part
+
+-- the frames of these records behind the front of b: whatever beginning of them stands there, the
+-- front is the old one and the records whose frames are wholly there
+pub record AreWrittenBehind (b : List ℕ) (xs : List Record) (written : List ℕ) : Type 0 where
+  pub version : Version
+  pub records : List Record
+  pub rest : List ℕ
+  pub front : IsFront b version records rest
+  pub crash : (part missing : List ℕ) → written ≡ part ++ missing →
+      IsLeftOf version records xs part (log_of version records ++ part)
+  pub whole : IsFront (log_of version records ++ written) version (records ++ xs) []
 
 -- so it is behind the front of a carried file that is read as the log b, from the checkpoint at an
 -- offset

@@ -1,7 +1,7 @@
 pub mod Appenders
-pub mod Openings
 pub mod Growths
+pub mod Openings
 pub mod Checkpoints
+pub mod Closings
 pub mod Carries
 pub mod LeftBehind
-pub mod Recoveries

@@ -1,42 +1,46 @@
-//! What takes records behind the front of a log, and gives their frames; and where it stands there.
+//! What takes records behind the front of a log, and gives their frames.
 
-ghost use Rattle.std.specs.Prelude.{◌≡◌, ℕ, List, [], OnOk, IfOk, IfErr};
+ghost use Rattle.std.specs.Prelude.{◌≡◌, ◌<◌, List, OnOk, IfOk, IfErr};
 ghost use Rattle.rq_model.specs.Records as model;
+ghost use Rattle.rq_model.specs.StateSpelling.{carried_next};
 ghost use Rattle.rq_record.specs.Views.{record_of, version_of};
-ghost use Rattle.rq_front.specs.Framers.{Place, behind_header};
-ghost use Rattle.rq_judged.specs.JudgedFronts.{IsJudged, IsJudgedAt};
+ghost use Rattle.rq_front.specs.Framers.{Place};
 ghost use Rattle.rq_journal.specs.Appenders.{IsAppenderAt, IsSpelled, IsJudgedAs};
 ghost use Rattle.rq_journal.specs.Appenders.{Refuses, KeepsPlace, AppendsOne};
-ghost use Rattle.rq_journal.specs.Openings.{IsOpened, IsOpenedAt};
 
 use rq_catalog::Judge;
 use rq_front::{FRAME_LEN, Framer};
-use rq_judged::{Edge, JudgedFront};
 use rq_lawful::Rule;
 use rq_record::{
     CheckBytes, Fault, KeptBy, KeptPayload, KeptRecord, Payload, Record, Version, encode,
 };
+use rq_state::State;
 use std::alloc::Global;
 
 /// Why a record is not taken.
 #[derive(Clone, Copy, PartialEq, Eq, Debug)]
 pub enum NotTaken {
+    /// So many records are numbered, over all files of the log, that no state behind one more can be
+    /// spelled: 9,223,372,036,854,775,807. This is told first, of any record.
+    Ended,
     /// It is not lawful behind the records before it: it breaks this rule.
     Unlawful(Rule),
-    /// With it the log would have more than 4,294,967,295 bytes. This is told first, of a record
-    /// that is unlawful as well.
+    /// With it the log would have more than 4,294,967,295 bytes. This is told before `Unlawful`, of a
+    /// record that is unlawful as well.
     Full,
     /// The host refused memory.
     Resources,
 }
 
 /// Stands where the front of a log ends, takes records one by one, and gives their frames. It keeps
-/// of the log what lawfulness looks at, its last 32 bytes and its length: so it does not grow with
-/// the records.
+/// of the log what lawfulness looks at, its last 32 bytes, its length, and the number of the next
+/// record: so it does not grow with the records.
 #[derive(Drop)]
-pub struct Appender {
+pub(crate) struct Appender {
     pub(crate) judge: Judge,
     pub(crate) framer: Framer,
+    /// The number of the next record, over all files of the log.
+    pub(crate) next: u64,
 }
 
 // The record as a judge looks at it: its payload, or the bytes of a checkpoint, are not copied.
@@ -68,18 +72,8 @@ fn judged(alloc: Global, r: &Record) -> Result<KeptRecord, Fault>
 }
 
 impl Appender {
-    /// Stands behind the header of a log without records.
-    pub fn new(alloc: Global, version: Version) -> Appender
-        ensures { IsAppenderAt (behind_header (version_of version)) [] result }
-    {
-        Appender {
-            judge: Judge::new(alloc, version),
-            framer: Framer::new(version),
-        }
-    }
-
     /// The version by whose rules it takes records.
-    pub fn version(&self) -> Version
+    pub(crate) fn version(&self) -> Version
         ensures { (at : Place) (rs : List model.Record) → IsAppenderAt at rs self.now
             → version_of result ≡ at.version }
     {
@@ -89,7 +83,7 @@ impl Appender {
     /// Takes the next record, and appends its frame to `out`.
     ///
     /// If it is not taken, nothing is appended, and the appender stands where it stood.
-    pub fn append(
+    pub(crate) fn append(
         &mut self,
         alloc: Global,
         next: &Record,
@@ -97,6 +91,7 @@ impl Appender {
     ) -> Result<(), NotTaken>
         ensures taken { OnOk result
             (AppendsOne self.old self.new (record_of next.now) out.old.items out.new.items) }
+        ensures number { OnOk result (self.old.next < carried_next) }
         ensures refused { IfErr result (Refuses self.old (record_of next.now)) }
         ensures stays { IfErr result (λ why. KeepsPlace self.old self.new) }
         ensures nothing { IfErr result (λ why. out.new.items ≡ out.old.items) }
@@ -121,10 +116,14 @@ impl Appender {
         requires { IsSpelled (record_of next.now) body.now }
         ensures taken { OnOk result
             (AppendsOne self.old self.new (record_of next.now) out.old.items out.new.items) }
+        ensures number { OnOk result (self.old.next < carried_next) }
         ensures refused { IfErr result (Refuses self.old (record_of next.now)) }
         ensures stays { IfErr result (λ why. KeepsPlace self.old self.new) }
         ensures nothing { IfErr result (λ why. out.new.items ≡ out.old.items) }
     {
+        if self.next >= State::CARRIED_RECORDS {
+            return Err(NotTaken::Ended);
+        }
         if !self.framer.has_room(body.len()) {
             return Err(NotTaken::Full);
         }
@@ -141,33 +140,7 @@ impl Appender {
             return Err(NotTaken::Resources);
         };
         self.framer.put(body, out).unwrap();
+        self.next += 1;
         Ok(())
-    }
-}
-
-/// An appender that stands where the front of a log ends, and where that is.
-#[derive(Drop)]
-pub struct Opened {
-    /// Stands there.
-    pub appender: Appender,
-    /// Where the front ends, and why. What stands behind it has to go before anything is written
-    /// there. Only `Whole` and `Cut` are ends of a log to which records were being appended.
-    pub end: Edge,
-}
-
-impl Opened {
-    /// Stands behind a front that was judged.
-    #[tactic(auto, using(crate::proofs::Openings::opened, crate::proofs::Openings::opened_at))]
-    pub fn of(front: JudgedFront) -> Opened
-        ensures whole { (b : List ℕ) → IsJudged b front → IsOpened b result }
-        ensures from { (b : List ℕ) (offset : ℕ) → IsJudgedAt b offset front → IsOpenedAt b offset result }
-        ensures end { result.end ≡ front.end }
-    {
-        let JudgedFront { judge, last, end } = front;
-        let appender = Appender {
-            judge,
-            framer: Framer::after(last, end.used),
-        };
-        Opened { appender, end }
     }
 }

@@ -1,10 +1,12 @@
 //! A checkpoint of a state, behind the front of a log too, and the ABORTs before it.
 
-ghost use Rattle.std.specs.Prelude.{◌≡◌, [], ◌∷◌, map, OnOk, IfOk, IfErr};
+ghost use Rattle.std.specs.Prelude.{◌≡◌, ◌<◌, [], ◌∷◌, map, OnOk, IfOk, IfErr};
 ghost use Rattle.rq_model.specs.Records as model;
 ghost use Rattle.rq_model.specs.Machine.{run};
+ghost use Rattle.rq_model.specs.StateSpelling.{carried_next};
 ghost use Rattle.rq_state.specs.Views.{unit_of};
 ghost use Rattle.rq_journal.specs.Checkpoints.{EndsUnits, MakesCheckpoint, Marks, MarksTruly};
+ghost use Rattle.rq_journal.specs.Checkpoints.{MarksTrulyThere};
 ghost use Rattle.rq_journal.specs.Checkpoints.{SpellsBody, StaysUnended, StaysUnmarked, unmarked};
 ghost use Rattle.rq_journal.specs.Growths.{GrowsBy, StaysGrown};
 
@@ -19,10 +21,10 @@ use std::alloc::Global;
 // What the frame of an ABORT has: 36 bytes, and the 9 of its body.
 const ABORT_LEN: usize = 45;
 
-/// A checkpoint of a state. `TooLong` if it numbers more than 9,223,372,036,854,775,807 records,
-/// `TooLarge` if its spelling has more than 268,435,455 bytes, and `Resources` if memory is refused.
+// A checkpoint of a state. `TooLong` if it numbers more than 9,223,372,036,854,775,807 records,
+// `TooLarge` if its spelling has more than 268,435,455 bytes, and `Resources` if memory is refused.
 #[tactic(auto, using(crate::proofs::WithCheckpoint::unspelled))]
-pub fn checkpoint_of(alloc: Global, state: &State) -> Result<Record, Fault>
+fn checkpoint_of(alloc: Global, state: &State) -> Result<Record, Fault>
     ensures { MakesCheckpoint state.now result }
 {
     if state.next() > State::CARRIED_RECORDS {
@@ -65,6 +67,7 @@ fn unmarked(why: NotTaken) -> NotMarked
 {
     match why {
         NotTaken::Full => NotMarked::Full,
+        NotTaken::Ended => NotMarked::Ended,
         _ => NotMarked::Resources,
     }
 }
@@ -140,11 +143,13 @@ impl Growth {
     }
 
     /// Gathers a checkpoint of the state where it stands. Its offset in the log, where it is true: a
-    /// restart from it and one of the whole log have one report. If it is refused, nothing is
-    /// gathered.
+    /// restart from it and one of the whole log have one report; in a carried file a restart from it is
+    /// the one from the checkpoint that the file begins with. If it is refused, nothing is gathered.
     pub fn append_checkpoint(&mut self, alloc: Global, state: &State) -> Result<usize, NotMarked>
         ensures marked { IfOk result (Marks self.old self.new state.now) }
+        ensures number { IfOk result (λ offset. state.now.next < carried_next) }
         ensures truth { IfOk result (MarksTruly self.old self.new state.now) }
+        ensures there { IfOk result (MarksTrulyThere self.old self.new state.now) }
         ensures refused { IfErr result (StaysUnmarked self.old state.now) }
         ensures stays { IfErr result (λ why. StaysGrown self.old self.new) }
         ensures end { self.new.end ≡ self.old.end }
@@ -152,6 +157,8 @@ impl Growth {
         rq_model::appended_logs();
         rq_model::appended_checkpoints();
         rq_model::true_checkpoints_report_the_same();
+        rq_model::continued_logs();
+        rq_model::one_report();
         if state.next() >= State::CARRIED_RECORDS {
             return Err(NotMarked::Ended);
         }

@@ -1,17 +1,21 @@
 //! The frames of records that are to be written behind the front of a log.
 
-ghost use Rattle.std.specs.Prelude.{◌≡◌, ◌∷◌, ℕ, List, [], IfErr, IfOk, OnOk};
+ghost use Rattle.std.specs.Prelude.{◌≡◌, ◌<◌, ◌∷◌, ◌++◌, ℕ, List, [], IfErr, IfOk, OnOk};
 ghost use Rattle.rq_model.specs.Records as model;
+ghost use Rattle.rq_model.specs.States.{empty};
+ghost use Rattle.rq_model.specs.Machine.{run};
+ghost use Rattle.rq_model.specs.StateSpelling.{carried_next};
 ghost use Rattle.rq_record.specs.Views.{record_of, version_of};
 ghost use Rattle.rq_record.specs.declared.fault.Fault.TheVariants.{Resources};
 ghost use Rattle.rq_front.specs.Framers.{Place};
+ghost use Rattle.rq_judged.specs.JudgedFronts.{IsJudged, IsJudgedAt};
 ghost use Rattle.rq_restart.specs.RedoneFronts.{IsRedoneAt, IsRedoneFront};
-ghost use Rattle.rq_journal.specs.Growths.{AreWrittenFrom, GrowsBy, IsGrownAt, IsGrownBehind};
-ghost use Rattle.rq_journal.specs.Growths.{IsGrownFrom, StaysGrown, StopsGrowing};
-ghost use Rattle.rq_journal.specs.Openings.{AreWrittenBehind, IsOpened, IsOpenedAt};
+ghost use Rattle.rq_journal.specs.Growths.{AreWrittenBehind, AreWrittenFrom, GrowsBy, IsGrownAt};
+ghost use Rattle.rq_journal.specs.Growths.{IsGrownBehind, IsGrownFrom, StaysGrown, StopsGrowing};
 
-use crate::appender::{Appender, NotTaken, Opened};
+use crate::appender::{Appender, NotTaken};
 use rq_catalog::Judge;
+use rq_front::Framer;
 use rq_judged::{Edge, JudgedFront};
 use rq_record::{Fault, Record, Version};
 use rq_restart::RedoneFront;
@@ -28,19 +32,35 @@ pub struct Growth {
 }
 
 impl Growth {
-    /// No records yet, behind the front of a log that was opened.
-    pub fn of(alloc: Global, opened: Opened) -> Growth
-        ensures whole { (b : List ℕ) → IsOpened b opened → IsGrownBehind b [] result }
-        ensures from { (b : List ℕ) (offset : ℕ) → IsOpenedAt b offset opened
+    // No records yet, behind a front that was judged, where the next record has this number.
+    pub(crate) fn numbered(alloc: Global, front: JudgedFront, next: u64) -> Growth
+        ensures whole { (b : List ℕ) (h : IsJudged b front) → next ≡ (run empty h.records).next
+            → IsGrownBehind b [] result }
+        ensures from { (b : List ℕ) (offset : ℕ) (h : IsJudgedAt b offset front)
+            → next ≡ (run h.base (model.Checkpoint h.kept ∷ h.after)).next
             → IsGrownFrom b offset [] result }
-        ensures end { result.end ≡ opened.end }
+        ensures end { result.end ≡ front.end }
     {
-        let Opened { appender, end } = opened;
+        let JudgedFront { judge, last, end } = front;
+        let framer = Framer::after(last, end.used);
         Growth {
-            appender,
+            appender: Appender {
+                judge,
+                framer,
+                next,
+            },
             end,
             frames: Vec::new(alloc),
         }
+    }
+
+    /// No records yet, behind the front of a log that was judged.
+    pub fn behind_judged(alloc: Global, front: JudgedFront) -> Growth
+        ensures whole { (b : List ℕ) → IsJudged b front → IsGrownBehind b [] result }
+        ensures end { result.end ≡ front.end }
+    {
+        let next = front.end.records as u64;
+        Growth::numbered(alloc, front, next)
     }
 
     /// No records yet, behind a front of which the state was made. Refused with `Resources` alone.
@@ -53,12 +73,12 @@ impl Growth {
         ensures refused { IfErr result (λ e. e ≡ Resources) }
     {
         let judge = Judge::of(alloc, front.version, &front.state)?;
-        let opened = Opened::of(JudgedFront {
+        let judged = JudgedFront {
             judge,
             last: front.last,
             end: front.end,
-        });
-        let growth = Growth::of(alloc, opened);
+        };
+        let growth = Growth::numbered(alloc, judged, front.state.next());
         Ok(growth)
     }
 
@@ -84,10 +104,20 @@ impl Growth {
         self.appender.framer.len()
     }
 
+    /// The number of the next record, over all files of the log.
+    pub fn next(&self) -> u64
+        ensures number { result ≡ self.now.appender.next }
+        ensures state { (at : Place) (rs xs : List model.Record) → IsGrownAt at rs xs self.now
+            → result ≡ (run at.state (rs ++ xs)).next }
+    {
+        self.appender.next
+    }
+
     /// Takes the next record, and gathers its frame. If it is not taken, nothing is gathered, and
     /// the next one can be tried.
     pub fn append(&mut self, alloc: Global, next: &Record) -> Result<(), NotTaken>
         ensures taken { OnOk result (GrowsBy self.old self.new (record_of next.now ∷ [])) }
+        ensures number { OnOk result (self.old.appender.next < carried_next) }
         ensures refused { IfErr result (StopsGrowing self.old (record_of next.now)) }
         ensures stays { IfErr result (λ why. StaysGrown self.old self.new) }
         ensures end { self.new.end ≡ self.old.end }

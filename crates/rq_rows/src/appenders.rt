@@ -1,7 +1,7 @@
 //! What is written behind the front of a log: records, a checkpoint, and a log that goes on from it.
 
 use crate::logs::{ONE_ELEMENT, log_of};
-use rq_journal::{Growth, NotTaken, Opened, Rule, carried, is_carried, read_as_log};
+use rq_journal::{Growth, NotTaken, Rule, carried, is_carried, read_as_log};
 use rq_record::{LogBytes, QueueNo, Record, UnitNo, Version};
 use rq_restart::{
     Fault, Open, Plan, RedoneFront, Restarted, audit, restart, restart_at, restart_carried,
@@ -32,13 +32,15 @@ fn takes_each(alloc: Global, growth: &mut Growth, records: &[Record]) -> bool {
 }
 
 /// Whether the records of a second unit, which takes the element of `ONE_ELEMENT` and commits, are taken
-/// one by one, with these frames, and a second commit is not.
-pub fn takes(alloc: Global, opened: Opened, frames: &[u8]) -> bool {
-    let mut growth = Growth::of(alloc, opened);
+/// one by one, as records 4 to 6, with these frames, and a second commit is not.
+pub fn takes(alloc: Global, mut growth: Growth, frames: &[u8]) -> bool {
+    let is_fourth = growth.next() == 4;
     let is_taken = takes_each(alloc, &mut growth, &TAKING);
     let again = growth.append(alloc, &TAKING[2]);
     let rule = Rule::NotOpen(UnitNo(2));
-    is_taken
+    is_fourth
+        && is_taken
+        && growth.next() == 7
         && growth.version() == Version::One
         && again == Err(NotTaken::Unlawful(rule))
         && growth.frames() == frames
@@ -71,8 +73,21 @@ fn goes_on_from<R: Threads + Sync + AllocGlobal>(rt: &R, log: &[u8], at: u64, pl
         && has_five(restart_at(rt, rt.alloc(), log, at, plan, &Open))
 }
 
+// Whether a growth stands behind the checkpoint of a carried file, and closes it by nothing.
+fn is_closed_so<R: Threads + Sync + AllocGlobal>(
+    rt: &R,
+    read: Vec<u8>,
+    file: &[u8],
+    plan: &Plan,
+) -> Result<bool, Fail> {
+    let growth = Growth::behind_carried(rt, rt.alloc(), &read, plan)?;
+    let is_fifth = growth.next() == 5;
+    let closed = growth.closed_carried(read)?;
+    Ok(is_fifth && closed.as_slice() == file)
+}
+
 // Whether a log is carried on by a file that is none, and is read as one that is restarted from its
-// checkpoint.
+// checkpoint, and closed as it is.
 fn is_carried_on<R: Threads + Sync + AllocGlobal>(
     rt: &R,
     log: &[u8],
@@ -80,11 +95,13 @@ fn is_carried_on<R: Threads + Sync + AllocGlobal>(
 ) -> Result<bool, Fail> {
     let front = RedoneFront::of(rt, rt.alloc(), &LogBytes::borrowed(log), plan)?;
     let mut new = carried(rt.alloc(), &front)?;
+    let file = Vec::from_slice(rt.alloc(), &new)?;
     let is_other = is_carried(&new) && !is_carried(log);
     let is_none = is_no_log(restart(rt, rt.alloc(), &new, plan, &Open));
     let is_read = read_as_log(&mut new).is_some();
     let has_all = has_five(restart_carried(rt, rt.alloc(), &new, 72, plan, &Open));
-    Ok(is_other && is_none && is_read && has_all)
+    let is_closed = is_closed_so(rt, new, &file, plan)?;
+    Ok(is_other && is_none && is_read && has_all && is_closed)
 }
 
 // The log up to the end of its front, and behind that a checkpoint, behind ABORTs of the open units.

@@ -4,7 +4,7 @@ use crate::damage::LeftOut;
 use crate::fronts::redone_log;
 use crate::inputs::{LentLog, ReadLog};
 use crate::refusal::Refusal;
-use rq_journal::{Growth, Plan, carried, write_as_carried};
+use rq_journal::{Fault, Growth, Plan, carried};
 use rq_record::LogBytes;
 use rq_restart::RedoneFront;
 use rq_state::State;
@@ -67,11 +67,11 @@ pub(crate) fn carried_on<R: Threads + Sync>(
     drops: bool,
 ) -> Result<(RedoneFront, Option<LeftOut>, Vec<u8>), Refusal> {
     let (front, left_out) = redone_log(rt, alloc, log, plan, drops)?;
-    if front.state.next() >= State::CARRIED_RECORDS {
-        return Err(Refusal::Ended);
+    match carried(alloc, &front) {
+        Ok(made) => Ok((front, left_out, made)),
+        Err(Fault::TooLong) => Err(Refusal::Ended),
+        Err(fault) => Err(Refusal::from(fault)),
     }
-    let made = carried(alloc, &front)?;
-    Ok((front, left_out, made))
 }
 
 /// The closed file of a carried one that was read, and what is left out of it behind its front, if that
@@ -90,9 +90,5 @@ pub(crate) fn closed_carried<R: Threads + Sync>(
     let (front, left_out) = redone_log(rt, alloc, &lent, plan, drops)?;
     let mut growth = Growth::behind_redone(alloc, &front)?;
     growth.end_units(alloc, &front.state)?;
-    let mut made = read.bytes;
-    made.truncate(front.end.used);
-    made.extend_from_slice(growth.frames())?;
-    write_as_carried(&mut made);
-    Ok((made, left_out))
+    Ok((growth.closed_carried(read.bytes)?, left_out))
 }

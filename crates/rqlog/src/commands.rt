@@ -9,11 +9,10 @@ use crate::refusal::{Refusal, Stream, failed, untold};
 use clap::ArgMatches;
 use rq_file::{Names, Patient, Replaces};
 use rq_front::header_of;
-use rq_journal::{CARRIED_AT, Fault, Plan, Truth, audit_carried};
+use rq_journal::{CARRIED_AT, Fault, Plan, Truth, audit_carried, scarce_numbers};
 use rq_log_file::{HeldLog, Hold};
 use rq_record::{LogBytes, Version};
 use rq_restart::Ending;
-use rq_state::State;
 use rq_tool::{Open, OverRead, OverWrite, Work, through};
 use std::alloc::{AllocError, Global};
 use std::fmt::Write;
@@ -22,9 +21,6 @@ use std::io::{self, Read};
 use std::rt::{Clock, Files};
 use std::sync::ArcSlice;
 use std::thread::Threads;
-
-// No log has more records: each has 37 bytes at least.
-const OF_FULL_LOG: u64 = 116_080_196;
 
 /// Makes the file of a log that has no record yet.
 pub(crate) fn new_log<R>(rt: &R, words: &ArgMatches<'_>) -> Result<(), Refusal>
@@ -85,8 +81,7 @@ fn tell_carried<R: Print>(rt: &R, json: bool, next: u64, bytes: u64) -> io::Resu
 // Says how many records may still be numbered, if a log that is carried on could need more before
 // it is full.
 fn warn_of_end<R: Eprint>(rt: &R, next: u64) {
-    let left = State::CARRIED_RECORDS.saturating_sub(next);
-    if left < OF_FULL_LOG {
+    if let Some(left) = scarce_numbers(next) {
         let _ = eprintln!(rt;
             "rqlog: {left} records more, and numbers end: begin a new log before"
         );

@@ -6,14 +6,10 @@ ghost use Rattle.rq_judged.specs.GrowingFronts.{GoesAlong};
 use crate::damage::{LINK_LEN, LastBytes, LeftOut, expect_end};
 use crate::inputs::{LentLog, bytes_from, read_piece};
 use crate::refusal::{Refusal, Stream, failed};
-use byteorder::{BigEndian, ByteOrder};
 use rq_front::HEADER_LEN;
-use rq_journal::{
-    CARRIED_AT, Fault, Growth, Opened, Plan, Why, is_carried, open_carried, read_as_log,
-};
+use rq_journal::{CARRIED_AT, Fault, Growth, Plan, Why, is_carried, read_as_log};
 use rq_judged::GrowingFront;
 use rq_restart::RedoneFront;
-use rq_state::State;
 use std::alloc::{AllocError, Global};
 use std::fs::File;
 use std::io::{Read, Seek, SeekFrom};
@@ -30,13 +26,20 @@ pub(crate) struct OpenLog {
     pub(crate) growth: Growth,
     /// So many bytes of the log were read: all that it had.
     pub(crate) read: usize,
-    /// The number of the next record, over all files of the log.
-    pub(crate) next: u64,
     /// What stands behind the front and is left out, if that is to be told.
     pub(crate) left_out: Option<LeftOut>,
 }
 
 impl OpenLog {
+    // Behind whose front nothing is left out yet, of a log of which so many bytes were read.
+    fn new(growth: Growth, read: usize) -> OpenLog {
+        OpenLog {
+            growth,
+            read,
+            left_out: None,
+        }
+    }
+
     // Refuses the end of the front, by the last bytes of the log, if nothing is written behind it,
     // unless what stands there is to be dropped.
     fn expect_end(
@@ -48,32 +51,6 @@ impl OpenLog {
         let (version, end) = (self.growth.version(), self.growth.end());
         self.left_out = expect_end(alloc, last, version, end, drops)?;
         Ok(())
-    }
-
-    /// Whether a state behind one record more can be spelled: it numbers 9,223,372,036,854,775,807 at most.
-    pub(crate) fn has_number(&self) -> bool {
-        self.next < State::CARRIED_RECORDS
-    }
-}
-
-// How many records were numbered before the first frame of a log. If it was carried on, the spelling
-// of the state that it begins with tells it first, behind the length and the kind of its checkpoint.
-fn numbered_before(bytes: &[u8], is_carried: bool) -> u64 {
-    let at = CARRIED_AT + 5;
-    if !is_carried || bytes.len() < at + 8 {
-        return 0;
-    }
-    BigEndian::read_u64(&bytes[at..])
-}
-
-// Where a log of so many bytes was opened, before whose first frame so many records were numbered.
-fn open_at(alloc: Global, opened: Opened, read: usize, before: u64) -> OpenLog {
-    let next = before.saturating_add(opened.end.records as u64);
-    OpenLog {
-        growth: Growth::of(alloc, opened),
-        read,
-        next,
-        left_out: None,
     }
 }
 
@@ -148,7 +125,7 @@ where
     let mut front = GrowingFront::new(rt.alloc());
     let read = feed_file(rt, file, &mut front, plan)?;
     let judged = front.judged(rt, rt.alloc(), plan)?;
-    Ok(open_at(rt.alloc(), Opened::of(judged), read, 0))
+    Ok(OpenLog::new(Growth::behind_judged(rt.alloc(), judged), read))
 }
 
 // Where the front of a carried file ends, which is held whole.
@@ -160,9 +137,8 @@ where
     if read_as_log(&mut bytes).is_none() {
         return Err(Refusal::Changed);
     }
-    let opened = open_carried(rt, rt.alloc(), &bytes, plan)?;
-    let before = numbered_before(&bytes, true);
-    let mut log = open_at(rt.alloc(), opened, bytes.len(), before);
+    let growth = Growth::behind_carried(rt, rt.alloc(), &bytes, plan)?;
+    let mut log = OpenLog::new(growth, bytes.len());
     log.expect_end(rt.alloc(), LastBytes::all(&bytes), drops)?;
     Ok(log)
 }

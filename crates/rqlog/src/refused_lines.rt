@@ -35,6 +35,7 @@ impl Reason {
     /// Why the record of a line is not taken.
     pub(crate) fn of(why: NotTaken) -> Reason {
         match why {
+            NotTaken::Ended => Reason::Ended,
             NotTaken::Unlawful(rule) => Reason::Breaks(rule),
             NotTaken::Full => Reason::Full,
             NotTaken::Resources => Reason::Memory,

@@ -1,9 +1,9 @@
 //! What is written behind the front of a log: records, a checkpoint, and a log that goes on from it.
 
-use rq_journal::{Appender, open};
-use rq_record::Version;
+use rq_journal::Growth;
+use rq_judged::JudgedFront;
 use rq_restart::{Plan, Why};
-use rq_rows::{ONE_ELEMENT, is_marked_and_carried_on, log_of, records_of, takes};
+use rq_rows::{is_marked_and_carried_on, log_of, takes};
 use std::test::Fail;
 use std::thread::Threads;
 
@@ -19,12 +19,14 @@ fn is_opened<R: Threads + Sync + AllocGlobal>(
     plan: &Plan,
     frames: &[u8],
 ) -> bool {
-    match open(rt, rt.alloc(), log, plan) {
-        Ok(opened) => {
-            opened.end.used == log.len()
-                && opened.end.records == 4
-                && opened.end.why == Why::Whole
-                && takes(rt.alloc(), opened, frames)
+    match JudgedFront::of(rt, rt.alloc(), log, plan) {
+        Ok(front) => {
+            let growth = Growth::behind_judged(rt.alloc(), front);
+            let end = growth.end();
+            end.used == log.len()
+                && end.records == 4
+                && end.why == Why::Whole
+                && takes(rt.alloc(), growth, frames)
         }
         Err(_) => false,
     }
@@ -40,22 +42,8 @@ fn records_are_appended_behind_a_front(rt: HostRuntime) -> Result<(), Fail> {
     Ok(())
 }
 
-// All frames of a log are those of its records, one by one, behind a header.
-#[test]
-fn records_are_appended_behind_a_header(rt: HostRuntime) -> Result<(), Fail> {
-    let log = log_of(&rt, ONE_ELEMENT)?;
-    let records = records_of(rt.alloc(), Version::One, &log)?;
-    let mut appender = Appender::new(rt.alloc(), Version::One);
-    let mut frames = Vec::new(rt.alloc());
-    for record in &records {
-        assert!(rt; appender.append(rt.alloc(), record, &mut frames) == Ok(()));
-    }
-    assert!(rt; frames.as_slice() == log.get(40..).unwrap_or(&[]));
-    Ok(())
-}
-
 // The log is carried on by a file that is none, and is read as one that is restarted from its
-// checkpoint; and it is marked where its front ends.
+// checkpoint, and closed as it is; and it is marked where its front ends.
 #[test]
 fn a_log_is_marked_and_carried_on(rt: HostRuntime) -> Result<(), Fail> {
     assert!(rt; is_marked_and_carried_on(&rt)?);

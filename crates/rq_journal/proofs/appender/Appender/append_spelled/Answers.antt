@@ -1,4 +1,4 @@
-use Rattle.std.proofs.Common.{◌+◌, ◌<◌, ◌≤◌, List, ℕ, length, ap, sym, subst, ◌∙◌, arith}
+use Rattle.std.proofs.Common.{◌+◌, ◌<◌, ◌≤◌, List, ℕ, length, ap, sym, subst, ◌∙◌, arith, refl}
 use Rattle.std.specs.Prelude.{⊤, OnOk, Result}
 use Rattle.std.proofs.lemmas.Bool.{not-false}
 use Rattle.std.proofs.lemmas.Bool.Decides.{nat_tests}
@@ -53,9 +53,9 @@ returns-clause-taken c =
     let framed : Frames a.framer c.put.new.self (body_of r) old new =
     subst (λ (x : List ℕ). Frames a.framer c.put.new.self x old new) c.requires.bytes
     (subst (λ (x : List ℕ). Frames a.framer c.put.new.self c.args.body.now x new) c.reserve.ensures.items put) in
-    moves_on a (record { judge = c.advance.new.self; framer = c.put.new.self }) r old new c.requires.spells
+    moves_on a (record { judge = c.advance.new.self; framer = c.put.new.self; next = a.next + 1 }) r old new c.requires.spells
     (λ version s stands.
     sym (c.in-Ok.ensures.lawful version s) ∙ not-false _ (sym (c.in_default-broken.ensures.exact version s stands)))
     (λ version s stands.
     c.in-Ok.ensures.stands version c.advance.new.self s (c.in-Ok-advance.ensures.stands version s stands))
-    framed room
+    framed room refl

@@ -1,6 +1,5 @@
 use Rattle.std.proofs.Common.{sym, subst}
-use Rattle.rq_journal.specs.Growths.{AreWrittenFrom}
-use Rattle.rq_journal.specs.Openings.{AreWrittenBehind}
+use Rattle.rq_journal.specs.Growths.{AreWrittenBehind, AreWrittenFrom}
 use Rattle.rq_journal.proofs.Growing.{written_behind, written_from}
 use Rattle.rq_journal.proofs.growths.Growth.frames.Goals as goal
 
