@@ -1,8 +1,14 @@
 use Rattle.std.proofs.Common.{subst}
 use Rattle.rq_follow.specs.Passes.{front_of}
-use Rattle.rq_follow.specs.Followers.{IsSoFar}
+use Rattle.rq_follow.specs.Followers.{IsSoFar, carried_origin}
 use Rattle.rq_follow.proofs.Fronts.{carried_standing, linked_answers, plain_standing, short_answers}
 use Rattle.rq_follow.proofs.follower.Follower.into_standing.Goals as goal
+
+pub handed_over-requires-in-Carried : goal.handed_over-requires-in-Carried
+handed_over-requires-in-Carried c =
+    let (b, h) = c.requires in
+    let is = subst (IsSoFar b) c.in-Carried.is h in
+    rw c.in-Carried.is (carried_origin is.version is.base is.link, is.bytes, is.fed)
 
 pub returns-in-Plain : goal.returns-in-Plain
 returns-in-Plain c = λ b h.
