@@ -228,12 +228,12 @@ fn found_in(alloc: Global, follower: Follower) -> Result<FoundLog, Refusal>
 }
 
 // Serves a copy, from the machine that went along with it.
-fn serve_copy<R>(rt: &R, path: &str, held: HeldLog, follower: Follower) -> Result<(), Refusal>
+fn serve_copy<R>(rt: &R, path: &str, mut held: HeldLog, follower: Follower) -> Result<(), Refusal>
 where
     R: Files<File = File> + Input + Print + Eprint + Clock + AllocGlobal,
     requires { (b : List ℕ) × IsFollowing b follower }
 {
-    let begins = begun_by(rt.alloc(), &held, follower.is_carried())?;
+    let begins = begun_by(rt.alloc(), &mut held, follower.is_carried())?;
     let last = behind(rt.alloc(), &follower)?;
     let found = found_in(rt.alloc(), follower)?;
     if last.len() < LINK_LEN {
@@ -255,7 +255,7 @@ where
 }
 
 // How many bytes a copy began with.
-fn begun_by(alloc: Global, held: &HeldLog, is_carried: bool) -> Result<usize, Refusal> {
+fn begun_by(alloc: Global, held: &mut HeldLog, is_carried: bool) -> Result<usize, Refusal> {
     if !is_carried {
         return Ok(HEADER_LEN);
     }
