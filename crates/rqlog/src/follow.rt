@@ -233,9 +233,10 @@ where
     R: Files<File = File> + Input + Print + Eprint + Clock + AllocGlobal,
     requires { (b : List ℕ) × IsFollowing b follower }
 {
-    let begins = begun_by(rt.alloc(), &mut held, follower.is_carried())?;
+    let is_carried = follower.is_carried();
     let last = behind(rt.alloc(), &follower)?;
     let found = found_in(rt.alloc(), follower)?;
+    let begins = begun_by(rt.alloc(), &mut held, is_carried)?;
     if last.len() < LINK_LEN {
         return Err(of_source(Fault::NotALog));
     }
