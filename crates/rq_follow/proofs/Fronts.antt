@@ -87,10 +87,6 @@ plain_redone stops b f r is of =
       state = of.state ∙ at.machine;
     }
 
-pub standing_redone : FrontStops → (b : List ℕ) (f : MachinePass) (r : RedoneFront) → IsRedoneOf f r → IsPlain b f
-    → IsRedoneFront b r
-standing_redone stops b f r of is = plain_redone stops b f r is of
-
 -- Of a carried file: the first record is its checkpoint, since that is lawful in each state.
 ends_not : (version : Version) (s : State) (p bytes kept : List ℕ) (why : Why) → HasRightFrame p bytes
     → body_in bytes ≡ 9 ∷ kept → length kept ≤ 268435455 → IsWhy version s p bytes why → ⊥
@@ -264,6 +260,15 @@ carried_answers stops reads b f result is done refused = inr (
         → IfErr result (λ e. e ≡ faults.Resources) → RedoesFrontAt (as_log is.version b) carried_at result
     answers (Ok r) done refused = carried_redone stops reads b f r is done
     answers (Err e) done refused = subst (RefusedCarried (as_log is.version b) carried_at) (sym refused) tt
+
+-- the same of a machine that was handed over
+pub plain_standing : FrontStops → IsNoLog → (b : List ℕ) (f : MachinePass) (r : RedoneFront) → IsRedoneOf f r
+    → IsPlain b f → RedoesBytes b (Ok r)
+plain_standing stops apart b f r of is = plain_answers stops apart b f (Ok r) is of tt
+
+pub carried_standing : FrontStops → ReadsAsLog → (b : List ℕ) (f : MachinePass) (r : RedoneFront) → IsRedoneOf f r
+    → IsCarriedAlong b f → RedoesBytes b (Ok r)
+carried_standing stops reads b f r of is = carried_answers stops reads b f (Ok r) is of tt
 
 -- less than a header is no log, and no carried file
 pub short_answers : (b : List ℕ) → length b < 40 → RedoesBytes b (Err faults.NotALog)
