@@ -63,6 +63,9 @@ def is_left(path: str, new: bytes) -> bool:
 class StandIn:
     """A log that is held, and the lines that are asked of it."""
 
+    # Whether all its lives go on in new files: what is wrong is hardly seen in others.
+    carries = False
+
     def __init__(self, path: str, creates: bool, carry_at: int = CARRY_AT) -> None:
         self.path, self.carry_at = path, carry_at
         if creates and not os.path.lexists(path):

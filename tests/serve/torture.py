@@ -401,6 +401,7 @@ def caught(task: tuple[str, str, str, bool]) -> tuple[str, str]:
     """How a wrong program is caught; not at all, if no life shows it."""
     name, folder, library, carries = task
     trying.RQLOG = wrong_programs.program_of(name, folder)
+    carries = carries or wrong_programs.PROGRAMS[name].carries
     lives = map(lived, ((it, RUNS, folder, library, carries) for it in range(wrong_programs.LIVES)))
     return name, next((how for _, how, _ in lives if how), "")
 

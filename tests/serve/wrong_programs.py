@@ -117,6 +117,8 @@ class SyncsNoNames(StandIn):
 class TrustsItsName(StandIn):
     """A start does not tell the disk of the log's name, which a process that was killed may have given it."""
 
+    carries = True
+
     def keep_name(self) -> None:
         pass
 
