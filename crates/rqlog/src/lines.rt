@@ -9,7 +9,7 @@ use clap::ArgMatches;
 use rq_file::{LIMIT, read_limited};
 use rq_journal::Plan;
 use rq_log_file::{HeldLog, Hold};
-use rq_record::Fault;
+use rq_record::{Fault, Record};
 use rq_writer::{ScriptLine, line_at};
 use std::alloc::Global;
 use std::fs::{self, File, Files};
@@ -41,13 +41,18 @@ where
     }
 }
 
+// Appends the frame of a record.
+fn append_record(alloc: Global, log: &mut OpenLog, record: &Record) -> Result<(), Reason> {
+    match log.growth.append(alloc, record) {
+        Ok(()) => Ok(()),
+        Err(why) => Err(Reason::of(why)),
+    }
+}
+
 // Appends the frame of a line's record.
 fn append_line(alloc: Global, log: &mut OpenLog, text: &[u8]) -> Result<(), Reason> {
     match ScriptLine::of(alloc, log.growth.version(), text) {
-        Ok(ScriptLine::Told(record)) => log
-            .growth
-            .append(alloc, &record)
-            .map_err(|why| Reason::of(why)),
+        Ok(ScriptLine::Told(record)) => append_record(alloc, log, &record),
         Ok(ScriptLine::Spelled) => Err(Reason::Checkpoint),
         Err(Fault::Resources) => Err(Reason::Memory),
         Err(_) => Err(Reason::unread(alloc, text)),
