@@ -19,7 +19,7 @@ use Rattle.rq_catalog.specs.declared.grounds.Grounds.{Grounds}
 use Rattle.rq_catalog.specs.Grounds.{AreGroundsOf}
 use Rattle.rq_catalog.specs.Units.{has_unit}
 use Rattle.rq_catalog.specs.Catalogues.{Follows, HasRoom, Takes}
-use Rattle.rq_catalog.specs.Analyses.{IsAnalysis}
+use Rattle.rq_catalog.specs.Analyses.{IsKeptAnalysis}
 use Rattle.rq_catalog.proofs.Ends.{upto, room_here, unit_here, one_on, ends_whole}
 
 abbrev pub abort : UnitNo → Record
@@ -136,7 +136,7 @@ module _ (s : State) (rs : List Record) (units : List UnitNo) (c : Catalogue) (i
 pub abort_ends : (s : State) (rs : List Record) (units : List UnitNo) (c : Catalogue) (n : ℕ) → IsWellFormed s
     → all_lawful Two s (map record_of (with_aborts rs units)) ≡ true → n ≡ length units
     → Follows c s (upto (length rs + n) (with_aborts rs units))
-    → IsAnalysis Two s (map record_of (with_aborts rs units)) (record { lawful = length rs + n; catalogue = c })
+    → IsKeptAnalysis Two s (map record_of (with_aborts rs units)) (record { lawful = length rs + n; catalogue = c })
 abort_ends s rs units c n well lawful e f =
     let as_many : length (with_aborts rs units) ≡ length rs + n =
     omega (arith, length-append rs (map abort units), length-map units abort, e) in

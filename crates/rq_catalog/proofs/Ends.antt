@@ -15,7 +15,7 @@ use Rattle.rq_catalog.specs.declared.units.Outcome.TheVariants.{Open, Committed,
 use Rattle.rq_catalog.specs.declared.catalogue.Catalogue.{Catalogue}
 use Rattle.rq_catalog.specs.Units.{numbers, has_unit, outcome_at, engages_at, outcome_of, is_marked_at, is_noted_at}
 use Rattle.rq_catalog.specs.Units.{is_open_in}
-use Rattle.rq_state.specs.Orders.{listed}
+use Rattle.rq_catalog.specs.Lists.{touches_for}
 use Rattle.rq_catalog.specs.declared.units.Unit.{Unit}
 use Rattle.rq_catalog.specs.Catalogues.{Follows, HasRoom, KnowsUnit, Takes}
 use Rattle.rq_catalog.specs.Grounds.{AreGroundsOf}
@@ -30,7 +30,7 @@ use Rattle.rq_model.specs.Laws.{begun}
 use Rattle.rq_record.specs.declared.record.RecordOf.TheVariants.{Begin, Enqueue, Dequeue, Commit, Abort}
 use Rattle.rq_record.specs.Views.{Record, record_of}
 use Rattle.rq_catalog.specs.Lists.{numbered}
-use Rattle.rq_catalog.specs.Analyses.{IsAnalysis}
+use Rattle.rq_catalog.specs.Analyses.{IsKeptAnalysis}
 use Rattle.rq_catalog.proofs.Seen.{open_again, open_seen, seen_below}
 use Rattle.rq_model.proofs.Kept.{runs_are_well_formed}
 use Rattle.rq_model.proofs.Numbers.{numbers_after}
@@ -67,7 +67,7 @@ pub starts : (c : Catalogue) (s : states.State) (us : List UnitNo) (es : List st
     → ((u q : ℕ) → engages_at c.units u q ≡ ((list_any (λ v. v == u) (map unit_of us) && list_any (is_noted_at u q) ns)
     || ((list_any (λ v. v == u) (map unit_of us) && list_any (is_marked_at u q) es) || false)))
     → length c.touching.items ≡ length s.definitions
-    → ((q : ℕ) → listed c.touching.items q ≡ [])
+    → ((q : ℕ) → touches_for c.touching.items q ≡ [])
     → IsWellFormed s
     → Follows c s []
 starts c s us es ns u e n knows committed aborted seen outcomes engaged queues touching well = record {
@@ -118,8 +118,8 @@ upto_more n rs x h =
 
 module _ (version : Version) (c : Catalogue) (s : State) (rs : List Record) (n : ℕ) (well : IsWellFormed s)
     (inside : n ≤ length rs) (lawful : all_lawful version s (upto n rs) ≡ true) (f : Follows c s (upto n rs)) where
-  pub places_here : (q : ℕ) → AllByRecursion (λ (p : ℕ × ℕ). p.0 < s.next + n) (listed c.touching.items q)
-  places_here = subst (λ k. (q : ℕ) → AllByRecursion (λ (p : ℕ × ℕ). p.0 < s.next + k) (listed c.touching.items q))
+  pub places_here : (q : ℕ) → AllByRecursion (λ (p : ℕ × ℕ). p.0 < s.next + n) (touches_for c.touching.items q)
+  places_here = subst (λ k. (q : ℕ) → AllByRecursion (λ (p : ℕ × ℕ). p.0 < s.next + k) (touches_for c.touching.items q))
       (length-upto n rs inside) (places_below c s (upto n rs) f)
 
   -- what the catalogue asks of the next record's place
@@ -183,7 +183,7 @@ module _ (version : Version) (c : Catalogue) (s : State) (rs : List Record) (n :
       ∙ ap (filter (λ u. is_open (run s (upto n rs)) u)) f.units ∙ open_again version s (upto n rs) well lawful
 
   front_here : lawful_front version s (map record_of rs) ≡ upto n rs
-      → IsAnalysis version s (map record_of rs) (record { lawful = n; catalogue = c })
+      → IsKeptAnalysis version s (map record_of rs) (record { lawful = n; catalogue = c })
   front_here e = record {
     lawful = sym (ap length e ∙ length-upto n rs inside);
     outcomes = λ u. f.outcomes u ∙ ap (λ k. outcome s k u) (sym e);
@@ -194,7 +194,7 @@ module _ (version : Version) (c : Catalogue) (s : State) (rs : List Record) (n :
     catalogue = subst (Follows c s) (sym e) f;
   }
 
-  pub ends_whole : (length rs ≤ n) → IsAnalysis version s (map record_of rs) (record { lawful = n; catalogue = c })
+  pub ends_whole : (length rs ≤ n) → IsKeptAnalysis version s (map record_of rs) (record { lawful = n; catalogue = c })
   ends_whole h = front_here (ap (lawful_front version s) (sym whole) ∙ front_whole version s (upto n rs) lawful)
     where
       all : (rs : List Record) (n : ℕ) → length rs ≤ n → take n rs ≡ rs
@@ -208,7 +208,7 @@ module _ (version : Version) (c : Catalogue) (s : State) (rs : List Record) (n :
 
   ends_unlawful : (x : Record) → n < length rs
       → is_lawful version (run s (upto n rs)) (record_of (get_or rs n x)) ≡ false
-      → IsAnalysis version s (map record_of rs) (record { lawful = n; catalogue = c })
+      → IsKeptAnalysis version s (map record_of rs) (record { lawful = n; catalogue = c })
   ends_unlawful x h unlawful =
       front_here (ap (lawful_front version s) (sym whole)
       ∙ front_stops version s (upto n rs) (record_of (get_or rs n x)) (map record_of (drop (suc n) rs)) lawful
@@ -232,13 +232,13 @@ module _ (version : Version) (c : Catalogue) (s : State) (rs : List Record) (n :
 
   pub ends_at_one : (r : Record) → r ≡ get_or rs n r → n < length rs
       → is_lawful version (run s (upto n rs)) (record_of r) ≡ false
-      → IsAnalysis version s (map record_of rs) (record { lawful = n; catalogue = c })
+      → IsKeptAnalysis version s (map record_of rs) (record { lawful = n; catalogue = c })
   ends_at_one r e h unlawful =
       ends_unlawful r h (subst (λ (x : Record). is_lawful version (run s (upto n rs)) (record_of x) ≡ false) e unlawful)
 
 -- if an analysis goes on, all records so far are lawful, and its catalogue follows them
 pub goes_on : (version : Version) (c : Catalogue) (s : State) (rs : List Record) (n : ℕ) → n ≤ length rs
-    → IsAnalysis version s (upto n rs) (record { lawful = n; catalogue = c })
+    → IsKeptAnalysis version s (upto n rs) (record { lawful = n; catalogue = c })
     → (all_lawful version s (upto n rs) ≡ true) × Follows c s (upto n rs)
 goes_on version c s rs n inside a =
     let all = lawful_throughout version s (upto n rs) (sym a.lawful ∙ sym (length-upto n rs inside)) in

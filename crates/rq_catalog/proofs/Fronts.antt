@@ -9,10 +9,10 @@ use Rattle.rq_record.specs.Views.{Record as Own, record_of}
 use Rattle.rq_model.specs.States.{State}
 use Rattle.rq_model.specs.Machine.{step, run, is_lawful, all_lawful, lawful_front, outcome}
 use Rattle.rq_model.specs.Laws.{VersionTwoIsWider}
-use Rattle.rq_catalog.specs.declared.analysis.Analysis.{Analysis}
+use Rattle.rq_catalog.specs.declared.kept_analysis.KeptAnalysis.{KeptAnalysis}
 use Rattle.rq_catalog.specs.Lists.{numbered, place_and_index, op_again}
 use Rattle.rq_catalog.specs.Catalogues.{Follows}
-use Rattle.rq_catalog.specs.Analyses.{IsAnalysis}
+use Rattle.rq_catalog.specs.Analyses.{IsKeptAnalysis}
 use Rattle.rq_catalog.proofs.Runs.{front_whole}
 use Rattle.rq_model.specs.Queues.{touches, touching_from, touching}
 use Rattle.rq_model.proofs.Lists.{by_cases}
@@ -76,8 +76,8 @@ kept_is version s all kept n is count =
     ap (map record_of) is ∙ sym (take-map record_of n all) ∙ ap (λ (k : ℕ). take k rs) count ∙ taken version s rs
 
 -- an analysis of a list is one of its lawful beginning
-pub analysis_of_front : (version : Version) (s : State) (rs : List Record) (a : Analysis) → IsAnalysis version s rs a
-    → IsAnalysis version s (lawful_front version s rs) a
+pub analysis_of_front : (version : Version) (s : State) (rs : List Record) (a : KeptAnalysis) → IsKeptAnalysis version s rs a
+    → IsKeptAnalysis version s (lawful_front version s rs) a
 analysis_of_front version s rs a is =
     let same : lawful_front version s rs ≡ lawful_front version s (lawful_front version s rs) =
     sym (front_whole version s (lawful_front version s rs) (parted version s rs).lawful) in
@@ -92,9 +92,9 @@ analysis_of_front version s rs a is =
     }
 
 -- if records are lawful in two versions, an analysis by the one is an analysis by the other
-analysis_elsewhere : (version other : Version) (s : State) (rs : List Record) (a : Analysis)
-    → all_lawful version s rs ≡ true → all_lawful other s rs ≡ true → IsAnalysis version s rs a
-    → IsAnalysis other s rs a
+analysis_elsewhere : (version other : Version) (s : State) (rs : List Record) (a : KeptAnalysis)
+    → all_lawful version s rs ≡ true → all_lawful other s rs ≡ true → IsKeptAnalysis version s rs a
+    → IsKeptAnalysis other s rs a
 analysis_elsewhere version other s rs a lawful again is =
     let same : lawful_front version s rs ≡ lawful_front other s rs =
     front_whole version s rs lawful ∙ sym (front_whole other s rs again) in
@@ -114,8 +114,8 @@ pub lawful_in_two : VersionTwoIsWider → (version : Version) (s : State) (rs : 
 lawful_in_two wider One s rs lawful = wider s rs lawful
 lawful_in_two wider Two s rs lawful = lawful
 
-pub analysis_is_wider : VersionTwoIsWider → (version : Version) (s : State) (rs : List Record) (a : Analysis)
-    → all_lawful version s rs ≡ true → IsAnalysis version s rs a → IsAnalysis Two s rs a
+pub analysis_is_wider : VersionTwoIsWider → (version : Version) (s : State) (rs : List Record) (a : KeptAnalysis)
+    → all_lawful version s rs ≡ true → IsKeptAnalysis version s rs a → IsKeptAnalysis Two s rs a
 analysis_is_wider wider version s rs a lawful is =
     analysis_elsewhere version Two s rs a lawful (lawful_in_two wider version s rs lawful) is
 

@@ -25,7 +25,7 @@ use Rattle.rq_catalog.specs.declared.units.Outcome.TheVariants.{Committed, Abort
 use Rattle.rq_catalog.specs.declared.catalogue.Catalogue.{Catalogue}
 use Rattle.rq_catalog.specs.Lists.{numbered, place_and_index}
 use Rattle.rq_catalog.specs.Units.{outcome_at, engages_at, outcome_of}
-use Rattle.rq_state.specs.Orders.{listed}
+use Rattle.rq_catalog.specs.Lists.{touches_for}
 use Rattle.rq_catalog.specs.Grounds.{AreGroundsOf}
 use Rattle.rq_catalog.specs.Catalogues.{outcome_after, begun_after, engaged_after, touches_in, Takes, Follows}
 use Rattle.rq_catalog.proofs.Runs.{run_push, any_push, first, from_push, is_open_outcome, open_by_outcome, unseen}
@@ -284,8 +284,8 @@ module _ (version : Version) (c : Catalogue) (s : State) (xs : List model.Record
     queues = t.queues ∙ ap (λ n. n + length (defined_by (record_of r ∷ []))) f.queues ∙ longer
         ∙ ap (λ (z : State). length z.definitions) back;
     touching = λ q. t.touching q
-        ∙ ap (λ b. if b then listed c.touching.items q ++ (s.next + length xs, length xs)
-        ∷ [] else listed c.touching.items q) (touches_step r q ok)
+        ∙ ap (λ b. if b then touches_for c.touching.items q ++ (s.next + length xs, length xs)
+        ∷ [] else touches_for c.touching.items q) (touches_step r q ok)
         ∙ ap (λ l. if touches s xs q (record_of r) then l ++ (s.next + length xs, length xs) ∷ [] else l) (f.touching q)
         ∙ sym (numbered_push s xs (record_of r) q);
   }
@@ -322,7 +322,7 @@ places_rise place s before (r ∷ rs) q =
         (λ op l. omega (arith, l)) (touching_from (place + 1) s (before ++ r ∷ []) rs q)
 
 pub places_below : (c : Catalogue) (s : State) (xs : List model.Record) → Follows c s xs → (q : ℕ)
-    → AllByRecursion (λ (p : ℕ × ℕ). p.0 < s.next + length xs) (listed c.touching.items q)
+    → AllByRecursion (λ (p : ℕ × ℕ). p.0 < s.next + length xs) (touches_for c.touching.items q)
 places_below c s xs f q = subst (λ l. AllByRecursion (λ (p : ℕ × ℕ). p.0 < s.next + length xs) l) (sym (f.touching q))
     (each_map (λ (op : Op). op.place < s.next + length xs) (λ (p : ℕ × ℕ). p.0 < s.next + length xs)
     (place_and_index s.next) (λ op l. l) (touching s xs q) (places_rise s.next s [] xs q))

@@ -1,28 +1,36 @@
 -- Lists by queue: a record that touches one, and a queue that is named twice is listed once.
 use Rattle.std.proofs.Common.{◌≡◌, ℕ, ◌<◌, true, ◌++◌, ◌&&◌, List, [], ◌∷◌, length, refl, sym, ap, ◌∙◌, slice_set}
-use Rattle.std.proofs.Common.{subst, suc, ◌-◌, ◌+◌, Bool, false, not, ◌||◌, arith, take, slice_get, get_or}
+use Rattle.std.proofs.Common.{subst, suc, zero, ◌-◌, ◌+◌, Bool, false, not, ◌||◌, arith, take, slice_get, get_or}
 use Rattle.std.specs.Prelude.{◌==◌, nat_lt, if◌then◌else◌, slice_index_or}
-use Rattle.std.specs.Global.{Vec}
 use Rattle.std.proofs.lemmas.Bool.{eqb-true, lt-ltb, eq-eqb, ne_eqb}
+use Rattle.std.proofs.lemmas.List.{get_or-set_same, get_or-set_other}
 use Rattle.rq_model.proofs.Lists.{by_cases}
-use Rattle.rq_state.specs.Orders.{listed}
-use Rattle.rq_state.proofs.Listings.{listed_push}
+use Rattle.rq_catalog.specs.Lists.{touches_for}
 use Rattle.std.specs.List.{list_any, AllByRecursion}
 use Rattle.std.specs.Option.{option_map_or}
 use Rattle.std.proofs.Math.Seq.{take-suc}
 use Rattle.rq_catalog.specs.Lists.{ends_at}
 use Rattle.rq_catalog.proofs.Runs.{any_push}
 
-pub touched_push : {X : Type 0} (xs : List (Vec X)) (k : ℕ) (v : Vec X) (op : X) (d : Vec X) (q : ℕ) → k < length xs
-    → v.items ≡ (slice_index_or xs k d).items ++ op ∷ []
-    → listed (slice_set xs k v) q ≡ (if (k == q) && nat_lt q (length xs) then listed xs q ++ op ∷ [] else listed xs q)
+-- what stands in a table does not depend on what stands for a queue that it does not have
+at_any : (xs : List (List (ℕ × ℕ))) (k : ℕ) (d e : List (ℕ × ℕ)) → k < length xs
+    → slice_index_or xs k d ≡ slice_index_or xs k e
+at_any [] k d e h = grind arith
+at_any (x ∷ xs) zero d e h = refl
+at_any (x ∷ xs) (suc k) d e h = at_any xs k d e (omega (arith, h))
+
+pub touched_push : (xs : List (List (ℕ × ℕ))) (k : ℕ) (v : List (ℕ × ℕ)) (op : ℕ × ℕ) (d : List (ℕ × ℕ)) (q : ℕ)
+    → k < length xs → v ≡ slice_index_or xs k d ++ op ∷ []
+    → touches_for (slice_set xs k v) q
+    ≡ (if (k == q) && nat_lt q (length xs) then touches_for xs q ++ op ∷ [] else touches_for xs q)
 touched_push xs k v op d q h e =
-    listed_push xs k v op d q h e
-    ∙ by_cases (k == q) (λ b. (if b then listed xs q ++ op ∷ [] else listed xs q)
-    ≡ (if b && nat_lt q (length xs) then listed xs q ++ op ∷ [] else listed xs q))
-    (λ b. ap (λ t. if t then listed xs q ++ op ∷ [] else listed xs q)
-    (sym (subst (λ p. nat_lt p (length xs) ≡ true) (eqb-true k q b) (lt-ltb k (length xs) h))))
-    (λ _. refl)
+    by_cases (k == q) (λ b. touches_for (slice_set xs k v) q
+    ≡ (if b && nat_lt q (length xs) then touches_for xs q ++ op ∷ [] else touches_for xs q))
+    (λ b. subst (λ p. touches_for (slice_set xs k v) p
+    ≡ (if nat_lt p (length xs) then touches_for xs p ++ op ∷ [] else touches_for xs p)) (eqb-true k q b)
+    (get_or-set_same xs k v [] h ∙ e ∙ ap (λ l. l ++ op ∷ []) (at_any xs k d [] h)
+    ∙ sym (ap (λ t. if t then touches_for xs k ++ op ∷ [] else touches_for xs k) (lt-ltb k (length xs) h))))
+    (λ b. get_or-set_other xs k q v [] (λ i. grind arith))
 
 more : (place : ℕ) (p q : ℕ × ℕ) (ops : List (ℕ × ℕ)) → ends_at place (p ∷ q ∷ ops) ≡ ends_at place (q ∷ ops)
 more place p q ops =

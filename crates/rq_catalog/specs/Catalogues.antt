@@ -11,9 +11,8 @@ use Rattle.rq_record.specs.Views.{Record, record_of}
 use Rattle.rq_record.specs.declared.record.RecordOf.TheVariants.{Register, Deregister, Begin, Enqueue, Dequeue}
 use Rattle.rq_record.specs.declared.record.RecordOf.TheVariants.{Commit, Abort, Kill}
 use Rattle.rq_catalog.specs.Units.{outcome_of, numbers, has_unit, outcome_at, engages_at}
-use Rattle.rq_catalog.specs.Lists.{numbered}
+use Rattle.rq_catalog.specs.Lists.{numbered, touches_for}
 use Rattle.rq_catalog.specs.Grounds.{AreGroundsOf}
-use Rattle.rq_state.specs.Orders.{listed}
 use Rattle.rq_catalog.specs.declared.units.Outcome.{Outcome}
 use Rattle.rq_catalog.specs.declared.units.Outcome.TheVariants.{Committed, Aborted, Open}
 use Rattle.rq_catalog.specs.declared.catalogue.Catalogue.{Catalogue}
@@ -53,7 +52,7 @@ touches_in c r q = false
 
 -- the place is after those of the table, and leaves room to count one unit more
 pub record HasRoom (c : Catalogue) (place : ℕ) : Type 0 where
-  pub after : (q : ℕ) → AllByRecursion (λ (p : ℕ × ℕ). p.0 < place) (listed c.touching.items q)
+  pub after : (q : ℕ) → AllByRecursion (λ (p : ℕ × ℕ). p.0 < place) (touches_for c.touching.items q)
   pub committed : c.committed + 1 < 2 ^ 64
   pub aborted : c.aborted + 1 < 2 ^ 64
 
@@ -79,8 +78,8 @@ pub record Takes (c d : Catalogue) (op : ℕ × ℕ) (r : Record) : Type 0 where
   pub queues : length d.touching.items ≡ length c.touching.items
       + length (defined_by (record_of r ∷ []))
   pub touching : (q : ℕ) →
-      listed d.touching.items q ≡ (if touches_in c r q && nat_lt q (length c.touching.items)
-      then listed c.touching.items q ++ op ∷ [] else listed c.touching.items q)
+      touches_for d.touching.items q ≡ (if touches_in c r q && nat_lt q (length c.touching.items)
+      then touches_for c.touching.items q ++ op ∷ [] else touches_for c.touching.items q)
 
 -- the catalogue agrees with the run of xs from s
 pub record Follows (c : Catalogue) (s : State) (xs : List model.Record) : Type 0 where
@@ -92,4 +91,4 @@ pub record Follows (c : Catalogue) (s : State) (xs : List model.Record) : Type 0
   pub engaged : (u q : ℕ) → engages_at c.units u q
       ≡ (is_open (run s xs) u && (is_engaged s q u || list_any (engages q u) xs))
   pub queues : length c.touching.items ≡ length (run s xs).definitions
-  pub touching : (q : ℕ) → listed c.touching.items q ≡ numbered s xs q
+  pub touching : (q : ℕ) → touches_for c.touching.items q ≡ numbered s xs q

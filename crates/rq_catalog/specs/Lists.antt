@@ -1,10 +1,14 @@
 -- Lists by queue.
-use Rattle.std.specs.Prelude.{ℕ, Bool, false, ◌==◌, List, slice_index_or, map, slice_get, length, ◌-◌}
+use Rattle.std.specs.Prelude.{ℕ, Bool, false, ◌==◌, List, [], slice_index_or, map, slice_get, length, ◌-◌}
 use Rattle.std.specs.Option.{option_map_or}
 use Rattle.rq_model.specs.Records.{Record}
 use Rattle.rq_model.specs.States.{State}
 use Rattle.rq_model.specs.Queues as queues
 use Rattle.rq_model.specs.Queues.{Op}
+
+-- what a table of touches has for a queue: nothing if there is no such queue
+abbrev pub touches_for : List (List (ℕ × ℕ)) → ℕ → List (ℕ × ℕ)
+touches_for table queue = slice_index_or table queue []
 
 -- the last of the list has this place
 abbrev pub ends_at : ℕ → List (ℕ × ℕ) → Bool

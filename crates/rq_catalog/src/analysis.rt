@@ -1,33 +1,29 @@
-//! The lawful front of a list of records.
+//! The lawful front of a list of records, as a caller takes it apart.
 
-ghost use Rattle.std.specs.Prelude.{◌≡◌, ◌≤◌, ◌^◌, ◌+◌, ◌<◌, ℕ, List, length, map, take, IfOk};
-ghost use Rattle.std.specs.Prelude.{IfErr, OnOk, ◌++◌, ◌∷◌, [], Some, None, option_map};
-ghost use Rattle.std.specs.Prelude.{if◌then◌else◌, true};
-ghost use Rattle.rq_model.specs.Records.{Record as ModelRecord, Abort, One, Two};
-ghost use Rattle.rq_model.specs.Machine.{all_lawful};
+ghost use Rattle.std.specs.Prelude.{◌≡◌, ◌^◌, ◌+◌, ◌<◌, ℕ, List, length, map, IfOk, IfErr};
+ghost use Rattle.std.specs.Prelude.{option_map};
+ghost use Rattle.rq_model.specs.Records.{Record as ModelRecord, One};
 ghost use Rattle.rq_model.specs.States.{State};
 ghost use Rattle.rq_model.specs.Queues.{touching};
 ghost use Rattle.rq_record.specs.Views.{record_of, version_of};
 ghost use Rattle.rq_record.specs.declared.fault.Fault.TheVariants.{Resources};
-ghost use Rattle.rq_state.specs.Orders.{listed};
-ghost use Rattle.rq_state.specs.Views.{unit_of};
 ghost use Rattle.rq_catalog.specs.Units.{outcome_of};
 ghost use Rattle.rq_catalog.specs.Lists.{numbered, op_again};
-ghost use Rattle.rq_catalog.specs.Analyses.{IsAnalysis, outcome_in, open_in, touched};
+ghost use Rattle.rq_catalog.specs.Analyses.{IsAnalysis, outcome_in, touched};
 
-use crate::catalogue::Catalogue;
-use crate::start::catalogue_of;
+use crate::kept_analysis::{KeptAnalysis, analyse_kept};
 use crate::units::Outcome;
-use rq_record::{Fault, KeptRecord, QueueNo, Record, UnitNo, Version, kept_records};
-use rq_state::{Definition, State};
+use rq_record::{Fault, QueueNo, Record, UnitNo, Version, kept_records};
+use rq_state::State;
+use rq_touches::Touches;
 use std::alloc::Global;
 
-/// What one pass over a list of records finds: how many of them are lawful, what became of each
-/// unit, and which of the lawful records touch each queue.
+/// What one pass over a list of records finds, and for each queue a list of the lawful records that
+/// touch it, as a caller reads it: a `KeptAnalysis` takes a quarter of that memory for them.
 #[derive(Drop)]
 pub struct Analysis {
-    lawful: usize,
-    catalogue: Catalogue,
+    found: KeptAnalysis,
+    touching: Vec<Vec<(u64, usize)>>,
 }
 
 /// Analyses the records of a log of version 1 that follow the state, as `analyse_in` does.
@@ -54,103 +50,56 @@ pub fn analyse_in(
     ensures refused { IfErr result (λ e. e ≡ Resources) }
 {
     let kept = kept_records(alloc, records)?;
-    analyse_kept(alloc, version, state, &kept)
+    let found = analyse_kept(alloc, version, state, &kept)?;
+    let touching = all_listed(alloc, found.touching())?;
+    Ok(Analysis { found, touching })
 }
 
-/// The same for records that are kept; nothing of them is copied.
-pub fn analyse_kept(
-    alloc: Global,
-    version: Version,
-    state: &State,
-    records: &[KeptRecord],
-) -> Result<Analysis, Fault>
-    requires { state.now.next + length records.now < 2 ^ 64 }
-    ensures analysis { IfOk result
-        (IsAnalysis (version_of version) state.now (map record_of records.now)) }
+// The records that touch a queue.
+fn listed_one(alloc: Global, touches: &Touches) -> Result<Vec<(u64, usize)>, Fault>
+    ensures list { IfOk result (λ list. list.items ≡ touches.now) }
     ensures refused { IfErr result (λ e. e ≡ Resources) }
 {
-    state.is_well_formed();
-    let none = Analysis {
-        lawful: 0,
-        catalogue: catalogue_of(alloc, state)?,
-    };
-    none.go_on(alloc, version, state, records)
+    let mut list = Vec::with_capacity(alloc, touches.len())?;
+    for i in 0..touches.len() {
+        list.push(touches.at(i))?;
+    }
+    Ok(list)
+}
+
+// The same of each queue.
+fn all_listed(alloc: Global, touching: &[Touches]) -> Result<Vec<Vec<(u64, usize)>>, Fault>
+    ensures lists { IfOk result (λ lists. map (λ list. list.items) lists.items ≡ touching.now) }
+    ensures refused { IfErr result (λ e. e ≡ Resources) }
+{
+    let mut lists = Vec::with_capacity(alloc, touching.len())?;
+    for touches in touching {
+        lists.push(listed_one(alloc, touches)?)?;
+    }
+    Ok(lists)
 }
 
 impl Analysis {
-    /// Continues an analysis. These records begin with those that were analysed by the rules of the
-    /// version, which are all lawful. So the analysis of them all costs no more than what is new.
-    /// Refused only with `Resources`.
-    pub fn go_on(
-        self,
-        alloc: Global,
-        version: Version,
-        state: &State,
-        records: &[KeptRecord],
-    ) -> Result<Analysis, Fault>
-        requires fits { state.now.next + length records.now < 2 ^ 64 }
-        requires within { self.lawful ≤ length records.now }
-        requires analysed { IsAnalysis (version_of version) state.now
-            (map record_of (take self.lawful records.now)) self }
-        ensures analysis { IfOk result
-            (IsAnalysis (version_of version) state.now (map record_of records.now)) }
-        ensures refused { IfErr result (λ e. e ≡ Resources) }
+    /// What the pass found, as a restart keeps it.
+    pub fn found(&self) -> &KeptAnalysis
+        ensures { result.now ≡ self.now.found }
     {
-        let start = state.next();
-        let mut catalogue = self.catalogue;
-        let mut lawful = self.lawful;
-        while lawful < records.len() {
-            let record = &records[lawful];
-            if !catalogue.may_take(version, record) {
-                break;
-            }
-            catalogue.take(alloc, record, (start + lawful as u64, lawful))?;
-            lawful += 1;
-        }
-        Ok(Analysis { lawful, catalogue })
-    }
-
-    /// Continues an analysis of records, all of which are lawful, with the ABORT of each unit that
-    /// is open behind them, rising. Answers these units too. Refused only with `Resources`.
-    pub fn abort_all(
-        self,
-        alloc: Global,
-        state: &State,
-        records: &[KeptRecord],
-    ) -> Result<(Analysis, Vec<UnitNo>), Fault>
-        requires fits { state.now.next + length records.now + length (open_in self) < 2 ^ 64 }
-        requires lawful { all_lawful Two state.now
-            (map record_of records.now ++ map Abort (open_in self)) ≡ true }
-        requires analysed { IsAnalysis Two state.now (map record_of records.now) self }
-        ensures units { IfOk result (λ r. map unit_of r.1.items ≡ open_in self) }
-        ensures analysis { IfOk result (λ r. IsAnalysis Two state.now
-            (map record_of records.now ++ map Abort (open_in self)) r.0) }
-        ensures refused { IfErr result (λ e. e ≡ Resources) }
-    {
-        let units = self.open_units(alloc)?;
-        let (start, count) = (state.next(), records.len());
-        let mut catalogue = self.catalogue;
-        for index in 0..units.len() {
-            let place = count + index;
-            catalogue.abort(alloc, units[index], (start + place as u64, place))?;
-        }
-        let lawful = count + units.len();
-        Ok((Analysis { lawful, catalogue }, units))
+        &self.found
     }
 
     /// How many records are lawful: the length of the longest lawful beginning.
     pub fn lawful(&self) -> usize
-        ensures { result ≡ self.now.lawful }
+        ensures { result ≡ self.now.found.lawful }
     {
-        self.lawful
+        self.found.lawful()
     }
 
     /// What became of the unit in the lawful records; `None` if it was neither open in the state
     /// nor begun by one of them.
     pub fn outcome(&self, unit: UnitNo) -> Option<Outcome>
-        ensures { option_map outcome_of result ≡ outcome_in self.now unit.0 }
+        ensures { option_map outcome_of result ≡ outcome_in self.now.found unit.0 }
     {
-        self.catalogue.units.outcome(unit.0)
+        self.found.outcome(unit)
     }
 
     /// The lawful records that touch the queue, in rising order: the place of each in the log, and
@@ -159,55 +108,10 @@ impl Analysis {
     pub fn touching(&self, queue: QueueNo) -> &[(u64, usize)]
         ensures { result.now ≡ touched self.now queue.0 }
     {
-        match self.catalogue.touching.get(queue.0 as usize) {
+        match self.touching.get(queue.0 as usize) {
             Some(ops) => ops,
             None => &[],
         }
-    }
-
-    /// The same of each queue, by number, kept by itself. All else that the pass found is let go.
-    pub fn into_touching(self) -> Vec<Vec<(u64, usize)>>
-        ensures { (queue : ℕ) → listed result.items queue ≡ touched self queue }
-    {
-        self.catalogue.touching
-    }
-
-    /// The queues after the lawful records, by number: those of the state, and those that records
-    /// defined.
-    pub fn definitions(&self) -> &[Definition]
-        ensures { result.now ≡ self.now.catalogue.grounds.definitions.items }
-    {
-        &self.catalogue.grounds.definitions
-    }
-
-    /// The greatest unit that began, up to the last lawful record; 0 if none did.
-    pub fn greatest(&self) -> u64
-        ensures { result ≡ self.now.catalogue.grounds.greatest }
-    {
-        self.catalogue.grounds.greatest
-    }
-
-    /// How many units are committed after the lawful records, those of the state included.
-    pub fn committed(&self) -> u64
-        ensures { result ≡ self.now.catalogue.committed }
-    {
-        self.catalogue.committed
-    }
-
-    /// How many units are aborted after the lawful records, those of the state included.
-    pub fn aborted(&self) -> u64
-        ensures { result ≡ self.now.catalogue.aborted }
-    {
-        self.catalogue.aborted
-    }
-
-    /// The units that are open after the lawful records, in rising order. Refused only with
-    /// `Resources`.
-    pub fn open_units(&self, alloc: Global) -> Result<Vec<UnitNo>, Fault>
-        ensures units { IfOk result (λ units. map unit_of units.items ≡ open_in self.now) }
-        ensures refused { IfErr result (λ e. e ≡ Resources) }
-    {
-        self.catalogue.units.open_units(alloc)
     }
 }
 

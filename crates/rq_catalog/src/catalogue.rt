@@ -9,16 +9,16 @@ ghost use Rattle.rq_model.specs.States.{State};
 ghost use Rattle.rq_record.specs.Views.{record_of, version_of};
 ghost use Rattle.rq_record.specs.declared.fault.Fault.TheVariants.{Resources};
 ghost use Rattle.rq_record.specs.declared.record.RecordOf.TheVariants.{Abort};
-ghost use Rattle.rq_state.specs.Orders.{listed};
 ghost use Rattle.rq_catalog.specs.Catalogues.{HasRoom, KnowsUnit, Takes};
 ghost use Rattle.rq_catalog.specs.Grounds.{AreGroundsOf};
 ghost use Rattle.rq_catalog.specs.Units.{is_open_in, numbers, has_unit, outcome_at, engages_at};
-ghost use Rattle.rq_catalog.specs.Lists.{ends_at};
+ghost use Rattle.rq_catalog.specs.Lists.{ends_at, touches_for};
 
 use crate::grounds::Grounds;
 use crate::units::{Outcome, Units};
 use rq_lawful::{Knows, broken};
 use rq_record::{Fault, KeptName, KeptRecord, Name, QueueNo, UnitNo, Version};
+use rq_touches::Touches;
 use std::alloc::Global;
 
 /// What lawfulness depends on, and what is noted on the way: what became of each unit, the queues
@@ -29,7 +29,7 @@ pub(crate) struct Catalogue {
     pub(crate) committed: u64,
     pub(crate) aborted: u64,
     pub(crate) units: Units,
-    pub(crate) touching: Vec<Vec<(u64, usize)>>,
+    pub(crate) touching: Vec<Touches>,
 }
 
 impl Knows for Catalogue {
@@ -86,7 +86,7 @@ impl Catalogue {
         self.grounds.advance(next)?;
         match next {
             KeptRecord::Define { .. } => {
-                self.touching.push(Vec::new(alloc))?;
+                self.touching.push(Touches::new(alloc))?;
                 Ok(())
             }
             KeptRecord::Register { queue, .. } => touch(&mut self.touching, queue.0, op),
@@ -130,10 +130,10 @@ impl Catalogue {
         ensures engaged { OnOk result ((u q : ℕ) → engages_at self.new.units u q
             ≡ (((unit == u) && (queue == q)) || engages_at self.old.units u q)) }
         ensures queues { length self.new.touching.items ≡ length self.old.touching.items }
-        ensures touching { OnOk result ((q : ℕ) → listed self.new.touching.items q
+        ensures touching { OnOk result ((q : ℕ) → touches_for self.new.touching.items q
             ≡ (if (queue == q) && nat_lt q (length self.old.touching.items)
-            then listed self.old.touching.items q ++ op ∷ []
-            else listed self.old.touching.items q)) }
+            then touches_for self.old.touching.items q ++ op ∷ []
+            else touches_for self.old.touching.items q)) }
         ensures refused { IfErr result (λ e. e ≡ Resources) }
     {
         self.units.engage(unit, queue)?;
@@ -149,7 +149,7 @@ impl Catalogue {
     ) -> Result<(), Fault>
         requires known { has_unit self.old.units unit ≡ true }
         requires after { (q : ℕ) →
-            AllByRecursion (λ p. p.0 < op.0) (listed self.old.touching.items q) }
+            AllByRecursion (λ p. p.0 < op.0) (touches_for self.old.touching.items q) }
         ensures frame { self.new
             ≡ record self.old { units = self.new.units; touching = self.new.touching } }
         ensures numbers { numbers self.new.units ≡ numbers self.old.units }
@@ -158,11 +158,11 @@ impl Catalogue {
         ensures engaged { (u q : ℕ) → engages_at self.new.units u q
             ≡ cond (nat_eq unit u) false (engages_at self.old.units u q) }
         ensures queues { length self.new.touching.items ≡ length self.old.touching.items }
-        ensures touching { OnOk result ((q : ℕ) → listed self.new.touching.items q
+        ensures touching { OnOk result ((q : ℕ) → touches_for self.new.touching.items q
             ≡ (if engages_at self.old.units unit q
             && nat_lt q (length self.old.touching.items)
-            then listed self.old.touching.items q ++ op ∷ []
-            else listed self.old.touching.items q)) }
+            then touches_for self.old.touching.items q ++ op ∷ []
+            else touches_for self.old.touching.items q)) }
         ensures refused { IfErr result (λ e. e ≡ Resources) }
     {
         let queues = self.units.close(alloc, unit, outcome);
@@ -171,15 +171,11 @@ impl Catalogue {
 }
 
 /// Adds a record to those that touch the queue, if the list has the queue.
-pub(crate) fn touch(
-    touching: &mut Vec<Vec<(u64, usize)>>,
-    queue: u32,
-    op: (u64, usize),
-) -> Result<(), Fault>
+pub(crate) fn touch(touching: &mut Vec<Touches>, queue: u32, op: (u64, usize)) -> Result<(), Fault>
     ensures len { length touching.new.items ≡ length touching.old.items }
-    ensures listed { OnOk result ((q : ℕ) → listed touching.new.items q
+    ensures listed { OnOk result ((q : ℕ) → touches_for touching.new.items q
         ≡ (if (queue == q) && nat_lt q (length touching.old.items)
-        then listed touching.old.items q ++ op ∷ [] else listed touching.old.items q)) }
+        then touches_for touching.old.items q ++ op ∷ [] else touches_for touching.old.items q)) }
     ensures refused { IfErr result (λ e. e ≡ Resources) }
 {
     if (queue as usize) < touching.len() {
@@ -190,14 +186,14 @@ pub(crate) fn touch(
 
 /// Adds a record to those that touch each of the queues, once.
 pub(crate) fn touch_all(
-    touching: &mut Vec<Vec<(u64, usize)>>,
+    touching: &mut Vec<Touches>,
     queues: &[u32],
     op: (u64, usize),
 ) -> Result<(), Fault>
-    requires { (q : ℕ) → AllByRecursion (λ p. p.0 < op.0) (listed touching.old.items q) }
-    ensures listed { OnOk result ((q : ℕ) → listed touching.new.items q
+    requires { (q : ℕ) → AllByRecursion (λ p. p.0 < op.0) (touches_for touching.old.items q) }
+    ensures listed { OnOk result ((q : ℕ) → touches_for touching.new.items q
         ≡ (if list_any (λ v. v == q) queues.now && nat_lt q (length touching.old.items)
-        then listed touching.old.items q ++ op ∷ [] else listed touching.old.items q)) }
+        then touches_for touching.old.items q ++ op ∷ [] else touches_for touching.old.items q)) }
     ensures len { length touching.new.items ≡ length touching.old.items }
     ensures refused { IfErr result (λ e. e ≡ Resources) }
 {
@@ -208,29 +204,22 @@ pub(crate) fn touch_all(
 }
 
 // Whether the last record that touches the queue has this place.
-fn is_last(touching: &[Vec<(u64, usize)>], queue: u32, place: u64) -> bool
-    ensures { result ≡ ends_at place (listed touching.now queue) }
+fn is_last(touching: &[Touches], queue: u32, place: u64) -> bool
+    ensures { result ≡ ends_at place (touches_for touching.now queue) }
 {
     match touching.get(queue as usize) {
-        Some(ops) => match ops.last() {
-            Some(op) => op.0 == place,
-            None => false,
-        },
-        None => false,
+        Some(ops) if 0 < ops.len() => ops.at(ops.len() - 1).0 == place,
+        _ => false,
     }
 }
 
 // Adds a record to those that touch the queue, unless the last of them has its place.
-fn touch_once(
-    touching: &mut Vec<Vec<(u64, usize)>>,
-    queue: u32,
-    op: (u64, usize),
-) -> Result<(), Fault>
+fn touch_once(touching: &mut Vec<Touches>, queue: u32, op: (u64, usize)) -> Result<(), Fault>
     ensures len { length touching.new.items ≡ length touching.old.items }
     ensures listed { OnOk result ((q : ℕ) →
-        listed touching.new.items q ≡ (if (queue == q) && (nat_lt q (length touching.old.items)
-        && not (ends_at op.0 (listed touching.old.items q)))
-        then listed touching.old.items q ++ op ∷ [] else listed touching.old.items q)) }
+        touches_for touching.new.items q ≡ (if (queue == q) && (nat_lt q (length touching.old.items)
+        && not (ends_at op.0 (touches_for touching.old.items q)))
+        then touches_for touching.old.items q ++ op ∷ [] else touches_for touching.old.items q)) }
     ensures refused { IfErr result (λ e. e ≡ Resources) }
 {
     if is_last(touching, queue, op.0) {

@@ -1,6 +1,6 @@
 //! The catalogue of a state.
 
-ghost use Rattle.std.specs.Prelude.{◌≡◌, ℕ, Bool, ◌==◌, ◌&&◌, ◌<◌, List, [], map, IfOk, IfErr};
+ghost use Rattle.std.specs.Prelude.{◌≡◌, ℕ, Bool, ◌==◌, ◌&&◌, ◌<◌, List, [], length, map, IfOk, IfErr};
 ghost use Rattle.std.specs.Prelude.{OnOk, Option, Some, None, false, if◌then◌else◌};
 ghost use Rattle.std.specs.BTreeSet as ordered;
 ghost use Rattle.std.specs.List.{list_any};
@@ -11,6 +11,7 @@ ghost use Rattle.rq_state.specs.Views.{unit_of};
 ghost use Rattle.rq_catalog.specs.declared.units.Outcome.{Outcome};
 ghost use Rattle.rq_catalog.specs.declared.units.Outcome.TheVariants.{Open};
 ghost use Rattle.rq_catalog.specs.Catalogues.{Follows};
+ghost use Rattle.rq_catalog.specs.Lists.{touches_for};
 ghost use Rattle.rq_catalog.specs.Units.{is_marked_at, is_noted_at};
 ghost use Rattle.rq_catalog.specs.Units.{EngagesToo, numbers, has_unit, outcome_at, engages_at};
 
@@ -18,7 +19,8 @@ use crate::catalogue::Catalogue;
 use crate::grounds::Grounds;
 use crate::units::Units;
 use rq_record::{Fault, QueueNo, UnitNo};
-use rq_state::{KeptElement, Mark, Note, State, empty_lists};
+use rq_state::{KeptElement, Mark, Note, State};
+use rq_touches::Touches;
 use std::alloc::Global;
 use std::collections::BTreeSet;
 
@@ -119,6 +121,19 @@ pub fn engage_by_notes<E: Engaging>(units: &mut E, notes: &[Note]) -> Result<(),
     Ok(())
 }
 
+// That no record touches any of so many queues.
+fn untouched(alloc: Global, count: usize) -> Result<Vec<Touches>, Fault>
+    ensures len { IfOk result (λ touching. length touching.items ≡ count) }
+    ensures none { IfOk result (λ touching. (q : ℕ) → touches_for touching.items q ≡ []) }
+    ensures refused { IfErr result (λ e. e ≡ Resources) }
+{
+    let mut touching = Vec::with_capacity(alloc, count)?;
+    while touching.len() < count {
+        touching.push(Touches::new(alloc))?;
+    }
+    Ok(touching)
+}
+
 /// The catalogue of a state, before any record.
 pub(crate) fn catalogue_of(alloc: Global, state: &State) -> Result<Catalogue, Fault>
     requires { IsWellFormed state.now }
@@ -129,7 +144,7 @@ pub(crate) fn catalogue_of(alloc: Global, state: &State) -> Result<Catalogue, Fa
     let mut units = units_of(alloc, state.units())?;
     engage_by_marks(&mut units, state.elements())?;
     engage_by_notes(&mut units, state.notes())?;
-    let touching = empty_lists(alloc, state.definition_count())?;
+    let touching = untouched(alloc, state.definition_count())?;
     Ok(Catalogue {
         grounds,
         committed: state.committed(),

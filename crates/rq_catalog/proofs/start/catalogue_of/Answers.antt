@@ -17,7 +17,7 @@ returns-clause-follows c =
     (λ u. noted.1 u ∙ marked.1 u ∙ begun.outcomes u)
     (λ u q. engaged_in_turn _ _ _ _ _ _ u q (marked.0 ∙ begun.numbers) begun.numbers
     (noted.3 u q) (marked.3 u q) (begun.engaged u q))
-    (c.in_ok-touching.ensures.len ∙ c.definition_count.ensures) c.in_ok-touching.ensures.listed
+    (c.in_ok-touching.ensures.len ∙ c.definition_count.ensures) c.in_ok-touching.ensures.none
     c.requires
 
 pub units_of-requires : goal.units_of-requires

@@ -1,7 +1,7 @@
 use Rattle.std.proofs.Common.{[], refl, arith}
 use Rattle.rq_record.specs.Views.{version_of}
 use Rattle.rq_catalog.proofs.Ends.{ends_whole}
-use Rattle.rq_catalog.proofs.analysis.analyse_kept.Goals as goal
+use Rattle.rq_catalog.proofs.kept_analysis.analyse_kept.Goals as goal
 
 -- a state and no records: nothing is lawful yet
 pub go_on-requires-clause-analysed : goal.go_on-requires-clause-analysed

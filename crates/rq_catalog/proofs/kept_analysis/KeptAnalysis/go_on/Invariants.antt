@@ -2,7 +2,7 @@ use Rattle.std.proofs.Common.{◌≡◌, ◌≤◌, ◌-◌, true, length, map, 
 use Rattle.rq_model.specs.Machine.{all_lawful}
 use Rattle.rq_record.specs.Views.{record_of, version_of}
 use Rattle.rq_catalog.specs.Catalogues.{Follows}
-use Rattle.rq_catalog.proofs.analysis.Analysis.go_on.Given as goal
+use Rattle.rq_catalog.proofs.kept_analysis.KeptAnalysis.go_on.Given as goal
 
 abbrev pub invariant-loop-lawful : goal.invariant-loop-lawful
 invariant-loop-lawful l =

@@ -1,9 +1,9 @@
 use Rattle.std.proofs.Common.{arith, ◌∙◌, sym}
 use Rattle.rq_record.specs.Views.{version_of}
 use Rattle.rq_catalog.proofs.Ends.{room_here, unit_here, opens, one_on, ends_whole, ends_at_one, goes_on}
-use Rattle.rq_catalog.proofs.analysis.Analysis.go_on.Goals as goal
-use Rattle.rq_catalog.proofs.analysis.Analysis.go_on.Goals.{else-loop-lawful-test}
-use Rattle.rq_catalog.proofs.analysis.Analysis.go_on.Goals.{then-loop-lawful-test+then-not-may_take}
+use Rattle.rq_catalog.proofs.kept_analysis.KeptAnalysis.go_on.Goals as goal
+use Rattle.rq_catalog.proofs.kept_analysis.KeptAnalysis.go_on.Goals.{else-loop-lawful-test}
+use Rattle.rq_catalog.proofs.kept_analysis.KeptAnalysis.go_on.Goals.{then-loop-lawful-test+then-not-may_take}
 
 pub loop-lawful-init : goal.loop-lawful-init
 loop-lawful-init c = let begun =

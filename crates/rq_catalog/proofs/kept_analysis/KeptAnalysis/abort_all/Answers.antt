@@ -5,14 +5,14 @@ use Rattle.rq_model.specs.Records.{Two}
 use Rattle.rq_model.specs.Machine.{all_lawful}
 use Rattle.rq_record.specs.Views.{Record, record_of}
 use Rattle.rq_state.specs.Views.{unit_of}
-use Rattle.rq_catalog.specs.Analyses.{open_in, IsAnalysis}
+use Rattle.rq_catalog.specs.Analyses.{open_in, IsKeptAnalysis}
 use Rattle.rq_catalog.specs.Catalogues.{Follows}
 use Rattle.rq_catalog.proofs.Aborts.{with_aborts, records_with_aborts, records_first, lawful_upto, abort_room}
 use Rattle.rq_catalog.proofs.Aborts.{abort_known, abort_follows, abort_ends}
 use Rattle.rq_catalog.proofs.Ends.{upto}
 use Rattle.rq_catalog.proofs.Runs.{front_whole}
-use Rattle.rq_catalog.proofs.analysis.Analysis.abort_all.Goals as goal
-use Rattle.rq_catalog.proofs.analysis.Analysis.abort_all.Goals.{In_ok-units}
+use Rattle.rq_catalog.proofs.kept_analysis.KeptAnalysis.abort_all.Goals as goal
+use Rattle.rq_catalog.proofs.kept_analysis.KeptAnalysis.abort_all.Goals.{In_ok-units}
 
 -- the records and the aborts of the units
 abbrev all : In_ok-units → List Record
@@ -79,9 +79,9 @@ returns-clause-analysis c =
     let d = (goal.at.returns-clause-analysis c).In_ok-units in
     let n : c.loop-index.index ≡ c.len.result =
     omega (arith, c.loop-index.invariant.0, c.loop-index-test.false, c.len.ensures) in
-    subst (λ (l : List model.Record). IsAnalysis Two c.args.state.now l
+    subst (λ (l : List model.Record). IsKeptAnalysis Two c.args.state.now l
     (record { lawful = length c.args.records.now + c.len.result; catalogue = c.loop-index.catalogue })) (are d)
-    (subst (λ (k : ℕ). IsAnalysis Two c.args.state.now (map record_of (all d))
+    (subst (λ (k : ℕ). IsKeptAnalysis Two c.args.state.now (map record_of (all d))
     (record { lawful = length c.args.records.now + k; catalogue = c.loop-index.catalogue })) n
     (abort_ends c.args.state.now c.args.records.now c.in_ok-units.units.items c.loop-index.catalogue c.loop-index.index
     c.next-start.ensures.well_formed (are_lawful d)

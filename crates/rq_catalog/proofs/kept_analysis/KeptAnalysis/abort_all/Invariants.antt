@@ -2,7 +2,7 @@ use Rattle.std.proofs.Common.{◌≤◌, ◌+◌, length}
 use Rattle.rq_catalog.specs.Catalogues.{Follows}
 use Rattle.rq_catalog.proofs.Ends.{upto}
 use Rattle.rq_catalog.proofs.Aborts.{with_aborts}
-use Rattle.rq_catalog.proofs.analysis.Analysis.abort_all.Given as goal
+use Rattle.rq_catalog.proofs.kept_analysis.KeptAnalysis.abort_all.Given as goal
 
 abbrev pub invariant-loop-index : goal.invariant-loop-index
 invariant-loop-index l = (l.index ≤ length l.units.items)
