@@ -4,11 +4,16 @@ use Rattle.rq_model.specs.Records.{Version}
 use Rattle.rq_model.specs.Frames as model
 use Rattle.rq_model.specs.Frames.{HasHeader, log_limit}
 use Rattle.rq_model.specs.Carrying.{HasCarriedHeader}
+use Rattle.rq_front.specs.declared.spans.ChainOf.{ChainOf}
 use Rattle.rq_front.specs.declared.spans.Span.{Span}
 use Rattle.rq_front.specs.declared.spans.Rest.{Rest}
 use Rattle.rq_front.specs.declared.spans.Rest.TheVariants.{Whole, Cut, Length, Digest}
 use Rattle.rq_record.specs.declared.fault.Fault.{Fault}
 use Rattle.rq_record.specs.declared.fault.Fault.TheVariants.{NotALog, TooLong, Resources}
+
+-- a run of frames, kept or not
+abbrev pub Chain : Type 0
+Chain = ChainOf Span
 
 -- the bytes of a span
 abbrev pub body_at : List ℕ → Span → List ℕ

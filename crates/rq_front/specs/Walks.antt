@@ -8,10 +8,9 @@ use Rattle.rq_lanes.specs.declared.lanes.Message.{Message}
 use Rattle.rq_front.specs.declared.digests.Turn.{Turn}
 use Rattle.rq_front.specs.declared.digests.Turn.TheVariants.{First, Second}
 use Rattle.rq_front.specs.declared.spans.Span.{Span}
-use Rattle.rq_front.specs.declared.spans.Chain.{Chain}
 use Rattle.rq_front.specs.declared.spans.Walk.{Walk}
 use Rattle.rq_front.specs.declared.digests.Piece.{Piece}
-use Rattle.rq_front.specs.Chains.{bodies_at, rest_of, spans_from}
+use Rattle.rq_front.specs.Chains.{Chain, bodies_at, rest_of, spans_from}
 
 -- frames follow one after the other from an offset to an end, whatever their digests, with bodies
 -- at these spans

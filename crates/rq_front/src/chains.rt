@@ -8,7 +8,7 @@ ghost use Rattle.rq_front.specs.Chains.{IsHeaded, Refused, bodies_at, rest_of, s
 ghost use Rattle.rq_front.specs.Walks.{IsChecked, Walks, spans_of};
 
 use crate::digests::first_wrong;
-use crate::{Chain, LOG_LIMIT, Rest, Walk, lengths, version};
+use crate::{Chain, KeptChain, LOG_LIMIT, Rest, Walk, lengths, version};
 use rq_model::{frames_are_right, one_run};
 use rq_record::{Fault, Version};
 use std::alloc::Global;
@@ -52,7 +52,7 @@ impl Walk {
     /// The longest run of right frames, which is the walk up to its first wrong digest. If the
     /// runtime gives threads, they check the digests in pieces of `grain` frames or more; the
     /// answer is the same for any number of threads. `bytes` are those of the walk.
-    pub fn checked<R: Threads + Sync>(self, rt: &R, bytes: &[u8], grain: u32) -> Chain
+    pub fn checked<R: Threads + Sync>(self, rt: &R, bytes: &[u8], grain: u32) -> KeptChain
         requires grain { 1 ≤ grain }
         requires walk { (from : ℕ) × Walks bytes.now from self }
         ensures { (from : ℕ) → Walks bytes.now from self → IsChecked bytes.now from self result }
@@ -76,6 +76,32 @@ impl Walk {
 ///
 /// `TooLong` is returned for more than 4,294,967,295 bytes, and otherwise `NotALog` if the bytes do
 /// not begin with a header; `Resources` if memory runs out.
+pub fn kept_chain<R: Threads + Sync>(
+    rt: &R,
+    alloc: Global,
+    bytes: &[u8],
+    from: usize,
+    grain: u32,
+) -> Result<KeptChain, Fault>
+    requires after { 40 ≤ from }
+    requires within { 40 ≤ length bytes.now → from ≤ length bytes.now }
+    requires grain { 1 ≤ grain }
+    ensures run { IfOk result (λ c. IsFrameRun bytes.now from
+        (bodies_at bytes.now c.spans.items) c.end (rest_of c.rest)) }
+    ensures spans { IfOk result
+        (λ c. c.spans.items ≡ spans_from from (bodies_at bytes.now c.spans.items)) }
+    ensures inside { IfOk result
+        (λ c. All (λ s. s.start + s.len ≤ length bytes.now) c.spans.items) }
+    // A frame has at least 37 bytes.
+    ensures few { IfOk result (λ c. from + 37 * length c.spans.items ≤ length bytes.now) }
+    ensures log { OnOk result ((length bytes.now ≤ log_limit) × IsHeaded bytes.now) }
+    ensures refused { IfErr result (Refused bytes.now) }
+{
+    let walk = walk(alloc, bytes, from)?;
+    Ok(walk.checked(rt, bytes, grain))
+}
+
+/// The same, as a caller takes it apart.
 pub fn chain<R: Threads + Sync>(
     rt: &R,
     alloc: Global,
@@ -97,6 +123,6 @@ pub fn chain<R: Threads + Sync>(
     ensures log { OnOk result ((length bytes.now ≤ log_limit) × IsHeaded bytes.now) }
     ensures refused { IfErr result (Refused bytes.now) }
 {
-    let walk = walk(alloc, bytes, from)?;
-    Ok(walk.checked(rt, bytes, grain))
+    let kept = kept_chain(rt, alloc, bytes, from, grain)?;
+    kept.chain(alloc)
 }

@@ -8,7 +8,7 @@ ghost use Rattle.rq_front.specs.Walks.{message_at, message_of};
 ghost use Rattle.rq_lanes.specs.Messages.{AccountsFor};
 ghost use Rattle.rq_front.specs.Walks.{AreSideBySide, spans_in};
 
-use crate::{FRAME_LEN, Span};
+use crate::{FRAME_LEN, KeptSpan};
 use rayon::prelude::*;
 use rq_lanes::{Lanes, Message};
 use sha2::{Digest, Sha256};
@@ -61,13 +61,13 @@ fn is_right(bytes: &[u8], at: usize, len: usize) -> bool
 }
 
 // The first span whose frame has a wrong digest, frame by frame.
-fn wrong_among(bytes: &[u8], spans: &[Span]) -> Option<usize>
+fn wrong_among(bytes: &[u8], spans: &[KeptSpan]) -> Option<usize>
     requires { All (IsSpanOf bytes.now) spans.now }
     ensures none { IfNone result (All (IsRight bytes.now) spans.now) }
     ensures some { IfSome result (IsFirstWrong bytes.now spans.now) }
 {
     for (i, span) in spans.iter().enumerate() {
-        if !is_right(bytes, span.offset(), span.len) {
+        if !is_right(bytes, span.offset(), span.len()) {
             return Some(i);
         }
     }
@@ -88,10 +88,10 @@ fn message_at(bytes: &[u8], at: usize, len: usize) -> Message
 }
 
 // Whether a frame has this turn.
-fn has_turn(turn: Turn, span: Span) -> bool
-    ensures { result ≡ has_turn turn span }
+fn has_turn(turn: Turn, span: &KeptSpan) -> bool
+    ensures { result ≡ has_turn turn span.now }
 {
-    let is_long = LONG_AMONG_OTHERS <= span.len;
+    let is_long = LONG_AMONG_OTHERS <= span.len();
     match turn {
         Turn::First => is_long,
         Turn::Second => !is_long,
@@ -99,16 +99,16 @@ fn has_turn(turn: Turn, span: Span) -> bool
 }
 
 // Gives the lanes the frames that have this turn.
-fn taken(given: Lanes<LANES>, bytes: &[u8], spans: &[Span], turn: Turn) -> Lanes<LANES>
+fn taken(given: Lanes<LANES>, bytes: &[u8], spans: &[KeptSpan], turn: Turn) -> Lanes<LANES>
     requires { All (IsSpanOf bytes.now) spans.now }
     ensures { (ms : List Message) → AccountsFor bytes.now given ms
         → AccountsFor bytes.now result (ms ++ map message_of (filter (has_turn turn) spans.now)) }
 {
     let mut lanes = given;
     'frames: for i in 0..spans.len() {
-        let span = spans[i];
+        let span = &spans[i];
         if has_turn(turn, span) {
-            let message = message_at(bytes, span.offset(), span.len);
+            let message = message_at(bytes, span.offset(), span.len());
             lanes.take(bytes, message);
         }
     }
@@ -117,7 +117,7 @@ fn taken(given: Lanes<LANES>, bytes: &[u8], spans: &[Span], turn: Turn) -> Lanes
 
 // Whether the lanes find every digest right. `true` can be relied on; after `false` nothing is
 // known.
-fn are_right(bytes: &[u8], spans: &[Span]) -> bool
+fn are_right(bytes: &[u8], spans: &[KeptSpan]) -> bool
     requires { All (IsSpanOf bytes.now) spans.now }
     ensures { IsTrue result → All (IsRight bytes.now) spans.now }
 {
@@ -128,7 +128,7 @@ fn are_right(bytes: &[u8], spans: &[Span]) -> bool
 }
 
 // The first span of a part whose frame has a wrong digest.
-fn wrong_in_part(bytes: &[u8], spans: &[Span]) -> Option<usize>
+fn wrong_in_part(bytes: &[u8], spans: &[KeptSpan]) -> Option<usize>
     requires { All (IsSpanOf bytes.now) spans.now }
     ensures none { IfNone result (All (IsRight bytes.now) spans.now) }
     ensures some { IfSome result (IsFirstWrong bytes.now spans.now) }
@@ -141,23 +141,23 @@ fn wrong_in_part(bytes: &[u8], spans: &[Span]) -> Option<usize>
 
 // How many frames at the front make up a piece: as many as reach `size` bytes, up to a long frame,
 // and no fewer than the grain.
-fn piece_of(spans: &[Span], grain: usize, size: usize) -> usize
+fn piece_of(spans: &[KeptSpan], grain: usize, size: usize) -> usize
     requires some { 1 ≤ length spans.now }
     requires grain { 1 ≤ grain }
     ensures low { 1 ≤ result }
     ensures high { result ≤ length spans.now }
 {
-    let end = spans[0].start.saturating_add(size);
+    let end = spans[0].start().saturating_add(size);
     let frames = spans
         .iter()
-        .position(|span: &Span| -> bool { end <= span.start || LONG <= span.len })
+        .position(|span: &KeptSpan| -> bool { end <= span.start() || LONG <= span.len() })
         .unwrap_or(spans.len());
     frames.max(grain).min(spans.len())
 }
 
 // The first span of a piece whose frame has a wrong digest. At most a part of the piece is gone
 // through twice.
-fn wrong_in(bytes: &[u8], spans: &[Span]) -> Option<usize>
+fn wrong_in(bytes: &[u8], spans: &[KeptSpan]) -> Option<usize>
     requires { All (IsSpanOf bytes.now) spans.now }
     ensures none { IfNone result (All (IsRight bytes.now) spans.now) }
     ensures some { IfSome result (IsFirstWrong bytes.now spans.now) }
@@ -174,16 +174,16 @@ fn wrong_in(bytes: &[u8], spans: &[Span]) -> Option<usize>
 }
 
 // How many bytes a piece has, at least.
-fn size_of(spans: &[Span]) -> usize {
+fn size_of(spans: &[KeptSpan]) -> usize {
     let [first, .., last] = spans else {
         return PIECE_LEAST;
     };
-    let bytes = last.start.saturating_sub(first.start);
+    let bytes = last.start().saturating_sub(first.start());
     (bytes / PIECES).clamp(PIECE_LEAST, PIECE_MOST)
 }
 
 // The spans in pieces for several threads.
-fn cut(alloc: Global, spans: &[Span], grain: usize) -> Result<Vec<Piece>, AllocError>
+fn cut(alloc: Global, spans: &[KeptSpan], grain: usize) -> Result<Vec<Piece>, AllocError>
     requires { 1 ≤ grain }
     ensures { IfOk result (λ ps. AreSideBySide 0 ps.items (length spans.now)) }
 {
@@ -207,7 +207,7 @@ pub(crate) fn first_wrong<R: Threads + Sync>(
     rt: &R,
     alloc: Global,
     bytes: &[u8],
-    spans: &[Span],
+    spans: &[KeptSpan],
     grain: usize,
 ) -> Option<usize>
     requires grain { 1 ≤ grain }

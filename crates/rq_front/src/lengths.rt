@@ -1,11 +1,11 @@
 //! A walk along the lengths of a log, before any digest is checked.
 
 ghost use Rattle.std.specs.Prelude.{◌≡◌, ◌≤◌, ℕ, List, length, drop, IfOk, IfErr};
-ghost use Rattle.rq_model.specs.Frames.{HasFrame, IsRest, stated};
+ghost use Rattle.rq_model.specs.Frames.{HasFrame, IsRest, log_limit, stated};
 ghost use Rattle.rq_front.specs.Chains.{rest_of};
 ghost use Rattle.rq_front.specs.Walks.{IsWalk};
 
-use crate::{BODY_LIMIT, Chain, FRAME_LEN, Rest, Span};
+use crate::{BODY_LIMIT, FRAME_LEN, KeptChain, KeptSpan, Rest};
 use byteorder::{BigEndian, ByteOrder};
 use std::alloc::{AllocError, Global};
 
@@ -38,8 +38,13 @@ fn behind(bytes: &[u8], at: usize) -> &[u8]
 }
 
 /// The spans of the frames from an offset on, by their lengths only.
-pub(crate) fn walk_lengths(alloc: Global, bytes: &[u8], from: usize) -> Result<Chain, AllocError>
-    requires { from ≤ length bytes.now }
+pub(crate) fn walk_lengths(
+    alloc: Global,
+    bytes: &[u8],
+    from: usize,
+) -> Result<KeptChain, AllocError>
+    requires short { length bytes.now ≤ log_limit }
+    requires within { from ≤ length bytes.now }
     ensures walk { IfOk result (λ c. IsWalk bytes.now from c.spans.items c.end) }
     ensures rest { IfOk result
         (λ c. (p : List ℕ) → IsRest p (drop c.end bytes.now) (rest_of c.rest)) }
@@ -49,14 +54,11 @@ pub(crate) fn walk_lengths(alloc: Global, bytes: &[u8], from: usize) -> Result<C
     'frames: loop {
         match length_in(behind(bytes, end)) {
             Ok(len) => {
-                spans.push(Span {
-                    start: end + 4,
-                    len,
-                })?;
+                spans.push(KeptSpan::of(end + 4, len))?;
                 end += FRAME_LEN + len;
             }
             Err(rest) => {
-                return Ok(Chain { spans, end, rest });
+                return Ok(KeptChain { spans, end, rest });
             }
         }
     }

@@ -14,10 +14,10 @@ mod writers;
 pub use carried_headers::{
     CARRIED_AT, carried_header_of, is_carried, read_as_log, write_as_carried,
 };
-pub use chains::{chain, log_version, walk};
+pub use chains::{chain, kept_chain, log_version, walk};
 pub use framer::Framer;
 pub use headers::version;
-pub use spans::{Chain, Rest, Span, Walk};
+pub use spans::{Chain, ChainOf, KeptChain, KeptSpan, Rest, Span, Walk};
 pub use writers::{append_frame, frame, header, header_of};
 
 /// The bytes of a header: 8 for the name and the version, and 32 for their digest. The first frame

@@ -3,8 +3,8 @@ use Rattle.rq_front.proofs.Framing.{log_long}
 use Rattle.rq_front.proofs.Walks.{walk_inside}
 use Rattle.rq_front.proofs.chains.walk.Goals as goal
 
-pub walk_lengths-requires : goal.walk_lengths-requires
-walk_lengths-requires c =
+pub walk_lengths-requires-clause-within : goal.walk_lengths-requires-clause-within
+walk_lengths-requires-clause-within c =
     c.requires.within (log_long (version_of c.in_ok-log_version.field-0) c.args.bytes.now
     c.in_ok-log_version.ensures.header)
 

@@ -9,10 +9,11 @@ use Rattle.rq_front.proofs.digests.wrong_among.Goals as goal
 
 pub loop-i-preserved : goal.loop-i-preserved
 loop-i-preserved c =
-    let d : Span = record { start = 0; len = 0 } in
+    let d : Span = c.index-spans-i.result in
     All-more (IsRight c.args.bytes.now) c.args.spans.now c.loop-i.i d (omega arith) c.loop-i.invariant
+    (subst (IsRight c.args.bytes.now) c.index-spans-i.is
     (subst (λ (n : ℕ). HasRightFrame (before n c.args.bytes.now) (drop n c.args.bytes.now)) c.offset.ensures
-    (c.if-not-is_right.ensures.0 refl))
+    (c.if-not-is_right.ensures.0 refl)))
 
 pub returns-clause-none : goal.returns-clause-none
 returns-clause-none c =

@@ -1,4 +1,4 @@
-use Rattle.std.proofs.Common.{◌≡◌, ◌+◌, ℕ, List, [], ◌∷◌, ◌++◌, refl, sym, subst, arith, drop}
+use Rattle.std.proofs.Common.{◌≡◌, ◌+◌, ℕ, List, [], ◌∷◌, ◌++◌, refl, sym, ap, ◌∙◌, subst, arith, drop}
 use Rattle.std.proofs.lemmas.List.{length-drop}
 use Rattle.rq_model.specs.Frames.{HasFrame, IsRest, stated}
 use Rattle.rq_front.proofs.Walks.{walk_more}
@@ -14,7 +14,8 @@ frames-preserved c =
     let s : Span = record { start = end + 4; len = c.in-Ok.len } in
     let here : HasFrame (drop end b) × (s.len ≡ stated (drop end b)) =
     subst (λ (x : List ℕ). HasFrame x × (s.len ≡ stated x)) c.behind.ensures c.in-Ok.ensures.ok in
-    let pushed : c.push.new.self.items ≡ c.frames.spans.items ++ s ∷ [] = c.in_ok-push-in-Ok.ensures.items in
+    let pushed : c.push.new.self.items ≡ c.frames.spans.items ++ s ∷ [] = c.in_ok-push-in-Ok.ensures.items
+    ∙ ap (λ (t : Span). c.frames.spans.items ++ t ∷ []) c.of.ensures in
     let walk = walk_more b c.args.from c.frames.spans.items end s c.frames.invariant.walk refl here.1 here.0 in
     let place : end + 36 + s.len ≡ end + (36 + s.len) = omega arith in
     record {
