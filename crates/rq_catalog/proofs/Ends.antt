@@ -16,7 +16,7 @@ use Rattle.rq_catalog.specs.declared.catalogue.Catalogue.{Catalogue}
 use Rattle.rq_catalog.specs.Units.{numbers, has_unit, outcome_at, engages_at, outcome_of, is_marked_at, is_noted_at}
 use Rattle.rq_catalog.specs.Units.{is_open_in}
 use Rattle.rq_catalog.specs.Lists.{touches_for}
-use Rattle.rq_catalog.specs.declared.units.Unit.{Unit}
+use Rattle.rq_catalog.specs.BegunUnits.{BegunUnit}
 use Rattle.rq_catalog.specs.Catalogues.{Follows, HasRoom, KnowsUnit, Takes}
 use Rattle.rq_catalog.specs.Grounds.{AreGroundsOf}
 use Rattle.rq_model.specs.Records as model
@@ -45,7 +45,7 @@ while_open true false false = refl
 while_open false m n = refl
 
 -- the units as they were begun, then engaged by marks, and then by notes
-pub engaged_in_turn : (first second third : List Unit) (es : List states.Element) (ns : List states.Note) (us : List ℕ)
+pub engaged_in_turn : (first second third : List BegunUnit) (es : List states.Element) (ns : List states.Note) (us : List ℕ)
     (u q : ℕ) → numbers second ≡ us → numbers first ≡ us
     → engages_at third u q ≡ ((has_unit second u && list_any (is_noted_at u q) ns) || engages_at second u q)
     → engages_at second u q ≡ ((has_unit first u && list_any (is_marked_at u q) es) || engages_at first u q)

@@ -1,3 +1,4 @@
+pub mod BegunUnits
 pub mod Lists
 pub mod Catalogues
 pub mod Analyses

@@ -8,7 +8,7 @@ use Rattle.rq_catalog.specs.declared.units.Outcome.{Outcome}
 use Rattle.rq_catalog.specs.declared.units.Outcome.TheVariants.{Committed, Aborted, Open}
 use Rattle.std.specs.List.{list_any}
 use Rattle.std.specs.Option.{option_map_or}
-use Rattle.rq_catalog.specs.declared.units.Unit.{Unit}
+use Rattle.rq_catalog.specs.BegunUnits.{BegunUnit}
 
 -- an outcome among the words of the model
 abbrev pub outcome_of : Outcome → machine.Outcome
@@ -20,26 +20,26 @@ abbrev pub is_open_in : Option Outcome → Bool
 is_open_in (Some Open) = true
 is_open_in outcome = false
 
-abbrev pub numbers : List Unit → List ℕ
-numbers units = map (λ (u : Unit). u.number) units
+abbrev pub numbers : List BegunUnit → List ℕ
+numbers units = map (λ (u : BegunUnit). u.number) units
 
 -- the unit is in the list
-abbrev pub has_unit : List Unit → ℕ → Bool
+abbrev pub has_unit : List BegunUnit → ℕ → Bool
 has_unit units number = list_any (λ v. v == number) (numbers units)
 
 -- the unit of this number
-abbrev pub unit_in : List Unit → ℕ → Option Unit
+abbrev pub unit_in : List BegunUnit → ℕ → Option BegunUnit
 unit_in [] number = None
 unit_in (u ∷ units) number = cond (u.number == number) (Some u) (unit_in units number)
 
 -- what became of the unit
-abbrev pub outcome_at : List Unit → ℕ → Option Outcome
-outcome_at units number = option_map (λ (u : Unit). u.outcome) (unit_in units number)
+abbrev pub outcome_at : List BegunUnit → ℕ → Option Outcome
+outcome_at units number = option_map (λ (u : BegunUnit). u.outcome) (unit_in units number)
 
 -- the queue is among those that are kept with the unit
-abbrev pub engages_at : List Unit → ℕ → ℕ → Bool
+abbrev pub engages_at : List BegunUnit → ℕ → ℕ → Bool
 engages_at units number queue =
-    option_map_or (λ (u : Unit). list_any (λ v. v == queue) u.queues.items)
+    option_map_or (λ (u : BegunUnit). list_any (λ v. v == queue) u.queues)
     (unit_in units number) false
 
 -- the element is of this home, and marked by the unit

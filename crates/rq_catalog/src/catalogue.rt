@@ -91,7 +91,7 @@ impl Catalogue {
             }
             KeptRecord::Register { queue, .. } => touch(&mut self.touching, queue.0, op),
             KeptRecord::Deregister { queue, .. } => touch(&mut self.touching, queue.0, op),
-            KeptRecord::Begin { unit } => self.units.begin(alloc, unit.0),
+            KeptRecord::Begin { unit } => self.units.begin(unit.0),
             KeptRecord::Enqueue { unit, queue, .. } => self.engage(unit.0, queue.0, op),
             KeptRecord::Dequeue { unit, queue, .. } => self.engage(unit.0, queue.0, op),
             KeptRecord::Commit { unit } => {

@@ -47,7 +47,7 @@ fn units_of(alloc: Global, units: &[UnitNo]) -> Result<Units, Fault>
 {
     let mut begun = Units::new(alloc);
     for unit in units {
-        begun.begin(alloc, unit.0)?;
+        begun.begin(unit.0)?;
     }
     Ok(begun)
 }

@@ -9,6 +9,7 @@ ghost use Rattle.rq_model.specs.WellFormed.{Ordered};
 ghost use Rattle.rq_record.specs.declared.fault.Fault.TheVariants.{Resources};
 ghost use Rattle.rq_state.specs.Views.{unit_of};
 ghost use Rattle.rq_catalog.specs.declared.units.Outcome.TheVariants.{Open};
+ghost use Rattle.rq_catalog.specs.BegunUnits.{unit_with};
 ghost use Rattle.rq_catalog.specs.Units.{is_open_in};
 ghost use Rattle.rq_catalog.specs.Units.{numbers, has_unit, unit_in, outcome_at, engages_at};
 
@@ -32,12 +33,113 @@ pub enum Outcome {
     Open,
 }
 
-/// A unit: its number, what became of it, and the queues that it engaged, while it is open.
+// What became of a unit. One that engages queues keeps them beside that in memory of its own.
+#[derive(Drop)]
+enum Form {
+    Open,
+    Committed(u64),
+    Aborted(u64),
+    Engaged(Box<Engagement>),
+}
+
+#[derive(Drop)]
+struct Engagement {
+    outcome: Outcome,
+    queues: Vec<u32>,
+}
+
+/// A unit in 24 bytes: its number, what became of it, and the queues that it engaged, while it is
+/// open. Of a log's units most are closed.
 #[derive(Drop)]
 pub(crate) struct Unit {
     number: u64,
-    outcome: Outcome,
-    queues: Vec<u32>,
+    form: Form,
+}
+
+impl Model for Unit {
+    ghost use Rattle.rq_catalog.specs.BegunUnits.{BegunUnit, unit_with};
+
+    ghost Value = { BegunUnit };
+
+    ghost view = { λ u. unit_with u.number u.form };
+}
+
+// A restart holds all units at once.
+const _: () = prove!(mem::size_of::<Unit>() <= 24);
+
+// What is kept of an outcome, if no queue is engaged.
+fn form_of(outcome: Outcome) -> Form
+    ensures { (number : ℕ) → unit_with number result
+        ≡ record { number = number; outcome = outcome; queues = [] } }
+{
+    match outcome {
+        Outcome::Open => Form::Open,
+        Outcome::Committed(place) => Form::Committed(place),
+        Outcome::Aborted(place) => Form::Aborted(place),
+    }
+}
+
+impl Unit {
+    fn begun(number: u64) -> Unit
+        ensures { result ≡ record { number = number; outcome = Open; queues = [] } }
+    {
+        Unit {
+            number,
+            form: Form::Open,
+        }
+    }
+
+    fn number(&self) -> u64
+        ensures { result ≡ self.now.number }
+    {
+        self.number
+    }
+
+    fn outcome(&self) -> Outcome
+        ensures { result ≡ self.now.outcome }
+    {
+        match &self.form {
+            Form::Open => Outcome::Open,
+            Form::Committed(place) => Outcome::Committed(*place),
+            Form::Aborted(place) => Outcome::Aborted(*place),
+            Form::Engaged(engagement) => engagement.outcome,
+        }
+    }
+
+    // Adds a queue to those that it engaged.
+    fn engage(&mut self, alloc: Global, queue: u32) -> Result<(), Fault>
+        ensures number { self.new.number ≡ self.old.number }
+        ensures outcome { self.new.outcome ≡ self.old.outcome }
+        ensures engaged { OnOk result (self.new.queues ≡ self.old.queues ++ queue ∷ []) }
+        ensures refused { IfErr result (λ e. e ≡ Resources) }
+    {
+        if let Form::Engaged(engagement) = &mut self.form {
+            engagement.queues.push(queue)?;
+            return Ok(());
+        }
+        let engagement = Engagement {
+            outcome: self.outcome(),
+            queues: vec![in alloc; queue]?,
+        };
+        self.form = Form::Engaged(Box::new(alloc, engagement)?);
+        Ok(())
+    }
+
+    // Ends it, and answers the queues that it engaged.
+    fn close(&mut self, alloc: Global, outcome: Outcome) -> Vec<u32>
+        ensures number { self.new.number ≡ self.old.number }
+        ensures outcome { self.new.outcome ≡ outcome }
+        ensures none { self.new.queues ≡ [] }
+        ensures queues { result.items ≡ self.old.queues }
+    {
+        match mem::replace(&mut self.form, form_of(outcome)) {
+            Form::Engaged(engagement) => {
+                let mut engagement = engagement;
+                mem::replace(&mut engagement.queues, Vec::new(alloc))
+            }
+            _ => Vec::new(alloc),
+        }
+    }
 }
 
 /// Units in the order in which they were begun, which is that of their numbers: so a binary search
@@ -51,10 +153,10 @@ pub(crate) struct Units {
 impl Model for Units {
     ghost use Rattle.std.specs.Prelude.{List, ◌<◌};
     ghost use Rattle.rq_model.specs.WellFormed.{Ordered};
-    ghost use Rattle.rq_catalog.specs.declared.units.Unit.{Unit};
+    ghost use Rattle.rq_catalog.specs.BegunUnits.{BegunUnit};
     ghost use Rattle.rq_catalog.specs.Units.{numbers};
 
-    ghost Value = { List Unit };
+    ghost Value = { List BegunUnit };
 
     ghost view = { λ u. u.list.items };
 
@@ -69,7 +171,7 @@ fn search_from(units: &[Unit], number: u64) -> usize
 {
     let first = units.len().saturating_sub(RECENT);
     match units.get(first) {
-        Some(unit) if unit.number <= number => first,
+        Some(unit) if unit.number() <= number => first,
         _ => 0,
     }
 }
@@ -82,7 +184,7 @@ fn index_of(units: &[Unit], number: u64) -> Option<usize>
     ensures none { IfNone result (unit_in units.now number ≡ None) }
 {
     let first = search_from(units, number);
-    match units[first..].binary_search_by_key(&number, |unit| unit.number) {
+    match units[first..].binary_search_by_key(&number, |unit| unit.number()) {
         Ok(index) => Some(first + index),
         Err(_) => None,
     }
@@ -96,8 +198,8 @@ fn push_open(unit: &Unit, units: &mut Vec<UnitNo>) -> Result<(), Fault>
         else map unit_of units.old.items)) }
     ensures refused { IfErr result (λ e. e ≡ Resources) }
 {
-    if matches!(unit.outcome, Outcome::Open) {
-        units.push(UnitNo(unit.number))?;
+    if matches!(unit.outcome(), Outcome::Open) {
+        units.push(UnitNo(unit.number()))?;
     }
     Ok(())
 }
@@ -117,7 +219,7 @@ impl Units {
         ensures { result ≡ outcome_at self.now number }
     {
         match index_of(&self.list, number) {
-            Some(index) => Some(self.list[index].outcome),
+            Some(index) => Some(self.list[index].outcome()),
             None => None,
         }
     }
@@ -136,7 +238,7 @@ impl Units {
     }
 
     /// Begins a unit that comes after all others.
-    pub(crate) fn begin(&mut self, alloc: Global, number: u64) -> Result<(), Fault>
+    pub(crate) fn begin(&mut self, number: u64) -> Result<(), Fault>
         requires { AllByRecursion (λ v. v < number) (numbers self.old) }
         ensures numbers { OnOk result (numbers self.new ≡ numbers self.old ++ number ∷ []) }
         ensures outcomes { OnOk result ((u : ℕ) → outcome_at self.new u
@@ -145,11 +247,7 @@ impl Units {
             engages_at self.new u q ≡ engages_at self.old u q) }
         ensures refused { IfErr result (λ e. e ≡ Resources) }
     {
-        self.list.push(Unit {
-            number,
-            outcome: Outcome::Open,
-            queues: Vec::new(alloc),
-        })?;
+        self.list.push(Unit::begun(number))?;
         Ok(())
     }
 
@@ -163,7 +261,8 @@ impl Units {
         ensures refused { IfErr result (λ e. e ≡ Resources) }
     {
         if let Some(index) = index_of(&self.list, number) {
-            self.list[index].queues.push(queue)?;
+            let alloc = *self.list.allocator();
+            self.list[index].engage(alloc, queue)?;
         }
         Ok(())
     }
@@ -179,14 +278,9 @@ impl Units {
         ensures queues { (q : ℕ) →
             list_any (λ v. v == q) result.items ≡ engages_at self.old number q }
     {
-        let none = Vec::new(alloc);
         match index_of(&self.list, number) {
-            Some(index) => {
-                let unit = &mut self.list[index];
-                unit.outcome = outcome;
-                mem::replace(&mut unit.queues, none)
-            }
-            None => none,
+            Some(index) => self.list[index].close(alloc, outcome),
+            None => Vec::new(alloc),
         }
     }
 }
