@@ -3,13 +3,14 @@
 ghost use Rattle.std.specs.Prelude.{◌≡◌, ◌<◌, ◌^◌, ◌+◌, ℕ, List, true, length, IfOk, IfErr};
 ghost use Rattle.rq_model.specs.Records.{Record, Two};
 ghost use Rattle.rq_model.specs.Machine.{all_lawful};
-ghost use Rattle.rq_catalog.specs.Analyses.{IsAnalysis};
+ghost use Rattle.rq_catalog.specs.Analyses.{IsKeptAnalysis};
 ghost use Rattle.rq_record.specs.declared.fault.Fault.TheVariants.{Resources};
 ghost use Rattle.rq_exchange.specs.Agendas.{IsAgenda};
 
-use rq_catalog::Analysis;
+use rq_catalog::KeptAnalysis;
 use rq_record::Fault;
 use rq_state::{KeptFields, State, copied_definitions};
+use rq_touches::Touches;
 use std::alloc::Global;
 
 /// Which records behind a state touch each queue, and all that the state after them has but its
@@ -17,7 +18,7 @@ use std::alloc::Global;
 #[derive(Drop)]
 pub struct Agenda {
     pub(crate) fields: KeptFields,
-    pub(crate) touching: Vec<Vec<(u64, usize)>>,
+    pub(crate) touching: Vec<Touches>,
 }
 
 impl Agenda {
@@ -28,11 +29,11 @@ impl Agenda {
         alloc: Global,
         state: &State,
         count: usize,
-        analysis: Analysis,
+        analysis: KeptAnalysis,
     ) -> Result<Agenda, Fault>
         requires fits { state.now.next + count < 2 ^ 64 }
         ensures agenda { IfOk result (λ a. (rs : List Record) → length rs ≡ count
-            → all_lawful Two state.now rs ≡ true → IsAnalysis Two state.now rs analysis
+            → all_lawful Two state.now rs ≡ true → IsKeptAnalysis Two state.now rs analysis
             → IsAgenda state.now rs a) }
         ensures refused { IfErr result (λ e. e ≡ Resources) }
     {

@@ -12,6 +12,7 @@ use crate::outboxes::{Outbox, Redone, merged, unboxed};
 use rq_queue::{KeptMove, KeptOps, Part, redo_kept};
 use rq_record::{Fault, KeptRecord, QueueNo};
 use rq_state::{Definition, State};
+use rq_touches::Touches;
 use std::alloc::Global;
 
 /// The state, the lawful records after it, and what these say of each queue.
@@ -19,7 +20,7 @@ use std::alloc::Global;
 pub(crate) struct Job<'a> {
     pub state: &'a State,
     pub records: &'a [KeptRecord],
-    pub touching: &'a [Vec<(u64, usize)>],
+    pub touching: &'a [Touches],
     pub definitions: &'a [Definition],
     pub sources: &'a [Vec<u32>],
     pub ranks: &'a [u32],
@@ -84,7 +85,7 @@ impl Job<'_> {
         rq_model::moves_rise();
         let lists = unboxed(alloc, boxes)?;
         let arrivals = merged(alloc, lists)?;
-        let ops = KeptOps::new(self.records, listed_for(self.touching, queue));
+        let ops = KeptOps::new(self.records, &self.touching[queue as usize]);
         let before = self.part_before(alloc, queue)?;
         let (part, moves) = redo_kept(alloc, before, &ops, arrivals)?;
         Ok((Redone { queue, part }, moves))

@@ -5,7 +5,7 @@ ghost use Rattle.rq_model.specs.Records.{Two};
 ghost use Rattle.rq_model.specs.Machine.{run, all_lawful};
 ghost use Rattle.rq_record.specs.Views.{record_of, version_of};
 ghost use Rattle.rq_record.specs.declared.fault.Fault.TheVariants.{Resources};
-ghost use Rattle.rq_catalog.specs.Analyses.{IsAnalysis};
+ghost use Rattle.rq_catalog.specs.Analyses.{IsKeptAnalysis};
 ghost use Rattle.rq_exchange.specs.Agendas.{IsAgenda};
 ghost use Rattle.rq_exchange.specs.Courses.{StartsByLast};
 ghost use Rattle.rq_exchange.specs.Gathering.{AreParts, ComesTo, IsRedoneTo};
@@ -20,7 +20,7 @@ use crate::deals::tasks_of;
 use crate::gathered::{AllRedone, placed};
 use crate::jobs::Job;
 use crate::links::{errors_of, sources_of};
-use rq_catalog::{Analysis, analyse_kept};
+use rq_catalog::{KeptAnalysis, analyse_kept};
 use rq_plan::{Gate, Open, Plan};
 use rq_queue::Part;
 use rq_record::{Fault, KeptRecord, Record, Version, kept_records};
@@ -100,13 +100,13 @@ pub fn replay_analysed<R: Threads + Sync, G: Gate + Sync>(
     alloc: Global,
     state: &State,
     records: &[KeptRecord],
-    analysis: Analysis,
+    analysis: KeptAnalysis,
     plan: &Plan,
     gate: &G,
 ) -> Result<State, Fault>
     requires lawful { all_lawful Two state.now (map record_of records.now) ≡ true }
     requires fits { state.now.next + length records.now < 2 ^ 64 }
-    requires analysis { IsAnalysis Two state.now (map record_of records.now) analysis }
+    requires analysis { IsKeptAnalysis Two state.now (map record_of records.now) analysis }
     ensures state { IfOk result (λ t. t ≡ run state.now (map record_of records.now)) }
     ensures refused { IfErr result (λ e. e ≡ Resources) }
 {
@@ -145,13 +145,13 @@ pub fn redo_analysed<R: Threads + Sync, G: Gate + Sync>(
     alloc: Global,
     state: &State,
     records: &[KeptRecord],
-    analysis: Analysis,
+    analysis: KeptAnalysis,
     plan: &Plan,
     gate: &G,
 ) -> Result<(AllRedone, Course), Fault>
     requires lawful { all_lawful Two state.now (map record_of records.now) ≡ true }
     requires fits { state.now.next + length records.now < 2 ^ 64 }
-    requires analysis { IsAnalysis Two state.now (map record_of records.now) analysis }
+    requires analysis { IsKeptAnalysis Two state.now (map record_of records.now) analysis }
     ensures redone { IfOk result (λ r. IsRedoneTo (run state.now (map record_of records.now)) r.0) }
     ensures course { IfOk result (λ r. StartsByLast
         (map (λ d. d.error) (run state.now (map record_of records.now)).definitions) r.1) }

@@ -9,7 +9,7 @@ use Rattle.rq_model.specs.Frames.{frame, frames, digest, last, before, body_in, 
 use Rattle.rq_model.specs.Frames.{IsRun, IsFrameRun, log_limit, bodies_of, frames_of, last_of, stated}
 use Rattle.rq_model.specs.LogLaws.{FrameIsRight, LogEnds, FramesJoin, RunGivesFront}
 use Rattle.rq_model.specs.Checkpoints.{IsCheckpointAt}
-use Rattle.rq_front.specs.declared.spans.Chain.{Chain}
+use Rattle.rq_front.specs.Chains.{Chain}
 use Rattle.rq_front.specs.Chains.{bodies_at, rest_of, spans_from}
 use Rattle.rq_record.specs.declared.fault.Fault.{Fault}
 use Rattle.rq_record.specs.declared.fault.Fault.TheVariants as faults

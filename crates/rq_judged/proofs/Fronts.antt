@@ -16,7 +16,7 @@ use Rattle.rq_model.specs.States.{State}
 use Rattle.rq_model.specs.Machine.{run, all_lawful, lawful_front}
 use Rattle.rq_model.specs.Fronts.{IsLongest, IsWhy, Why, Ends, Form, Law}
 use Rattle.rq_model.proofs.Restarts.{each_cut}
-use Rattle.rq_front.specs.declared.spans.Chain.{Chain}
+use Rattle.rq_front.specs.Chains.{Chain}
 use Rattle.rq_front.specs.declared.spans.Span.{Span}
 use Rattle.rq_catalog.proofs.Fronts.{Stops, parted, is_more, more_is}
 use Rattle.rq_judged.specs.Readings.{AreRead, SpellsNone}

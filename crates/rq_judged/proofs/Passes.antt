@@ -20,7 +20,7 @@ use Rattle.rq_model.specs.Machine.{all_lawful, run}
 use Rattle.rq_model.specs.Fronts.{Begins, IsLongest, IsFront, IsWhy, Why, Ends, Form, Law}
 use Rattle.rq_model.proofs.Lists.{each_append}
 use Rattle.rq_model.proofs.Restarts.{header_long, lawful_join, run_join}
-use Rattle.rq_front.specs.declared.spans.Chain.{Chain}
+use Rattle.rq_front.specs.Chains.{Chain}
 use Rattle.rq_record.specs.declared.fault.Fault.{Fault}
 use Rattle.rq_record.specs.declared.fault.Fault.TheVariants as faults
 use Rattle.rq_front.specs.Chains.{IsHeaded, Refused, bodies_at, rest_of, spans_from}

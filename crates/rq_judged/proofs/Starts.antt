@@ -13,7 +13,7 @@ use Rattle.rq_model.specs.Machine.{run}
 use Rattle.rq_model.specs.Fronts.{IsLongest, IsFront, IsWhy, IsRestart, Restarted, Why, restarted}
 use Rattle.rq_model.proofs.Runs.{last_at_end, length-sha256}
 use Rattle.std.specs.Prelude.{All}
-use Rattle.rq_front.specs.declared.spans.Chain.{Chain}
+use Rattle.rq_front.specs.Chains.{Chain}
 use Rattle.rq_front.specs.Chains.{bodies_at, rest_of, spans_from}
 use Rattle.rq_judged.specs.FrontEnds.{IsChain, IsFrontFrom}
 

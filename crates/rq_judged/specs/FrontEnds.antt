@@ -7,7 +7,7 @@ use Rattle.rq_model.specs.Frames.{log_limit, before, last_of, IsFrameRun}
 use Rattle.rq_model.specs.States.{State}
 use Rattle.rq_model.specs.Machine.{run}
 use Rattle.rq_model.specs.Fronts.{IsLongest, IsWhy, Why, Ends, Form, Law, Restarted, IsRestart}
-use Rattle.rq_front.specs.declared.spans.Chain.{Chain}
+use Rattle.rq_front.specs.Chains.{Chain}
 use Rattle.rq_front.specs.declared.spans.Span.{Span}
 use Rattle.rq_front.specs.Chains.{bodies_at, rest_of, spans_from, IsHeaded, Refused}
 use Rattle.rq_model.specs.Carrying.{IsCarriedRestart}

@@ -11,7 +11,7 @@ use Rattle.rq_record.specs.Views as rt
 use Rattle.rq_record.specs.Views.{record_of}
 use Rattle.rq_judged.specs.declared.bodies.PartedRecords.{PartedRecords}
 use Rattle.rq_model.specs.States.{State}
-use Rattle.rq_catalog.specs.Analyses.{IsAnalysis}
+use Rattle.rq_catalog.specs.Analyses.{IsKeptAnalysis}
 use Rattle.rq_judged.specs.declared.front.Known.{Known}
 
 -- no body, or a first one that spells no record of the version
@@ -41,7 +41,7 @@ pub record AreApart (version : Version) (bodies : List (List ℕ)) (p : PartedRe
 pub record IsKnownOfBodies (version : Version) (s : State) (bodies : List (List ℕ)) (k : Known)
     : Type 0 where
   pub read : AreRead version bodies (map record_of k.records.items)
-  pub analysis : IsAnalysis version s (map record_of k.records.items) k.analysis
+  pub analysis : IsKeptAnalysis version s (map record_of k.records.items) k.analysis
 
 -- that of the bodies whose records stand apart, or no memory
 abbrev pub KnowsBodies : Version → State → PartedRecords → Result Known Fault → Type 0

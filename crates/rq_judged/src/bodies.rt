@@ -9,7 +9,7 @@ ghost use Rattle.rq_record.specs.declared.fault.Fault.TheVariants.{Resources};
 ghost use Rattle.rq_front.specs.Chains.{bodies_at};
 ghost use Rattle.rq_judged.specs.Readings.{AreApart, AreRead, ReadsBodies};
 
-use rq_front::Span;
+use rq_front::KeptSpan;
 use rq_record::{Fault, KeptRecord, LogBytes, Version, decode_at};
 use std::alloc::Global;
 use std::marker::Sync;
@@ -34,7 +34,7 @@ fn read_in_order(
     alloc: Global,
     version: Version,
     log: &LogBytes<'_>,
-    spans: &[Span],
+    spans: &[KeptSpan],
     room: usize,
 ) -> Result<Vec<KeptRecord>, Fault>
     requires { All (λ s. s.start + s.len ≤ length log.now) spans.now }
@@ -44,7 +44,7 @@ fn read_in_order(
 {
     let mut records = Vec::with_capacity(alloc, room)?;
     for span in spans.iter() {
-        match decode_at(alloc, version, log, span.start, span.len) {
+        match decode_at(alloc, version, log, span.start(), span.len()) {
             Ok(record) => records.push(record)?,
             Err(Fault::Form) => return Ok(records),
             Err(fault) => return Err(fault),
@@ -64,7 +64,7 @@ fn read_apart<R: Threads + Sync>(
     version: Version,
     bytes: &[u8],
     whole: &[ArcSlice<u8>],
-    spans: &[Span],
+    spans: &[KeptSpan],
     workers: u32,
     room: usize,
 ) -> Result<PartedRecords, Fault>
@@ -138,7 +138,7 @@ pub(crate) fn read_bodies<R: Threads + Sync>(
     alloc: Global,
     version: Version,
     bytes: &LogBytes<'_>,
-    spans: &[Span],
+    spans: &[KeptSpan],
     workers: u32,
 ) -> Result<PartedRecords, Fault>
     requires { All (λ s. s.start + s.len ≤ length bytes.now) spans.now }

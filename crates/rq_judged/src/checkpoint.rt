@@ -5,7 +5,7 @@ ghost use Rattle.rq_front.specs.Chains.{bodies_at};
 ghost use Rattle.rq_judged.specs.Checkpoints.{BeginsAt, kept_in, chain_start};
 
 use crate::front_pass::grain_of;
-use rq_front::{Chain, HEADER_LEN, Span, chain, log_version};
+use rq_front::{HEADER_LEN, KeptChain, KeptSpan, kept_chain, log_version};
 use rq_plan::Plan;
 use rq_record::{Fault, Version};
 use rq_state::{State, read_up_to};
@@ -19,18 +19,18 @@ pub struct Begun {
     /// The version of the log.
     pub version: Version,
     /// The chain of its frames from there on.
-    pub found: Chain,
+    pub found: KeptChain,
     /// The state there: the one that the checkpoint spells, or the empty one.
     pub state: State,
 }
 
 // What stands behind the kind of the first body, where that is a checkpoint's.
-fn kept_in<'a>(bytes: &'a [u8], spans: &[Span]) -> Option<&'a [u8]>
+fn kept_in<'a>(bytes: &'a [u8], spans: &[KeptSpan]) -> Option<&'a [u8]>
     requires { All (λ s. s.start + s.len ≤ length bytes.now) spans.now }
     ensures { option_map (λ kept. kept.now) result ≡ kept_in (bodies_at bytes.now spans.now) }
 {
     let span = spans.first()?;
-    match &bytes[span.start..span.start + span.len] {
+    match &bytes[span.start()..span.start() + span.len()] {
         [9, kept @ ..] => Some(kept),
         _ => None,
     }
@@ -64,7 +64,7 @@ impl Begun {
         rq_model::frames_join();
         let version = log_version(bytes)?;
         let start = chain_start(offset, bytes.len());
-        let found = chain(rt, alloc, bytes, start, grain_of(plan))?;
+        let found = kept_chain(rt, alloc, bytes, start, grain_of(plan))?;
         let Some(kept) = kept_in(bytes, &found.spans) else {
             return Err(Fault::NoCheckpoint);
         };

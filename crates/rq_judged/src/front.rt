@@ -11,7 +11,7 @@ ghost use Rattle.rq_record.specs.Views.{record_of, version_of};
 ghost use Rattle.rq_record.specs.declared.fault.Fault.TheVariants.{Resources};
 ghost use Rattle.rq_front.specs.Chains.{bodies_at, rest_of};
 ghost use Rattle.rq_front.specs.Walks.{IsChecked, Walks, spans_of};
-ghost use Rattle.rq_catalog.specs.Analyses.{IsAnalysis};
+ghost use Rattle.rq_catalog.specs.Analyses.{IsKeptAnalysis};
 ghost use Rattle.rq_judged.specs.FrontEnds.{IsChain, IsFrontFrom, end_at};
 ghost use Rattle.rq_judged.specs.Readings.{IsKnownOfBodies, KnowsBodies};
 ghost use Rattle.rq_judged.specs.Views.{why_of};
@@ -19,8 +19,8 @@ ghost use Rattle.rq_judged.specs.Views.{why_of};
 use crate::bodies::{FEW, PartedRecords, put_together, read_bodies};
 use crate::ends::Why;
 use crate::front_pass::{grain_of, why_of};
-use rq_catalog::{Analysis, analyse_kept};
-use rq_front::{Chain, Walk};
+use rq_catalog::{KeptAnalysis, analyse_kept};
+use rq_front::{KeptChain, Walk};
 use rq_plan::Plan;
 use rq_record::{Fault, KeptRecord, LogBytes, Version};
 use rq_state::State;
@@ -32,7 +32,7 @@ use std::thread::{Threads, join};
 #[derive(Drop)]
 pub(crate) struct Known {
     records: Vec<KeptRecord>,
-    analysis: Analysis,
+    analysis: KeptAnalysis,
 }
 
 /// The front of a log: its lawful records from a state on, where they end, and why.
@@ -41,7 +41,7 @@ pub struct Front {
     /// The records.
     pub records: Vec<KeptRecord>,
     /// What one pass over them found.
-    pub analysis: Analysis,
+    pub analysis: KeptAnalysis,
     /// The offset in the log at which they end.
     pub end: usize,
     /// Why they end there.
@@ -49,7 +49,7 @@ pub struct Front {
 }
 
 /// Where the front ends, and why: behind `kept` frames of a chain, of which `read` were read.
-pub(crate) fn end_of(found: &Chain, read: usize, kept: usize) -> (usize, Why)
+pub(crate) fn end_of(found: &KeptChain, read: usize, kept: usize) -> (usize, Why)
     ensures { (result.0, why_of result.1)
         ≡ end_at found.now.spans.items found.now.end (rest_of found.now.rest) read kept }
 {
@@ -99,7 +99,7 @@ fn keep_first(
 }
 
 // The front among the records that were read of a chain.
-fn settled(found: &Chain, known: Known) -> Front
+fn settled(found: &KeptChain, known: Known) -> Front
     ensures front { (version : records.Version) (s : model.State) (b : List ℕ) (offset : ℕ) →
         IsChain b offset found.now
         → IsKnownOfBodies version s (bodies_at b found.now.spans.items) known
@@ -110,7 +110,7 @@ fn settled(found: &Chain, known: Known) -> Front
         × (bodies ≡ bodies_of (map record_of result.records.items) ++ left) }
     ensures analysis { (version : records.Version) (s : model.State) (bodies : List (List ℕ)) →
         IsKnownOfBodies version s bodies known
-        → IsAnalysis version s (map record_of result.records.items) result.analysis }
+        → IsKeptAnalysis version s (map record_of result.records.items) result.analysis }
 {
     rq_model::frames_are_right();
     rq_model::frames_join();
@@ -141,7 +141,7 @@ fn check_meanwhile<R: Threads + Sync>(
     parts: PartedRecords,
     state: &State,
     grain: u32,
-) -> (Chain, Result<Known, Fault>)
+) -> (KeptChain, Result<Known, Fault>)
     requires walk { (from : ℕ) × Walks bytes.now from walk }
     requires next { state.now.next ≤ carried_next }
     requires grain { 1 ≤ grain }
@@ -152,7 +152,7 @@ fn check_meanwhile<R: Threads + Sync>(
     let slice = bytes.as_slice();
     join(
         rt,
-        move || -> Chain
+        move || -> KeptChain
             requires { IsSync R.row × (1 ≤ grain) × (from : ℕ) × Walks slice.now from walk }
             ensures { (from : ℕ) → Walks slice.entry.now from walk
                 → IsChecked slice.entry.now from walk result }
@@ -187,7 +187,7 @@ impl Front {
         ensures front { IfOk result (λ f. (offset : ℕ) → Walks bytes.now offset walk
             → IsFrontFrom (version_of version) state.now bytes.now offset
             (map record_of f.records.items) f.end (why_of f.why)) }
-        ensures analysis { IfOk result (λ f. IsAnalysis (version_of version) state.now
+        ensures analysis { IfOk result (λ f. IsKeptAnalysis (version_of version) state.now
             (map record_of f.records.items) f.analysis) }
         ensures refused { IfErr result (λ e. e ≡ Resources) }
     {
@@ -211,7 +211,7 @@ impl Front {
         alloc: Global,
         version: Version,
         bytes: &LogBytes<'_>,
-        found: &Chain,
+        found: &KeptChain,
         state: &State,
         plan: &Plan,
     ) -> Result<Front, Fault>
@@ -223,7 +223,7 @@ impl Front {
         ensures bodies { IfOk result
             (λ f. (left : List (List ℕ)) × (bodies_at bytes.now found.now.spans.items
             ≡ bodies_of (map record_of f.records.items) ++ left)) }
-        ensures analysis { IfOk result (λ f. IsAnalysis (version_of version) state.now
+        ensures analysis { IfOk result (λ f. IsKeptAnalysis (version_of version) state.now
             (map record_of f.records.items) f.analysis) }
         ensures refused { IfErr result (λ e. e ≡ Resources) }
     {

@@ -15,7 +15,7 @@ ghost use Rattle.rq_judged.specs.Passes.{AreJudged, HasPassedSome, IsVerdict, St
 use crate::ends::Why;
 use crate::front::end_of;
 use rq_catalog::Judge;
-use rq_front::{Rest, Span, chain};
+use rq_front::{KeptSpan, Rest, kept_chain};
 use rq_plan::Plan;
 use rq_record::{Fault, decode_kept};
 use std::alloc::Global;
@@ -101,7 +101,7 @@ pub(crate) fn judge_each(
     alloc: Global,
     judge: &mut Judge,
     bytes: &[u8],
-    spans: &[Span],
+    spans: &[KeptSpan],
 ) -> Result<Reach, Fault>
     requires { All (λ s. s.start + s.len ≤ length bytes.now) spans.now }
     ensures judged { IfOk result
@@ -111,7 +111,7 @@ pub(crate) fn judge_each(
     ensures refused { IfErr result (λ e. e ≡ Resources) }
 {
     for (lawful, span) in spans.iter().enumerate() {
-        match judge_one(alloc, judge, &bytes[span.start..span.start + span.len])? {
+        match judge_one(alloc, judge, &bytes[span.start()..span.start() + span.len()])? {
             Verdict::Lawful => {}
             Verdict::Unlawful => {
                 return Ok(Reach {
@@ -165,7 +165,7 @@ impl PassSoFar {
         rq_model::frames_join();
         rq_model::one_front();
         let part = &bytes[..limit];
-        let found = chain(rt, alloc, part, self.offset, grain)?;
+        let found = kept_chain(rt, alloc, part, self.offset, grain)?;
         let reach = judge_each(alloc, &mut self.judge, part, &found.spans)?;
         let (end, why) = end_of(&found, reach.read, reach.lawful);
         self.records += reach.lawful;

@@ -17,7 +17,7 @@ use crate::frames::before;
 use crate::front_pass::{Verdict, judge_one, stays, why_of};
 use crate::judged::JudgedFront;
 use rq_catalog::Judge;
-use rq_front::{HEADER_LEN, LOG_LIMIT, Span, chain};
+use rq_front::{HEADER_LEN, KeptSpan, LOG_LIMIT, kept_chain};
 use rq_record::{Fault, Version};
 use std::alloc::Global;
 use std::marker::Sync;
@@ -62,7 +62,7 @@ impl WindowPass {
 
     // Passes the frames at the place as far as they are those of lawful records, and says why these
     // end. Behind all frames they end for the reason that is given.
-    fn judge_frames(&mut self, alloc: Global, spans: &[Span], behind: Why) -> Result<Why, Fault>
+    fn judge_frames(&mut self, alloc: Global, spans: &[KeptSpan], behind: Why) -> Result<Why, Fault>
         requires follows { IsFedSome self.old }
         requires going { self.old.ended ≡ None }
         requires inside { All (λ s. s.start + s.len ≤ length self.old.window.items) spans.now }
@@ -77,11 +77,11 @@ impl WindowPass {
     {
         rq_model::frames_are_right();
         for span in spans {
-            let body = &self.window[span.start..span.start + span.len];
+            let body = &self.window[span.start()..span.start() + span.len()];
             match judge_one(alloc, &mut self.judge, body)? {
                 Verdict::Lawful => {
                     self.records += 1;
-                    self.place = span.start + span.len + 32;
+                    self.place = span.start() + span.len() + 32;
                 }
                 Verdict::Unlawful => return Ok(Why::Law),
                 Verdict::NoRecord => return Ok(Why::Form),
@@ -109,7 +109,7 @@ impl WindowPass {
         if let Some(why) = self.ended {
             return Ok(why);
         }
-        let found = chain(rt, alloc, &self.window, self.place, grain)?;
+        let found = kept_chain(rt, alloc, &self.window, self.place, grain)?;
         let why = self.judge_frames(alloc, &found.spans, why_of(found.rest))?;
         self.used = self.total - (self.window.len() - self.place);
         self.enough = (self.total - self.used).saturating_add(WAITING);

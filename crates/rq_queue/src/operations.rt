@@ -8,6 +8,7 @@ ghost use Rattle.rq_record.specs.Views.{record_of};
 ghost use Rattle.rq_record.specs.declared.fault.Fault.TheVariants.{Resources};
 
 use rq_record::{Fault, KeptRecord, Record};
+use rq_touches::Touches;
 use std::alloc::Global;
 use std::marker::Model;
 
@@ -67,7 +68,7 @@ impl KeptOp<'_> {
 #[derive(Drop)]
 pub struct KeptOps<'a> {
     records: &'a [KeptRecord],
-    touching: &'a [(u64, usize)],
+    touching: &'a Touches,
 }
 
 impl<'a> Model for KeptOps<'a> {
@@ -85,7 +86,7 @@ impl<'a> Model for KeptOps<'a> {
 
 impl<'a> KeptOps<'a> {
     /// The records at these places and indices.
-    pub fn new(records: &'a [KeptRecord], touching: &'a [(u64, usize)]) -> KeptOps<'a>
+    pub fn new(records: &'a [KeptRecord], touching: &'a Touches) -> KeptOps<'a>
         requires { All (λ p. p.1 < length records.now) touching.now }
         ensures { result ≡ ops_at (map record_of records.now) touching.now }
     {
@@ -105,7 +106,7 @@ impl<'a> KeptOps<'a> {
         ensures { (d : queues.Op) → result ≡ slice_index_or self.now index d }
     {
         let (records, touching) = (self.records, self.touching);
-        let (place, index) = touching[index];
+        let (place, index) = touching.at(index);
         KeptOp {
             place,
             rec: &records[index],
@@ -118,13 +119,13 @@ impl<'a> KeptOps<'a> {
 pub(crate) fn kept_ops(
     alloc: Global,
     ops: &[Op],
-) -> Result<(Vec<KeptRecord>, Vec<(u64, usize)>), Fault>
-    ensures within { IfOk result (λ r. All (λ p. p.1 < length r.0.items) r.1.items) }
-    ensures kept { IfOk result (λ r. ops_at (map record_of r.0.items) r.1.items ≡ ops.now) }
+) -> Result<(Vec<KeptRecord>, Touches), Fault>
+    ensures within { IfOk result (λ r. All (λ p. p.1 < length r.0.items) r.1) }
+    ensures kept { IfOk result (λ r. ops_at (map record_of r.0.items) r.1 ≡ ops.now) }
     ensures refused { IfErr result (λ e. e ≡ Resources) }
 {
     let mut records = Vec::with_capacity(alloc, ops.len())?;
-    let mut touching = Vec::with_capacity(alloc, ops.len())?;
+    let mut touching = Touches::new(alloc);
     for op in ops {
         touching.push((op.place, records.len()))?;
         records.push(KeptRecord::of(alloc, op.rec)?)?;

@@ -14,7 +14,7 @@ use Rattle.rq_model.specs.Checkpoints.{Audited}
 use Rattle.rq_model.proofs.Restarts.{lawful_cut, run_join}
 use Rattle.rq_record.specs.declared.record.RecordOf.TheVariants as own
 use Rattle.rq_record.specs.Views.{Record as Own, record_of}
-use Rattle.rq_front.specs.declared.spans.Chain.{Chain}
+use Rattle.rq_front.specs.Chains.{Chain}
 use Rattle.rq_front.specs.declared.spans.Span.{Span}
 use Rattle.rq_front.specs.Chains.{bodies_at, spans_from}
 use Rattle.rq_catalog.proofs.Runs.{run_push}

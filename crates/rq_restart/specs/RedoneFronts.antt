@@ -7,8 +7,8 @@ use Rattle.rq_model.specs.WellFormed.{IsWellFormed}
 use Rattle.rq_model.specs.StateSpelling.{carried_next}
 use Rattle.rq_record.specs.Views.{record_of, version_of}
 use Rattle.rq_record.specs.declared.fault.Fault.{Fault}
-use Rattle.rq_catalog.specs.Analyses.{IsAnalysis}
-use Rattle.rq_front.specs.declared.spans.Chain.{Chain}
+use Rattle.rq_catalog.specs.Analyses.{IsKeptAnalysis}
+use Rattle.rq_front.specs.Chains.{Chain}
 use Rattle.rq_front.specs.Chains.{Refused}
 use Rattle.rq_judged.specs.Checkpoints.{IsBegun}
 use Rattle.rq_judged.specs.FrontEnds.{IsFrontFrom}
@@ -30,7 +30,7 @@ pub record IsFoundFrom (b : List ℕ) (from : ℕ) (f : FoundFront) : Type 0 whe
   pub units : length f.state.units < 2 ^ 32
   pub front : IsFrontFrom (version_of f.version) f.state b from
       (map record_of f.front.records.items) f.front.end (why_of f.front.why)
-  pub analysis : IsAnalysis (version_of f.version) f.state
+  pub analysis : IsKeptAnalysis (version_of f.version) f.state
       (map record_of f.front.records.items) f.front.analysis
 
 -- the front of all of b, whose frames end where those of any log do

@@ -10,7 +10,7 @@ ghost use Rattle.rq_restart.specs.Audits.{StandInFrames, Audits, AuditsAt, IsAud
 ghost use Rattle.rq_restart.specs.Audits.{EveryLogHasAudit, audited_of, audits, is_spelled};
 
 use crate::pieces::go_on;
-use rq_front::{Span, chain, log_version};
+use rq_front::{KeptSpan, kept_chain, log_version};
 use rq_judged::{Begun, Front, grain_of};
 use rq_plan::Plan;
 use rq_record::{Fault, KeptRecord, LogBytes, Version};
@@ -55,7 +55,7 @@ fn checkpoints_among<R: Threads + Sync>(
     version: Version,
     state: &State,
     records: &[KeptRecord],
-    spans: &[Span],
+    spans: &[KeptSpan],
     plan: &Plan,
 ) -> Result<Vec<(u64, bool)>, Fault>
     requires framed { (at : ℕ)
@@ -146,7 +146,7 @@ pub fn audit_of<R: Threads + Sync>(
     rq_model::frames_join();
     rq_model::one_front();
     let version = log_version(bytes.as_slice())?;
-    let found = chain(rt, alloc, bytes.as_slice(), 40, grain_of(plan))?;
+    let found = kept_chain(rt, alloc, bytes.as_slice(), 40, grain_of(plan))?;
     let state = State::empty(alloc);
     let begun = Begun {
         version,

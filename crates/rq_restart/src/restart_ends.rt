@@ -9,14 +9,14 @@ ghost use Rattle.rq_model.specs.Records as model;
 ghost use Rattle.rq_record.specs.Views.{record_of, version_of};
 ghost use Rattle.rq_record.specs.declared.fault.Fault.TheVariants.{Resources};
 ghost use Rattle.rq_state.specs.Views.{unit_of};
-ghost use Rattle.rq_catalog.specs.Analyses.{IsAnalysis, open_in};
+ghost use Rattle.rq_catalog.specs.Analyses.{IsKeptAnalysis, open_in};
 ghost use Rattle.rq_exchange.specs.Agendas.{IsAgenda};
 ghost use Rattle.rq_exchange.specs.Courses.{StartsByLast};
 ghost use Rattle.rq_restart.specs.Restarts.{first_cleared};
 ghost use Rattle.rq_restart.specs.RedoneFronts.{IsFoundFrom};
 
 use crate::restarts::FoundFront;
-use rq_catalog::Analysis;
+use rq_catalog::KeptAnalysis;
 use rq_exchange::{Agenda, Course, redo_agenda};
 use rq_judged::{Front, FrontEnd, Why};
 use rq_plan::{Gate, Plan};
@@ -158,12 +158,12 @@ fn closing_agenda(
     alloc: Global,
     state: &State,
     records: &[KeptRecord],
-    analysis: Analysis,
+    analysis: KeptAnalysis,
 ) -> Result<(Agenda, Vec<UnitNo>), Fault>
     requires fits { state.now.next + length records.now + length (open_in analysis) < 2 ^ 64 }
     requires lawful { all_lawful model.Two state.now
         (map record_of records.now ++ map model.Abort (open_in analysis)) ≡ true }
-    requires analysed { IsAnalysis model.Two state.now (map record_of records.now) analysis }
+    requires analysed { IsKeptAnalysis model.Two state.now (map record_of records.now) analysis }
     ensures units { IfOk result (λ r. map unit_of r.1.items ≡ open_in analysis) }
     ensures agenda { IfOk result (λ r. IsAgenda state.now
         (map record_of records.now ++ map model.Abort (open_in analysis)) r.0) }
@@ -217,7 +217,7 @@ pub(crate) fn closed_front<R: Threads + Sync, G: Gate + Sync>(
     requires lawful { all_lawful model.Two state (map record_of front.records.items) ≡ true }
     requires fits { state.next + length state.units + 2 * length front.records.items < 2 ^ 64 }
     requires within { front.end ≤ total }
-    requires analysed { IsAnalysis model.Two state (map record_of front.records.items) front.analysis }
+    requires analysed { IsKeptAnalysis model.Two state (map record_of front.records.items) front.analysis }
     ensures answer { IfOk result
         (λ r. r ≡ restarted (run state (map record_of front.records.items))
         (total - front.end) total (why_of front.why)) }

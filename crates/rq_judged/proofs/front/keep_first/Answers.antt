@@ -2,7 +2,7 @@ use Rattle.std.proofs.Common.{◌≡◌, List, map, take, sym, ap, subst, ◌∙
 use Rattle.std.proofs.lemmas.List.{length-map, take-map, take_all}
 use Rattle.rq_record.specs.Views.{Record, record_of, version_of}
 use Rattle.rq_model.specs.Records as model
-use Rattle.rq_catalog.specs.Analyses.{IsAnalysis}
+use Rattle.rq_catalog.specs.Analyses.{IsKeptAnalysis}
 use Rattle.rq_judged.specs.Readings.{AreRead}
 use Rattle.rq_judged.proofs.Readings.{read_fewer}
 use Rattle.rq_judged.proofs.front.keep_first.Goals as goal
@@ -29,6 +29,6 @@ returns-in_ok-known-clause-known c = λ bodies known.
     record {
       read = subst (λ (xs : List model.Record). AreRead (version_of c.args.version) (take n bodies) xs) first
           (read_fewer (version_of c.args.version) n bodies (map record_of all) known.read);
-      analysis = subst (λ (xs : List Record). IsAnalysis (version_of c.args.version) s
+      analysis = subst (λ (xs : List Record). IsKeptAnalysis (version_of c.args.version) s
           (map record_of xs) c.in_ok-known.field-0) c.deref.ensures.value c.in_ok-known.ensures.analysis;
     }

@@ -5,7 +5,7 @@ use Rattle.rq_model.specs.Frames.{bodies_of}
 use Rattle.rq_model.specs.Machine.{lawful_front}
 use Rattle.rq_record.specs.Views.{record_of}
 use Rattle.rq_front.specs.Chains.{rest_of}
-use Rattle.rq_catalog.specs.Analyses.{IsAnalysis}
+use Rattle.rq_catalog.specs.Analyses.{IsKeptAnalysis}
 use Rattle.rq_catalog.proofs.Fronts.{kept_is, analysis_of_front}
 use Rattle.rq_judged.specs.FrontEnds.{IsFrontFrom, end_at}
 use Rattle.rq_judged.specs.Views.{why_of}
@@ -45,5 +45,5 @@ returns-clause-analysis c = λ version s bodies known.
     let all = c.args.known.records.items in
     let kept = kept_is version s all c.truncate.new.self.items c.lawful-kept.result c.truncate.ensures.items
     (c.lawful-kept.ensures ∙ known.analysis.lawful) in
-    subst (λ (xs : List model.Record). IsAnalysis version s xs c.args.known.analysis) (sym kept)
+    subst (λ (xs : List model.Record). IsKeptAnalysis version s xs c.args.known.analysis) (sym kept)
     (analysis_of_front version s (map record_of all) c.args.known.analysis known.analysis)

@@ -6,7 +6,7 @@ use Rattle.rq_queue.proofs.operations.kept_ops.Given as goal
 
 abbrev pub invariant-loop-op : goal.invariant-loop-op
 invariant-loop-op l = record {
-  within : All (λ p. p.1 < length l.records.items) l.touching.items;
-  so_far : (more : List Record) → ops_at (map record_of l.records.items ++ more) l.touching.items
+  within : All (λ p. p.1 < length l.records.items) l.touching;
+  so_far : (more : List Record) → ops_at (map record_of l.records.items ++ more) l.touching
       ≡ take l.op-index l.ops;
 }

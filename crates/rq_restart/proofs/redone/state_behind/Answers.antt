@@ -2,7 +2,7 @@ use Rattle.std.proofs.Common.{List, map, subst, sym, arith}
 use Rattle.std.proofs.lemmas.List.{length-map}
 use Rattle.rq_model.specs.Records.{Two}
 use Rattle.rq_record.specs.Views.{Record, record_of, version_of}
-use Rattle.rq_catalog.specs.Analyses.{IsAnalysis}
+use Rattle.rq_catalog.specs.Analyses.{IsKeptAnalysis}
 use Rattle.rq_catalog.proofs.Fronts.{analysis_is_wider}
 use Rattle.rq_restart.proofs.redone.state_behind.Goals as goal
 
@@ -26,4 +26,4 @@ replay_analysed-requires-clause-analysis g c κs within =
     let is = c.requires.front.1 in
     let wide = analysis_is_wider c.versions.ensures.two (version_of c.args.from.version) s
     (map record_of front.records.items) front.analysis is.front.longest.begins.lawful is.analysis in
-    subst (λ (xs : List Record). IsAnalysis Two s (map record_of xs) front.analysis) (sym c.deref.ensures.value) wide
+    subst (λ (xs : List Record). IsKeptAnalysis Two s (map record_of xs) front.analysis) (sym c.deref.ensures.value) wide
