@@ -1,7 +1,7 @@
 -- How far the bodies of a chain are read, and what is known of them.
 use Rattle.std.specs.Prelude.{◌≡◌, ◌≤◌, ℕ, ⊤, List, [], ◌∷◌, ◌++◌, length, map, take, drop, Result, Ok, Err}
 use Rattle.std.specs.Global.{Vec}
-use Rattle.std.specs.List.{AllByRecursion}
+use Rattle.std.specs.List.{AllByRecursion, flat_map}
 use Rattle.rq_model.specs.Records.{Record, Version}
 use Rattle.rq_model.specs.Spelling.{IsRecord, Spells}
 use Rattle.rq_model.specs.Frames.{bodies_of}
@@ -31,11 +31,20 @@ abbrev pub ReadsBodies : Version → List (List ℕ) → Result (Vec rt.Record) 
 ReadsBodies version bodies (Ok v) = AreRead version bodies (map record_of v.items)
 ReadsBodies version bodies (Err e) = e ≡ Resources
 
+-- the records of blocks
+abbrev pub records_in : List (Vec rt.Record) → List Record
+records_in blocks = flat_map (λ (block : Vec rt.Record). map record_of block.items) blocks
+
+-- the same in blocks
+abbrev pub ReadsBlocks : Version → List (List ℕ) → Result (Vec (Vec rt.Record)) Fault → Type 0
+ReadsBlocks version bodies (Ok v) = AreRead version bodies (records_in v.items)
+ReadsBlocks version bodies (Err e) = e ≡ Resources
+
 -- the records of the first bodies and those of the others, apart from one another
 pub record AreApart (version : Version) (bodies : List (List ℕ)) (p : PartedRecords) : Type 0 where
   pub within : p.count ≤ length bodies
   pub front : AreRead version (take p.count bodies) (map record_of p.front.items)
-  pub back : AreRead version (drop p.count bodies) (map record_of p.back.items)
+  pub back : AreRead version (drop p.count bodies) (records_in p.back.items)
 
 -- the records that the bodies spell, and what one pass over them from a state on found
 pub record IsKnownOfBodies (version : Version) (s : State) (bodies : List (List ℕ)) (k : Known)

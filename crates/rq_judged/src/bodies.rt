@@ -1,13 +1,13 @@
 //! The records of a chain.
 
-ghost use Rattle.std.specs.Prelude.{◌≡◌, ◌≤◌, ◌+◌, ℕ, List, length, map, All, IfOk, IfErr};
+ghost use Rattle.std.specs.Prelude.{◌≡◌, ◌≤◌, ◌+◌, ◌++◌, ℕ, List, length, map, All, IfOk, IfErr, OnOk};
 ghost use Rattle.std.specs.Arc.{arc_slice_items};
 ghost use Rattle.std.specs.Thread.{IsSync};
 ghost use Rattle.rq_model.specs.Records as model;
 ghost use Rattle.rq_record.specs.Views.{record_of, version_of};
 ghost use Rattle.rq_record.specs.declared.fault.Fault.TheVariants.{Resources};
 ghost use Rattle.rq_front.specs.Chains.{bodies_at};
-ghost use Rattle.rq_judged.specs.Readings.{AreApart, AreRead, ReadsBodies};
+ghost use Rattle.rq_judged.specs.Readings.{AreApart, AreRead, ReadsBlocks, ReadsBodies, records_in};
 
 use rq_front::KeptSpan;
 use rq_record::{Fault, KeptRecord, LogBytes, Version, decode_at};
@@ -19,12 +19,15 @@ use std::thread::{Threads, join};
 /// As many bodies are read by one thread, so that the restart of a small log starts none.
 pub(crate) const FEW: usize = 1024;
 
+// So many records are put behind others at once: as many stand in memory twice.
+const BLOCK: usize = 65_536;
+
 /// The records that the bodies of a chain spell, in two parts: the front one has those of the first
-/// `count` bodies.
+/// `count` bodies, and the back one has the others in blocks.
 #[derive(Drop)]
 pub(crate) struct PartedRecords {
     front: Vec<KeptRecord>,
-    back: Vec<KeptRecord>,
+    back: Vec<Vec<KeptRecord>>,
     count: usize,
 }
 
@@ -53,10 +56,36 @@ fn read_in_order(
     Ok(records)
 }
 
+// The same in blocks, each of which can be let go by itself.
+fn read_in_blocks(
+    alloc: Global,
+    version: Version,
+    log: &LogBytes<'_>,
+    spans: &[KeptSpan],
+) -> Result<Vec<Vec<KeptRecord>>, Fault>
+    requires { All (λ s. s.start + s.len ≤ length log.now) spans.now }
+    ensures records { IfOk result (λ blocks. AreRead (version_of version)
+        (bodies_at log.now spans.now) (records_in blocks.items)) }
+    ensures refused { IfErr result (λ e. e ≡ Resources) }
+{
+    let mut blocks = Vec::new(alloc);
+    let mut rest = spans;
+    while !rest.is_empty() {
+        let (next, after) = rest.split_at(rest.len().min(BLOCK));
+        let block = read_in_order(alloc, version, log, next, next.len())?;
+        let is_whole = block.len() == next.len();
+        blocks.push(block)?;
+        if !is_whole {
+            return Ok(blocks);
+        }
+        rest = after;
+    }
+    Ok(blocks)
+}
+
 // The records that the bodies spell, up to the first body that spells none, read by as many
 // workers, in two parts: one worker reads the back one, and what that spells finds its room behind
-// what the others read, so no more than one worker's share ever stands twice. One worker, or few
-// bodies, leave the back part empty.
+// what the others read, block by block. One worker, or few bodies, leave the back part empty.
 #[cycle(shares)]
 fn read_apart<R: Threads + Sync>(
     rt: &R,
@@ -96,14 +125,14 @@ fn read_apart<R: Threads + Sync>(
             let records = put_together(parts)?;
             Ok(records)
         },
-        || -> Result<Vec<KeptRecord>, Fault>
+        || -> Result<Vec<Vec<KeptRecord>>, Fault>
             requires { All (λ s. s.start + s.len ≤ length bytes.now) back.now
                 × All (λ log. arc_slice_items log ≡ bytes.now) whole.now }
-            ensures { ReadsBodies (version_of version)
+            ensures { ReadsBlocks (version_of version)
                 (bodies_at bytes.entry.now back.entry.now) result }
         {
             let log = LogBytes::of_parts(bytes, whole);
-            read_in_order(alloc, version, &log, back, back.len())
+            read_in_blocks(alloc, version, &log, back)
         },
     );
     Ok(PartedRecords {
@@ -111,6 +140,18 @@ fn read_apart<R: Threads + Sync>(
         back: right?,
         count,
     })
+}
+
+// Puts the records of the blocks behind the others.
+fn append_all(records: &mut Vec<KeptRecord>, blocks: Vec<Vec<KeptRecord>>) -> Result<(), Fault>
+    ensures records { OnOk result (map record_of records.new.items
+        ≡ map record_of records.old.items ++ records_in blocks.items) }
+    ensures refused { IfErr result (λ e. e ≡ Resources) }
+{
+    for mut block in blocks {
+        records.append(&mut block)?;
+    }
+    Ok(())
 }
 
 /// All records of the two parts. Where the front one ends before its last body, nothing behind it
@@ -122,11 +163,11 @@ pub(crate) fn put_together(parts: PartedRecords) -> Result<Vec<KeptRecord>, Faul
 {
     let PartedRecords {
         mut front,
-        mut back,
+        back,
         count,
     } = parts;
     if front.len() == count {
-        front.append(&mut back)?;
+        append_all(&mut front, back)?;
     }
     Ok(front)
 }

@@ -111,7 +111,11 @@ pub(crate) fn judge_each(
     ensures refused { IfErr result (λ e. e ≡ Resources) }
 {
     for (lawful, span) in spans.iter().enumerate() {
-        match judge_one(alloc, judge, &bytes[span.start()..span.start() + span.len()])? {
+        match judge_one(
+            alloc,
+            judge,
+            &bytes[span.start()..span.start() + span.len()],
+        )? {
             Verdict::Lawful => {}
             Verdict::Unlawful => {
                 return Ok(Reach {

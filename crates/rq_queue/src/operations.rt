@@ -116,10 +116,7 @@ impl<'a> KeptOps<'a> {
 
 /// Keeps the records of the operations: these, and the place of each operation with the index of
 /// its record.
-pub(crate) fn kept_ops(
-    alloc: Global,
-    ops: &[Op],
-) -> Result<(Vec<KeptRecord>, Touches), Fault>
+pub(crate) fn kept_ops(alloc: Global, ops: &[Op]) -> Result<(Vec<KeptRecord>, Touches), Fault>
     ensures within { IfOk result (λ r. All (λ p. p.1 < length r.0.items) r.1) }
     ensures kept { IfOk result (λ r. ops_at (map record_of r.0.items) r.1 ≡ ops.now) }
     ensures refused { IfErr result (λ e. e ≡ Resources) }

@@ -3,6 +3,7 @@
 
 mod lines;
 mod listing;
+mod pieces;
 mod report;
 mod stream;
 mod writers;

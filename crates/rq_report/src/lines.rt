@@ -6,13 +6,19 @@ ghost use Rattle.rq_model.specs.Reports.{element_line, element_text, error_text,
 ghost use Rattle.rq_model.specs.Reports.{kind_text, last_text, payload_text, queue_line, registrant_line};
 ghost use Rattle.rq_model.specs.Reports.{units_line};
 ghost use Rattle.rq_state.specs.Views.{kind_of, id_of};
+ghost use Rattle.rq_report.specs.Pieces.{element_words};
 
+use crate::pieces::Lines;
 use rq_record::{ElemId, QueueNo};
 use rq_restart::Restarted;
 use rq_state::{Definition, KeptElement, KeptRegistrant, OpKind};
 use std::alloc::AllocError;
 use std::fmt::Write;
 use std::str::from_utf8;
+
+// The digits of a payload of more bytes are made when they are written: all of them would be twice
+// as long as the payloads, beside which they would stand in memory.
+const LONG: usize = 512;
 
 /// Puts the line of the front: its records, its bytes, and why it ends.
 pub(crate) fn put_front(text: &mut String, r: &Restarted) -> Result<(), AllocError>
@@ -87,7 +93,8 @@ fn put_block(text: &mut String, block: &[u8]) -> Result<(), AllocError>
     Ok(())
 }
 
-fn put_bytes(text: &mut String, bytes: &[u8]) -> Result<(), AllocError>
+/// Puts the digits of bytes.
+pub(crate) fn put_bytes(text: &mut String, bytes: &[u8]) -> Result<(), AllocError>
     ensures { OnOk result
         (string_bytes text.new ≡ string_bytes text.old ++ flat_map hex_of bytes.now) }
 {
@@ -112,17 +119,33 @@ fn put_hexes(text: &mut String, bytes: &[u8]) -> Result<(), AllocError>
     put_bytes(text, bytes)
 }
 
-/// Puts the line of an element.
-pub(crate) fn put_element_line(text: &mut String, e: &KeptElement) -> Result<(), AllocError>
-    ensures { OnOk result (string_bytes text.new ≡ string_bytes text.old ++ element_line e.now) }
+// Puts what stands in the line of an element before its payload.
+fn put_element_words(text: &mut String, e: &KeptElement) -> Result<(), AllocError>
+    ensures { OnOk result (string_bytes text.new ≡ string_bytes text.old ++ element_words e.now) }
 {
     let (id, origin, priority, attempts) = (e.id.0, e.origin.0, e.priority, e.attempts);
     write!(
         text,
         "e {id} from {origin} priority {priority} attempts {attempts} "
     )?;
-    put_hexes(text, e.payload.bytes())?;
-    text.push_str("\n")
+    Ok(())
+}
+
+/// Puts the line of an element.
+pub(crate) fn put_element_line<'a>(
+    lines: &mut Lines<'a>,
+    e: &'a KeptElement,
+) -> Result<(), AllocError>
+    ensures { OnOk result (lines.new ≡ lines.old ++ element_line e.now) }
+{
+    put_element_words(&mut lines.last, e)?;
+    let payload = e.payload.bytes();
+    if payload.len() <= LONG {
+        put_hexes(&mut lines.last, payload)?;
+    } else {
+        lines.put_bytes(payload)?;
+    }
+    lines.last.push_str("\n")
 }
 
 fn put_optional(text: &mut String, element: Option<ElemId>) -> Result<(), AllocError>

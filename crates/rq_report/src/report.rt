@@ -1,4 +1,4 @@
-//! The text of a report, whole, or in pieces that several workers make.
+//! The text of a report, made by one thread or by several workers.
 
 ghost use Rattle.std.specs.Prelude.{◌≡◌, ◌<◌, ◌≤◌, ◌+◌, ◌++◌, ◌==◌, ℕ, List, IfOk, OnOk, length, map};
 ghost use Rattle.std.specs.Prelude.{filter, slice_index_or, string_bytes};
@@ -11,9 +11,10 @@ ghost use Rattle.rq_model.specs.WellFormed.{IsWellFormed};
 ghost use Rattle.rq_report.specs.Pieces.{AreLinesOf, AreQueuesOf};
 
 use crate::lines::{
-    put_element_line, put_front, put_queue_line, put_registrant_line, put_units_line,
+    put_bytes, put_element_line, put_front, put_queue_line, put_registrant_line, put_units_line,
 };
 use crate::listing::free_elements;
+use crate::pieces::{Lines, Piece};
 use rq_record::QueueNo;
 use rq_restart::Restarted;
 use rq_state::{KeptElement, State};
@@ -21,12 +22,12 @@ use std::alloc::{AllocError, Global};
 use std::marker::Sync;
 use std::thread::{Threads, join};
 
-fn put_elements(text: &mut String, elements: &[&KeptElement]) -> Result<(), AllocError>
-    ensures { OnOk result (string_bytes text.new
-        ≡ string_bytes text.old ++ flat_map element_line (map (λ e. e.now) elements.now)) }
+fn put_elements<'a>(lines: &mut Lines<'a>, elements: &[&'a KeptElement]) -> Result<(), AllocError>
+    ensures { OnOk result (lines.new
+        ≡ lines.old ++ flat_map element_line (map (λ e. e.now) elements.now)) }
 {
     for e in elements {
-        put_element_line(text, e)?;
+        put_element_line(lines, e)?;
     }
     Ok(())
 }
@@ -42,29 +43,29 @@ fn put_registrants(text: &mut String, queue: QueueNo, state: &State) -> Result<(
 }
 
 // Puts a queue: its line, its free elements in order, its registrants by name.
-fn put_queue(
+fn put_queue<'a>(
     alloc: Global,
-    text: &mut String,
+    lines: &mut Lines<'a>,
     queue: QueueNo,
-    state: &State,
+    state: &'a State,
 ) -> Result<(), AllocError>
     requires { queue.0 < length state.now.definitions }
     ensures { OnOk result ((d : model.Definition) →
         (elements : List model.Element) × IsListing queue.0 state.now.elements elements
-        × (string_bytes text.new ≡ string_bytes text.old ++ queue_text queue.0
+        × (lines.new ≡ lines.old ++ queue_text queue.0
         (slice_index_or state.now.definitions queue.0 d) elements state.now.registrants)) }
 {
     let elements = free_elements(alloc, state, queue)?;
-    put_queue_line(text, queue, state.definition(queue.0 as usize))?;
-    put_elements(text, &elements)?;
-    put_registrants(text, queue, state)
+    put_queue_line(&mut lines.last, queue, state.definition(queue.0 as usize))?;
+    put_elements(lines, &elements)?;
+    put_registrants(&mut lines.last, queue, state)
 }
 
 // Puts the queues from one of them up to another, by number.
-fn put_queues(
+fn put_queues<'a>(
     alloc: Global,
-    text: &mut String,
-    state: &State,
+    text: &mut Lines<'a>,
+    state: &'a State,
     from: usize,
     to: usize,
 ) -> Result<(), AllocError>
@@ -72,7 +73,7 @@ fn put_queues(
     requires order { from ≤ to }
     requires within { to ≤ length state.now.definitions }
     ensures { OnOk result ((lines : List ℕ) × AreLinesOf state.now from to lines
-        × (string_bytes text.new ≡ string_bytes text.old ++ lines)) }
+        × (text.new ≡ text.old ++ lines)) }
 {
     for number in from..to {
         put_queue(alloc, text, QueueNo(number as u32), state)?;
@@ -90,23 +91,42 @@ fn counts(alloc: Global, r: &Restarted) -> Result<String, AllocError>
     Ok(text)
 }
 
-pub(crate) fn report(alloc: Global, r: &Restarted) -> Result<String, AllocError>
-    ensures { IfOk result (λ text. IsText r.now (string_bytes text)) }
+/// The report's text in pieces, made by one thread.
+pub(crate) fn report(alloc: Global, r: &Restarted) -> Result<Vec<Piece<'_>>, AllocError>
+    ensures { IfOk result (λ pieces. IsText r.now (flat_map (λ p. p) pieces.items)) }
 {
     let state = r.state();
     state.is_well_formed();
-    let mut text = counts(alloc, r)?;
+    let mut text = Lines::of(alloc, counts(alloc, r)?);
     put_queues(alloc, &mut text, state, 0, state.definition_count())?;
-    Ok(text)
+    text.into_pieces()
 }
 
-// The lines of the queues from one of them up to another, as one piece.
-fn one_piece(alloc: Global, state: &State, from: usize, to: usize) -> Result<String, AllocError>
+// The lines of the queues from one of them up to another, made by one thread.
+fn lines_of(
+    alloc: Global,
+    state: &State,
+    from: usize,
+    to: usize,
+) -> Result<Vec<Piece<'_>>, AllocError>
     requires { AreQueuesOf state.now from to }
-    ensures { IfOk result (λ text. AreLinesOf state.now from to (string_bytes text)) }
+    ensures { IfOk result
+        (λ pieces. AreLinesOf state.now from to (flat_map (λ p. p) pieces.items)) }
+{
+    let mut text = Lines::of(alloc, String::new(alloc));
+    put_queues(alloc, &mut text, state, from, to)?;
+    text.into_pieces()
+}
+
+// The text of the pieces.
+fn joined(alloc: Global, pieces: &[Piece]) -> Result<String, AllocError>
+    ensures { IfOk result (λ text. string_bytes text ≡ flat_map (λ p. p) pieces.now) }
 {
     let mut text = String::new(alloc);
-    put_queues(alloc, &mut text, state, from, to)?;
+    for piece in pieces {
+        text.push_str(&piece.text)?;
+        put_bytes(&mut text, piece.bytes)?;
+    }
     Ok(text)
 }
 
@@ -117,40 +137,41 @@ pub fn queue_report(alloc: Global, state: &State, queue: u32) -> Result<String, 
 {
     state.is_well_formed();
     let from = queue as usize;
-    one_piece(alloc, state, from, from + 1)
+    let pieces = lines_of(alloc, state, from, from + 1)?;
+    joined(alloc, &pieces)
 }
 
-// The lines of the queues from one of them up to another, in about this many pieces: each half of
-// the queues by itself.
+// The lines of the queues from one of them up to another, made by so many workers: each half of
+// the queues by half of them.
 #[cycle(halves)]
-fn queue_pieces<R: Threads + Sync>(
+fn queue_pieces<'a, R: Threads + Sync>(
     rt: &R,
     alloc: Global,
-    state: &State,
+    state: &'a State,
     from: usize,
     to: usize,
-    count: u32,
-) -> Result<Vec<String>, AllocError>
+    workers: u32,
+) -> Result<Vec<Piece<'a>>, AllocError>
     requires { AreQueuesOf state.now from to }
     ensures { IfOk result
-        (λ pieces. AreLinesOf state.now from to (flat_map string_bytes pieces.items)) }
+        (λ pieces. AreLinesOf state.now from to (flat_map (λ p. p) pieces.items)) }
 {
-    if count < 2 || to - from < 2 {
-        return Ok(vec![in alloc; one_piece(alloc, state, from, to)?]?);
+    if workers < 2 || to - from < 2 {
+        return lines_of(alloc, state, from, to);
     }
     let middle = from + (to - from) / 2;
-    let (fewer, others) = (count / 2, count - count / 2);
+    let (fewer, others) = (workers / 2, workers - workers / 2);
     let (left, right) = join(
         rt,
-        || -> Result<Vec<String>, AllocError>
+        || -> Result<Vec<Piece<'_>>, AllocError>
             requires { IsSync R.row × AreQueuesOf state.now from middle }
             ensures { IfOk result (λ pieces. AreLinesOf state.entry.now from middle
-                (flat_map string_bytes pieces.items)) }
+                (flat_map (λ p. p) pieces.items)) }
         { queue_pieces(rt, alloc, state, from, middle, fewer) },
-        || -> Result<Vec<String>, AllocError>
+        || -> Result<Vec<Piece<'_>>, AllocError>
             requires { IsSync R.row × AreQueuesOf state.now middle to }
             ensures { IfOk result (λ pieces. AreLinesOf state.entry.now middle to
-                (flat_map string_bytes pieces.items)) }
+                (flat_map (λ p. p) pieces.items)) }
         { queue_pieces(rt, alloc, state, middle, to, others) },
     );
     let mut pieces = left?;
@@ -158,18 +179,19 @@ fn queue_pieces<R: Threads + Sync>(
     Ok(pieces)
 }
 
-/// The report's text in about this many pieces, each made by a worker.
-pub(crate) fn report_in_pieces<R: Threads + Sync>(
+/// The report's text in pieces, made by so many workers.
+pub(crate) fn report_by<'a, R: Threads + Sync>(
     rt: &R,
     alloc: Global,
-    r: &Restarted,
-    count: u32,
-) -> Result<Vec<String>, AllocError>
-    ensures { IfOk result (λ pieces. IsText r.now (flat_map string_bytes pieces.items)) }
+    r: &'a Restarted,
+    workers: u32,
+) -> Result<Vec<Piece<'a>>, AllocError>
+    ensures { IfOk result (λ pieces. IsText r.now (flat_map (λ p. p) pieces.items)) }
 {
     let state = r.state();
     state.is_well_formed();
-    let mut pieces = vec![in alloc; counts(alloc, r)?]?;
-    pieces.append(&mut queue_pieces(rt, alloc, state, 0, state.definition_count(), count)?)?;
+    let mut pieces = Lines::of(alloc, counts(alloc, r)?).into_pieces()?;
+    let count = state.definition_count();
+    pieces.append(&mut queue_pieces(rt, alloc, state, 0, count, workers)?)?;
     Ok(pieces)
 }
