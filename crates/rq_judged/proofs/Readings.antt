@@ -1,5 +1,5 @@
 -- How far bodies are read, and what a judge makes of them, one after the other.
-use Rattle.std.proofs.Common.{◌≡◌, ℕ, ◌+◌, ◌<◌, zero, suc, refl, List, [], ◌∷◌, ◌++◌, length, take, drop, get_or, sym}
+use Rattle.std.proofs.Common.{◌≡◌, ℕ, ◌+◌, ◌<◌, zero, suc, refl, List, [], ◌∷◌, ◌++◌, length, take, drop, get_or, sym, map}
 use Rattle.std.proofs.Common.{ap, subst, ◌∙◌, arith, ◌≤◌, Bool, true, false}
 use Rattle.std.proofs.lemmas.List.{append_assoc, append-nil, length-append, length-map, map-append, nil_from_length}
 use Rattle.std.proofs.lemmas.List.{take-append-drop, length-take, take_all}
@@ -11,7 +11,11 @@ use Rattle.rq_model.specs.Frames.{bodies_of}
 use Rattle.rq_model.proofs.Lists.{each_append}
 use Rattle.rq_front.specs.declared.spans.Span.{Span}
 use Rattle.rq_front.specs.Chains.{body_at, bodies_at}
-use Rattle.rq_judged.specs.Readings.{AreRead, SpellsNone}
+use Rattle.rq_judged.specs.Readings.{AreRead, SpellsNone, records_in}
+use Rattle.rq_record.specs.Views as rt
+use Rattle.rq_record.specs.Views.{record_of}
+use Rattle.std.specs.Global.{Vec}
+use Rattle.std.proofs.lemmas.Grind.{flat_map-append}
 use Rattle.std.specs.Prelude.{nat_lt}
 use Rattle.std.proofs.lemmas.Bool.{lt-ltb, le-ltb}
 use Rattle.std.proofs.Math.Numerals.{suc-eq-add-one}
@@ -94,6 +98,31 @@ read_first version xs ys rs are fewer =
       spelled = ap (λ (bodies : List (List ℕ)). bodies ++ ys) are.spelled ∙ append_assoc (bodies_of rs) are.left ys;
       stops = stops_there version are.left ys some are.stops;
     }
+
+-- the first of the bodies are all read, and so are those behind them
+pub read_parts : (version : Version) (b : List ℕ) (spans : List Span) (n : ℕ) (rs qs : List Record)
+    → AreRead version (bodies_at b (take n spans)) rs → length rs ≡ length (take n spans)
+    → AreRead version (bodies_at b (drop n spans)) qs → AreRead version (bodies_at b spans) (rs ++ qs)
+read_parts version b spans n rs qs are all more =
+    subst (λ (bodies : List (List ℕ)). AreRead version bodies (rs ++ qs)) (sym (two_parts b spans n))
+    (read_both version (bodies_at b (take n spans)) (bodies_at b (drop n spans)) rs qs are
+    (all ∙ sym (length-map (take n spans) (body_at b))) more)
+
+-- the first of the bodies are not all read
+pub read_part : (version : Version) (b : List ℕ) (spans : List Span) (n : ℕ) (rs : List Record)
+    → AreRead version (bodies_at b (take n spans)) rs → (length rs ≡ length (take n spans) → ⊥)
+    → AreRead version (bodies_at b spans) rs
+read_part version b spans n rs are fewer =
+    subst (λ (bodies : List (List ℕ)). AreRead version bodies rs) (sym (two_parts b spans n))
+    (read_first version (bodies_at b (take n spans)) (bodies_at b (drop n spans)) rs are
+    (λ same. fewer (same ∙ length-map (take n spans) (body_at b))))
+
+-- one block more
+pub records_push : (blocks : List (Vec rt.Record)) (block : Vec rt.Record)
+    → records_in (blocks ++ block ∷ []) ≡ records_in blocks ++ map record_of block.items
+records_push blocks block =
+    flat_map-append (λ (b : Vec rt.Record). map record_of b.items) blocks (block ∷ [])
+    ∙ ap (λ (xs : List Record). records_in blocks ++ xs) (append-nil (map record_of block.items))
 
 some_stop : (version : Version) (n : ℕ) (left : List (List ℕ)) → SpellsNone version left
     → SpellsNone version (take n left)

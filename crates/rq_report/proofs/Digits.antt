@@ -1,6 +1,8 @@
 -- The digits of bytes, as the library `hex` has them and as a report has them.
-use Rattle.std.proofs.Common.{◌≡◌, inl, inr, ℕ, zero, suc, ◌/◌, ◌%◌, ◌<◌, Bool, true, false, ◌&&◌, List, [], ◌∷◌, refl}
-use Rattle.std.proofs.Common.{arith, Fits, w8}
+use Rattle.std.proofs.Common.{◌≡◌, inl, inr, ℕ, zero, suc, ◌/◌, ◌%◌, ◌<◌, Bool, true, false, ◌&&◌, List, [], ◌∷◌, ◌++◌, refl}
+use Rattle.std.proofs.Common.{arith, Fits, w8, take, drop, sym, ap, ◌∙◌, append_assoc}
+use Rattle.std.proofs.lemmas.Grind.{flat_map-append}
+use Rattle.std.proofs.lemmas.List.{take-append-drop}
 use Rattle.std.specs.Prelude.{slice_index, slice_index_or, ◌==◌, nat_lt}
 use Rattle.std.specs.Fmt.{digit_glyph}
 use Rattle.std.specs.List.{flat_map, list_all}
@@ -43,3 +45,13 @@ digits_are (b ∷ bytes) h =
     let high = same_below 16 (b / 16) refl (omega (arith, byte)) in
     let low = same_below 16 (b % 16) refl (omega (arith, byte)) in
     λ i. high i ∷ low i ∷ digits_are bytes (λ k. h (suc k)) i
+
+-- the digits of the first bytes of the rest, and those of what is left
+pub digits_parted : (text front rest block left : List ℕ) (n : ℕ) → block ≡ take n rest → left ≡ drop n rest
+    → text ≡ front ++ flat_map hex_of rest → text ≡ (front ++ flat_map hex_of block) ++ flat_map hex_of left
+digits_parted text front rest block left n first behind e =
+    e ∙ ap (λ (xs : List ℕ). front ++ flat_map hex_of xs) (sym (take-append-drop n rest))
+    ∙ ap (λ (xs : List ℕ). front ++ xs) (flat_map-append hex_of (take n rest) (drop n rest))
+    ∙ sym (append_assoc front (flat_map hex_of (take n rest)) (flat_map hex_of (drop n rest)))
+    ∙ ap (λ (xs : List ℕ). (front ++ flat_map hex_of xs) ++ flat_map hex_of (drop n rest)) (sym first)
+    ∙ ap (λ (xs : List ℕ). (front ++ flat_map hex_of block) ++ flat_map hex_of xs) (sym behind)

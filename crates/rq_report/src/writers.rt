@@ -97,7 +97,7 @@ pub fn write_report<W: Output>(alloc: Global, r: &Restarted, output: &mut W) -> 
         (W.contents output.old) (W.contents output.new) result }
 {
     match report(alloc, r) {
-        Ok(pieces) => write_pieces(output, &pieces),
+        Ok(text) => write_pieces(output, &text),
         Err(_) => Err(Fault::Resources),
     }
 }

@@ -1,4 +1,4 @@
-use Rattle.std.proofs.Common.{ℕ, ◌<◌, List, ◌++◌, string_bytes, length, get_or, ap, ◌∙◌, append_assoc, arith}
+use Rattle.std.proofs.Common.{ℕ, ◌<◌, List, ◌++◌, length, get_or, ap, ◌∙◌, append_assoc, arith}
 use Rattle.rq_model.specs.Reports.{queue_text}
 use Rattle.rq_model.specs.States.{no_definition}
 use Rattle.rq_report.proofs.Queues.{more_are}
@@ -15,5 +15,5 @@ loop-number-preserved c =
       omega (arith, inv.0),
       inv.1 ++ text,
       more_are s c.args.from i no_definition inv.1 one.0 inv.0 within inv.2 one.1,
-      one.2 ∙ ap (λ x. x ++ text) inv.3 ∙ append_assoc (string_bytes c.args.text.now) inv.1 text,
+      one.2 ∙ ap (λ x. x ++ text) inv.3 ∙ append_assoc c.args.text.now inv.1 text,
     )
