@@ -4,6 +4,7 @@ ghost use Rattle.std.specs.Prelude.{◌≡◌, ◌<◌, length, IfOk, IfErr};
 ghost use Rattle.rq_model.specs.Queues as queues;
 ghost use Rattle.rq_record.specs.declared.fault.Fault.TheVariants.{Resources};
 ghost use Rattle.rq_state.specs.Orders.{listed};
+ghost use Rattle.rq_catalog.specs.Lists.{touches_for};
 ghost use Rattle.rq_exchange.specs.Jobs.{IsJob, records_of, errors_in};
 ghost use Rattle.rq_exchange.specs.Links.{at};
 ghost use Rattle.rq_exchange.specs.Chains.{AreBoxes, IsRedone};
@@ -34,6 +35,14 @@ pub(crate) fn listed_for<T>(table: &[Vec<T>], queue: u32) -> &[T]
         Some(list) => list,
         None => &[],
     }
+}
+
+// What a table of touches has for a queue.
+fn touches_of(touching: &[Touches], queue: u32) -> &Touches
+    requires { queue < length touching.now }
+    ensures { result.now ≡ touches_for touching.now queue }
+{
+    &touching[queue as usize]
 }
 
 impl Job<'_> {
@@ -85,7 +94,7 @@ impl Job<'_> {
         rq_model::moves_rise();
         let lists = unboxed(alloc, boxes)?;
         let arrivals = merged(alloc, lists)?;
-        let ops = KeptOps::new(self.records, &self.touching[queue as usize]);
+        let ops = KeptOps::new(self.records, touches_of(self.touching, queue));
         let before = self.part_before(alloc, queue)?;
         let (part, moves) = redo_kept(alloc, before, &ops, arrivals)?;
         Ok((Redone { queue, part }, moves))

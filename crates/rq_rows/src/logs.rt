@@ -53,8 +53,8 @@ pub fn records_of(alloc: Global, version: Version, log: &[u8]) -> Result<Vec<Rec
     let found = walk(alloc, log, 40)?;
     let mut records = Vec::new(alloc);
     for span in found.spans() {
-        let end = span.start.saturating_add(span.len);
-        let body = log.get(span.start..end).ok_or("body")?;
+        let end = span.start().saturating_add(span.len());
+        let body = log.get(span.start()..end).ok_or("body")?;
         records.push(decode_in(alloc, version, body)?)?;
     }
     Ok(records)

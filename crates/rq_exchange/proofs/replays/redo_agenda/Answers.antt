@@ -1,4 +1,4 @@
-use Rattle.std.proofs.Common.{◌≡◌, ◌≤◌, List, length, map, ◌∙◌, ap, arith, ◌==◌}
+use Rattle.std.proofs.Common.{◌≡◌, ◌≤◌, List, length, map, ◌∙◌, ap, sym, arith, ◌==◌}
 use Rattle.rq_exchange.proofs.Words.{length-map, Two, Definition, Record, run, record_of}
 use Rattle.rq_exchange.proofs.Counting.{indices_map}
 use Rattle.rq_exchange.proofs.Sources.{errors_fall}
@@ -25,6 +25,7 @@ redo_all-requires g c =
           well = c.is_well_formed.ensures;
           lawful = c.requires.lawful;
           fits = c.requires.fits;
+          lists = rw c.deref-2.ensures.value (c.requires.agenda.lists ∙ ap length (sym same));
           touching = λ q. rw c.deref-2.ensures.value (c.requires.agenda.touching q);
           definitions =
               same ∙ (c.numbers_after.ensures Two s rs c.is_well_formed.ensures c.requires.lawful).definitions;

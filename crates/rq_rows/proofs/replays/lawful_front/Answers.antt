@@ -15,5 +15,5 @@ returns-clause-lawful c =
     c.deref.ensures.value c.in_ok-analysis.ensures.analysis in
     let kept : map record_of c.truncate.new.self.items ≡ lawful_front Two s (map record_of all) =
     kept_is Two s all c.truncate.new.self.items c.lawful-count.result c.truncate.ensures.items
-    (c.lawful-count.ensures ∙ analysis.lawful) in
+    (c.lawful-count.ensures ∙ analysis.found.lawful) in
     ap (all_lawful Two s) kept ∙ (parted Two s (map record_of all)).lawful

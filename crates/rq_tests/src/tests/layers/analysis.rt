@@ -85,8 +85,9 @@ const TWO_OPEN: &[Plain] = &[Begin(1), Begin(2), Begin(4), Commit(2), Begin(5), 
 fn an_analysis_has_counts_and_open_units(rt: HostRuntime) -> Result<(), Fail> {
     let analysis = analysis_of(rt.alloc(), TWO_OPEN)?;
     assert!(rt; analysis.lawful() == 6);
-    assert!(rt; analysis.committed() == 1 && analysis.aborted() == 1);
-    let open = analysis.open_units(rt.alloc())?;
+    let found = analysis.found();
+    assert!(rt; found.committed() == 1 && found.aborted() == 1);
+    let open = found.open_units(rt.alloc())?;
     assert!(rt; open.as_slice() == [UnitNo(4), UnitNo(5)].as_slice());
     Ok(())
 }
