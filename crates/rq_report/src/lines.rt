@@ -16,8 +16,7 @@ use std::alloc::AllocError;
 use std::fmt::Write;
 use std::str::from_utf8;
 
-// The digits of a payload of more bytes are made when they are written: all of them would be twice
-// as long as the payloads, beside which they would stand in memory.
+// A payload of more bytes is long: its digits would be twice as long, and stand in memory beside it.
 const LONG: usize = 512;
 
 /// Puts the line of the front: its records, its bytes, and why it ends.
@@ -119,6 +118,16 @@ fn put_hexes(text: &mut String, bytes: &[u8]) -> Result<(), AllocError>
     put_bytes(text, bytes)
 }
 
+// The same of an element's payload: the digits of a long one are made when they are written.
+fn put_payload<'a>(lines: &mut Lines<'a>, bytes: &'a [u8]) -> Result<(), AllocError>
+    ensures { OnOk result (lines.new ≡ lines.old ++ payload_text bytes.now) }
+{
+    if bytes.len() <= LONG {
+        return put_hexes(&mut lines.last, bytes);
+    }
+    lines.put_bytes(bytes)
+}
+
 // Puts what stands in the line of an element before its payload.
 fn put_element_words(text: &mut String, e: &KeptElement) -> Result<(), AllocError>
     ensures { OnOk result (string_bytes text.new ≡ string_bytes text.old ++ element_words e.now) }
@@ -139,12 +148,7 @@ pub(crate) fn put_element_line<'a>(
     ensures { OnOk result (lines.new ≡ lines.old ++ element_line e.now) }
 {
     put_element_words(&mut lines.last, e)?;
-    let payload = e.payload.bytes();
-    if payload.len() <= LONG {
-        put_hexes(&mut lines.last, payload)?;
-    } else {
-        lines.put_bytes(payload)?;
-    }
+    put_payload(lines, e.payload.bytes())?;
     lines.last.push_str("\n")
 }
 
