@@ -4,9 +4,10 @@ use Rattle.std.specs.List.{list_any}
 use Rattle.rq_catalog.specs.Units.{numbers, outcome_at, engages_at, unit_in}
 use Rattle.rq_catalog.proofs.Rising.{HasNumber, looked_at, still_rising, numbers_kept, closed_outcomes, closed_queues}
 use Rattle.rq_catalog.proofs.Rising.{missing, queues_of, number_is}
+use Rattle.rq_catalog.proofs.units.Units.close.Goals.{In-None}
 use Rattle.rq_catalog.proofs.units.Units.close.Goals as goal
 
-unit_missing : (c : goal.In-None) → unit_in c.args.self.now c.args.number ≡ None
+unit_missing : (c : In-None) → unit_in c.args.self.now c.args.number ≡ None
 unit_missing c = ap (λ us. unit_in us c.args.number) (sym c.self.view_is ∙ sym c.deref.ensures.value)
     ∙ c.in-None.ensures.none
 
@@ -60,10 +61,13 @@ returns-in-Some-clause-queues c =
     ∙ ap (λ us. engages_at us c.args.number q) c.self.view_is
 
 pub returns-in-None-clause-outcomes : goal.returns-in-None-clause-outcomes
-returns-in-None-clause-outcomes c = absurd (missing c.args.self.now c.args.number c.requires (unit_missing c))
+returns-in-None-clause-outcomes c = absurd (missing c.args.self.now c.args.number c.requires
+    (unit_missing (goal.at.returns-in-None-clause-outcomes c).In-None))
 
 pub returns-in-None-clause-engaged : goal.returns-in-None-clause-engaged
-returns-in-None-clause-engaged c = absurd (missing c.args.self.now c.args.number c.requires (unit_missing c))
+returns-in-None-clause-engaged c = absurd (missing c.args.self.now c.args.number c.requires
+    (unit_missing (goal.at.returns-in-None-clause-engaged c).In-None))
 
 pub returns-in-None-clause-queues : goal.returns-in-None-clause-queues
-returns-in-None-clause-queues c = absurd (missing c.args.self.now c.args.number c.requires (unit_missing c))
+returns-in-None-clause-queues c = absurd (missing c.args.self.now c.args.number c.requires
+    (unit_missing (goal.at.returns-in-None-clause-queues c).In-None))

@@ -1,4 +1,4 @@
-use Rattle.std.proofs.Common.{ap, ◌∙◌, sym, subst}
+use Rattle.std.proofs.Common.{ap, ◌∙◌, sym, subst, Some}
 use Rattle.std.specs.Prelude.{option_map}
 use Rattle.rq_catalog.specs.BegunUnits.{BegunUnit}
 use Rattle.rq_catalog.specs.Units.{outcome_at}
@@ -10,6 +10,6 @@ returns-in-Some c =
     let units = c.self.inside.list.items in
     let x = c.index.result.now in
     let some = subst (λ us. HasNumber us c.in-Some.index c.args.number) c.deref.ensures.value c.in-Some.ensures.some in
-    sym (ap (option_map (λ (u : BegunUnit). u.outcome)) (found units c.in-Some.index c.args.number c.self.invariant
+    ap Some c.outcome.ensures ∙ sym (ap (option_map (λ (u : BegunUnit). u.outcome)) (found units c.in-Some.index c.args.number c.self.invariant
     some ∙ looked_at units c.in-Some.index c.args.number x x some c.index.ensures))
     ∙ ap (λ us. outcome_at us c.args.number) c.self.view_is
