@@ -1,4 +1,4 @@
-use Rattle.std.proofs.Common.{ap, ◌∙◌, sym, subst, refl, cond, false, Some, None, nat_eq, ◌≡◌, ℕ}
+use Rattle.std.proofs.Common.{ap, ◌∙◌, sym, subst, cond, false, Some, None, nat_eq, ◌≡◌}
 use Rattle.std.specs.Prelude.{◌==◌}
 use Rattle.std.specs.List.{list_any}
 use Rattle.rq_catalog.specs.Units.{numbers, outcome_at, engages_at, unit_in}

@@ -1,4 +1,4 @@
-use Rattle.std.proofs.Common.{ap, ◌∙◌, sym, subst, refl, ◌||◌, ◌&&◌}
+use Rattle.std.proofs.Common.{ap, ◌∙◌, sym, subst, ◌||◌, ◌&&◌}
 use Rattle.std.specs.Prelude.{◌==◌}
 use Rattle.rq_catalog.specs.Units.{numbers, outcome_at, engages_at, has_unit, unit_in}
 use Rattle.rq_catalog.proofs.Rising.{HasNumber, looked_at, still_rising, numbers_kept, outcomes_kept, engaged_more}
