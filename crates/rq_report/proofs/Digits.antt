@@ -1,6 +1,6 @@
 -- The digits of bytes, as the library `hex` has them and as a report has them.
 use Rattle.std.proofs.Common.{◌≡◌, inl, inr, ℕ, zero, suc, ◌/◌, ◌%◌, ◌<◌, Bool, true, false, ◌&&◌, List, [], ◌∷◌, ◌++◌, refl}
-use Rattle.std.proofs.Common.{arith, Fits, w8, take, drop, sym, ap, ◌∙◌, append_assoc}
+use Rattle.std.proofs.Common.{arith, length, Fits, w8, take, drop, sym, ap, ◌∙◌, append_assoc}
 use Rattle.std.proofs.lemmas.Grind.{flat_map-append}
 use Rattle.std.proofs.lemmas.List.{take-append-drop}
 use Rattle.std.specs.Prelude.{slice_index, slice_index_or, ◌==◌, nat_lt}
@@ -11,7 +11,7 @@ use Rattle.std.proofs.lemmas.Bool.{and_parts, eqb-true, ltb-true, cases_lt}
 use Rattle.std.proofs.lemmas.Str.Ascii.{IsAscii-nil, IsAscii-cons}
 use Rattle.hex.specs.Hex.{encode_with, encode_lower, lower_digits}
 use Rattle.hex.proofs.HexLemmas.{IsAscii-encode_with}
-use Rattle.rq_model.specs.Reports.{hex_of}
+use Rattle.rq_model.specs.Reports.{hex_of, payload_text}
 
 -- the digits below n are those of the table
 abbrev are_same : ℕ → Bool
@@ -45,6 +45,11 @@ digits_are (b ∷ bytes) h =
     let high = same_below 16 (b / 16) refl (omega (arith, byte)) in
     let low = same_below 16 (b % 16) refl (omega (arith, byte)) in
     λ i. high i ∷ low i ∷ digits_are bytes (λ k. h (suc k)) i
+
+-- a payload that is not empty is told by its digits
+pub long_text : (bytes : List ℕ) → 0 < length bytes → payload_text bytes ≡ flat_map hex_of bytes
+long_text [] some = absurd (omega (arith, some))
+long_text (b ∷ bytes) some = refl
 
 -- the digits of the first bytes of the rest, and those of what is left
 pub digits_parted : (text front rest block left : List ℕ) (n : ℕ) → block ≡ take n rest → left ≡ drop n rest

@@ -5,6 +5,7 @@ use Rattle.std.specs.Prelude.{slice_index_or, filter}
 use Rattle.std.specs.List.{flat_map}
 use Rattle.std.proofs.Math.ListN.{drop_of_length-le}
 use Rattle.std.proofs.lemmas.List.{drop_more, append-nil}
+use Rattle.std.proofs.lemmas.Grind.{flat_map-append}
 use Rattle.rq_model.proofs.Lists.{by_cases}
 
 -- one more
@@ -21,6 +22,12 @@ pub indexed_all : {X Y : Type 0} (f : Y → List X) (items : List Y) (i : ℕ) (
     → done ++ flat_map f (drop i items) ≡ whole → done ≡ whole
 indexed_all f items i done whole l h = sym (append-nil done)
     ∙ ap (λ v. done ++ flat_map f v) (sym (drop_of_length-le items l)) ∙ h
+
+-- one behind the others
+pub one_behind : (texts : List (List ℕ)) (text : List ℕ)
+    → flat_map (λ t. t) (texts ++ text ∷ []) ≡ flat_map (λ t. t) texts ++ text
+one_behind texts text = flat_map-append (λ (t : List ℕ). t) texts (text ∷ [])
+    ∙ ap (λ xs. flat_map (λ (t : List ℕ). t) texts ++ xs) (append-nil text)
 
 pub flat_of_map : {X Y Z : Type 0} (f : Y → List Z) (g : X → Y) (xs : List X)
     → flat_map (λ x. f (g x)) xs ≡ flat_map f (map g xs)

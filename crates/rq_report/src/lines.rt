@@ -119,6 +119,7 @@ fn put_hexes(text: &mut String, bytes: &[u8]) -> Result<(), AllocError>
 }
 
 // The same of an element's payload: the digits of a long one are made when they are written.
+#[tactic(auto, using(crate::proofs::Digits::long_text))]
 fn put_payload<'a>(lines: &mut Lines<'a>, bytes: &'a [u8]) -> Result<(), AllocError>
     ensures { OnOk result (lines.new ≡ lines.old ++ payload_text bytes.now) }
 {

@@ -53,6 +53,7 @@ impl<'a> Lines<'a> {
     }
 
     /// Adds the digits of bytes.
+    #[tactic(auto, using(crate::proofs::Indexed::one_behind))]
     pub(crate) fn put_bytes(&mut self, bytes: &'a [u8]) -> Result<(), AllocError>
         ensures { OnOk result (self.new ≡ self.old ++ flat_map hex_of bytes.now) }
     {
@@ -63,6 +64,7 @@ impl<'a> Lines<'a> {
     }
 
     /// All of it in pieces.
+    #[tactic(auto, using(crate::proofs::Indexed::one_behind))]
     pub(crate) fn into_pieces(self) -> Result<Vec<Piece<'a>>, AllocError>
         ensures { IfOk result (λ pieces. flat_map (λ p. p) pieces.items ≡ self) }
     {
