@@ -1,7 +1,7 @@
 -- Writing piece after piece.
-use Rattle.std.proofs.Common.{◌≡◌, refl, ℕ, suc, ◌+◌, ◌<◌, List, [], ◌∷◌, ◌++◌, length, take, drop, get_or, Option, Some, None}
+use Rattle.std.proofs.Common.{◌≡◌, ℕ, suc, ◌+◌, ◌<◌, List, ◌∷◌, ◌++◌, length, take, drop, get_or, Option, Some, None}
 use Rattle.std.proofs.Common.{sym, ap, subst, ◌∙◌, append_assoc, arith}
-use Rattle.std.proofs.lemmas.List.{append-nil, take-append-drop}
+use Rattle.std.proofs.lemmas.List.{take-append-drop}
 use Rattle.std.proofs.Math.Seq.{drop-cons}
 use Rattle.std.specs.Prelude.{Result, Ok, Err}
 use Rattle.std.specs.List.{flat_map}
@@ -67,25 +67,3 @@ piece_fails {A = A} before mid after old held new text front piece rest result x
     subst (Delivers before after old new text) (sym is)
     (piece_fails_by A before mid after old held new text front piece rest x e same h
     (subst (Delivers mid after held new piece) is d))
-
-appends_none : (held : Option (List ℕ)) → Appends held held []
-appends_none None = tt
-appends_none (Some xs) = sym (append-nil xs)
-
--- if the first of two parts is not all written, nothing of the second is
-pub delivers_first : {A : Type 0} (before after : ℕ) (old new : Option (List ℕ)) (first second : List ℕ)
-    (result : Result A Fault) (x : Fault) → result ≡ Err x → Delivers before after old new first result
-    → Delivers before after old new (first ++ second) result
-delivers_first before after old new first second result x is d =
-    piece_fails before before after old old new (first ++ second) [] first second result x is refl refl
-    (appends_none old) d
-
--- the second of two parts behind the first, all of which is written
-pub delivers_second : {A : Type 0} (before mid after : ℕ) (old held new : Option (List ℕ)) (first second : List ℕ)
-    (result : Result A Fault) → mid ≡ before → Appends old held first → Delivers mid after held new second result
-    → Delivers before after old new (first ++ second) result
-delivers_second before mid after old held new first second (Ok x) same h d =
-    (d.0 ∙ same, appends_more old held new first second h d.1)
-delivers_second before mid after old held new first second (Err x) same h d =
-    piece_fails before mid after old held new (first ++ second) first second [] (Err x) x refl
-    (sym (append-nil (first ++ second))) same h d

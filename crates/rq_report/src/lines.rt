@@ -130,12 +130,12 @@ fn put_payload<'a>(lines: &mut Lines<'a>, bytes: &'a [u8]) -> Result<(), AllocEr
 }
 
 // Puts what stands in the line of an element before its payload.
-fn put_element_words(text: &mut String, e: &KeptElement) -> Result<(), AllocError>
-    ensures { OnOk result (string_bytes text.new ≡ string_bytes text.old ++ element_words e.now) }
+fn put_element_words(lines: &mut Lines, e: &KeptElement) -> Result<(), AllocError>
+    ensures { OnOk result (lines.new ≡ lines.old ++ element_words e.now) }
 {
     let (id, origin, priority, attempts) = (e.id.0, e.origin.0, e.priority, e.attempts);
     write!(
-        text,
+        lines.last,
         "e {id} from {origin} priority {priority} attempts {attempts} "
     )?;
     Ok(())
@@ -148,9 +148,9 @@ pub(crate) fn put_element_line<'a>(
 ) -> Result<(), AllocError>
     ensures { OnOk result (lines.new ≡ lines.old ++ element_line e.now) }
 {
-    put_element_words(&mut lines.last, e)?;
+    put_element_words(lines, e)?;
     put_payload(lines, e.payload.bytes())?;
-    lines.last.push_str("\n")
+    lines.end_line()
 }
 
 fn put_optional(text: &mut String, element: Option<ElemId>) -> Result<(), AllocError>

@@ -1,6 +1,6 @@
 //! A text in pieces, in which a long payload is kept as bytes until it is written.
 
-ghost use Rattle.std.specs.Prelude.{◌≡◌, ◌++◌, [], IfOk, OnOk, string_bytes};
+ghost use Rattle.std.specs.Prelude.{◌≡◌, ◌++◌, [], IfOk, OnOk, codes, string_bytes};
 ghost use Rattle.std.specs.List.{flat_map};
 ghost use Rattle.rq_model.specs.Reports.{hex_of};
 
@@ -63,16 +63,22 @@ impl<'a> Lines<'a> {
         Ok(())
     }
 
-    /// All of it in pieces.
-    #[tactic(auto, using(crate::proofs::Indexed::one_behind))]
-    pub(crate) fn into_pieces(self) -> Result<Vec<Piece<'a>>, AllocError>
-        ensures { IfOk result (λ pieces. flat_map (λ p. p) pieces.items ≡ self) }
+    /// Ends a line.
+    pub(crate) fn end_line(&mut self) -> Result<(), AllocError>
+        ensures { OnOk result (self.new ≡ self.old ++ codes "\n") }
     {
-        let mut pieces = self.pieces;
-        pieces.push(Piece {
-            text: self.last,
-            bytes: &[],
-        })?;
+        self.last.push_str("\n")
+    }
+
+    /// All of it in pieces. Nothing of it stays here.
+    #[tactic(auto, using(crate::proofs::Indexed::one_behind))]
+    pub(crate) fn take_pieces(&mut self) -> Result<Vec<Piece<'a>>, AllocError>
+        ensures { IfOk result (λ pieces. flat_map (λ p. p) pieces.items ≡ self.old) }
+    {
+        let alloc = *self.pieces.allocator();
+        let text = mem::replace(&mut self.last, String::new(alloc));
+        let mut pieces = mem::replace(&mut self.pieces, Vec::new(alloc));
+        pieces.push(Piece { text, bytes: &[] })?;
         Ok(pieces)
     }
 }

@@ -99,7 +99,7 @@ pub(crate) fn report(alloc: Global, r: &Restarted) -> Result<Vec<Piece<'_>>, All
     state.is_well_formed();
     let mut text = Lines::of(alloc, counts(alloc, r)?);
     put_queues(alloc, &mut text, state, 0, state.definition_count())?;
-    text.into_pieces()
+    text.take_pieces()
 }
 
 // The lines of the queues from one of them up to another, made by one thread.
@@ -115,7 +115,7 @@ fn lines_of(
 {
     let mut text = Lines::of(alloc, String::new(alloc));
     put_queues(alloc, &mut text, state, from, to)?;
-    text.into_pieces()
+    text.take_pieces()
 }
 
 // The text of the pieces.
@@ -190,7 +190,8 @@ pub(crate) fn report_by<'a, R: Threads + Sync>(
 {
     let state = r.state();
     state.is_well_formed();
-    let mut pieces = Lines::of(alloc, counts(alloc, r)?).into_pieces()?;
+    let mut text = Lines::of(alloc, counts(alloc, r)?);
+    let mut pieces = text.take_pieces()?;
     let count = state.definition_count();
     pieces.append(&mut queue_pieces(rt, alloc, state, 0, count, workers)?)?;
     Ok(pieces)
