@@ -1,6 +1,9 @@
 pub mod Diagnoses
 pub mod Ends
 pub mod Events
+pub mod Fronts
+pub mod Objects
+pub mod Reasons
 pub mod Records
 pub mod Refusals
 pub mod Texts

@@ -9,18 +9,17 @@ ghost use Rattle.rq_judged.specs.FrontEnds.{IsEndOf};
 ghost use Rattle.rq_judged.specs.Views.{why_of};
 ghost use Rattle.rq_found.specs.Ends as ends;
 ghost use Rattle.rq_found.specs.Ends.{IsRestartFrom, beginning_text, end_text};
+ghost use Rattle.rq_found.specs.Reasons.{IsReason};
 ghost use Rattle.rq_found.specs.Refusals.{RefusedFrom};
 
 use crate::frames::{first_frame, stated_length};
-use crate::misfits::misfit_of;
-use crate::pieces::{Put, TextPiece};
+use crate::pieces::Put;
+use crate::reasons::{chain_reason, cut_reason, digest_behind, length_reason, reason_of};
 use crate::shown_log::ShownLog;
-use rq_front::{CARRIED_AT, FRAME_LEN, version};
+use rq_front::CARRIED_AT;
 use rq_judged::FrontEnd;
-use rq_lawful::Rule;
-use rq_record::{CheckBytes, Fault, Version};
+use rq_record::{CheckBytes, Fault};
 use rq_restart::{Restarted, Why};
-use sha2::{Digest, Sha256};
 use std::alloc::{AllocError, Global};
 use std::fmt::Write;
 use std::thread::Threads;
@@ -40,95 +39,19 @@ pub struct End {
     pub reason: String,
 }
 
-fn cut_reason(alloc: Global, rest: &[u8]) -> Result<String, AllocError> {
-    let count = rest.len();
-    match stated_length(rest) {
-        Some(len) => {
-            let whole = len.saturating_add(FRAME_LEN);
-            format!(in alloc; "{count} bytes follow, and the frame has {whole}")
-        }
-        None => format!(in alloc; "{count} bytes follow, and a length has 4"),
-    }
-}
-
-fn length_reason(alloc: Global, rest: &[u8]) -> Result<String, AllocError> {
-    let len = stated_length(rest).unwrap_or(0);
-    format!(in alloc; "a body of {len} bytes is stated, and one has 1 to 268435456")
-}
-
-// The digest of what a frame states, behind these bytes.
-fn digest_behind(before: &[u8], stated: &[u8]) -> [u8; 32] {
-    let mut hasher = Sha256::new();
-    hasher.update(&before[before.len().saturating_sub(32)..]);
-    hasher.update(stated);
-    hasher.finalize()
-}
-
-fn chain_reason(alloc: Global, before: &[u8], rest: &[u8]) -> Result<String, AllocError> {
-    let Some((frame, _)) = first_frame(rest) else {
-        return cut_reason(alloc, rest);
-    };
-    let stated = hex::encode(alloc, frame.digest)?;
-    let digest = hex::encode(alloc, digest_behind(before, frame.stated).as_slice())?;
-    format!(in alloc; "the digest is {stated}, and that of the bytes {digest}")
-}
-
-/// Why no record of the version has the body, in a sentence without its full stop. It is asked of
-/// bodies that spell none.
-pub fn form_reason(alloc: Global, version: Version, body: &[u8]) -> Result<String, AllocError> {
-    match misfit_of(version, body) {
-        Some(misfit) => {
-            let at = misfit.0;
-            let mut text = format!(in alloc; "byte {at} of the body: ")?;
-            TextPiece::put_all(&mut text, &misfit.1)?;
-            Ok(text)
-        }
-        None => String::from_str(alloc, "no record has the body"),
-    }
-}
-
-fn law_reason(alloc: Global, rule: Option<Rule>) -> Result<String, AllocError> {
-    match rule {
-        Some(rule) => format!(in alloc; "{rule}"),
-        None => String::from_str(alloc, "the record is not lawful"),
-    }
-}
-
-fn body_of(rest: &[u8]) -> &[u8] {
-    match first_frame(rest) {
-        Some((frame, _)) => frame.body,
-        None => &[],
-    }
-}
-
-// Why a front ends there, where the rule that the next record breaks is known, if it breaks one.
-fn reason_of(
-    alloc: Global,
-    bytes: &[u8],
-    end: &FrontEnd,
-    rule: Option<Rule>,
-) -> Result<String, AllocError> {
-    let (before, rest) = bytes.split_at(bytes.len().min(end.used as usize));
-    match end.why {
-        Why::Whole => String::from_str(alloc, "nothing follows"),
-        Why::Cut => cut_reason(alloc, rest),
-        Why::Length => length_reason(alloc, rest),
-        Why::Chain => chain_reason(alloc, before, rest),
-        Why::Form => {
-            let version = version(bytes).unwrap_or(Version::Two);
-            form_reason(alloc, version, body_of(rest))
-        }
-        Why::Law => law_reason(alloc, rule),
-    }
-}
-
 // Where the front ends, with the reason.
-fn told(alloc: Global, log: &ShownLog<'_>, end: &FrontEnd, rule: Option<Rule>) -> Result<End, Fault>
-    ensures end { IfOk result
-        (λ told. (r : fronts.Restarted) → IsEndOf r end.now → IsEndOf r told.front) }
+fn told<R: Threads + Sync>(
+    rt: &R,
+    alloc: Global,
+    log: &ShownLog<'_>,
+    end: &FrontEnd,
+) -> Result<End, Fault>
+    ensures end { IfOk result (λ told. told.front ≡ end.now) }
+    ensures reason { IfOk result (λ told. IsReason log.now.at log.now.bytes.now
+        (why_of told.front.why) (string_bytes told.reason)) }
     ensures refused { IfErr result (λ e. e ≡ Resources) }
 {
-    let reason = reason_of(alloc, log.bytes, end, rule)?;
+    let reason = reason_of(rt, alloc, log, end)?;
     Ok(End {
         at: log.at,
         front: *end,
@@ -136,25 +59,25 @@ fn told(alloc: Global, log: &ShownLog<'_>, end: &FrontEnd, rule: Option<Rule>) -
     })
 }
 
-// Where the front of a log ends, and the rule that ends it. No queue is redone for it.
-fn ruled_end<R: Threads + Sync>(
+// Where the front of a log ends. No queue is redone for it.
+fn front_end<R: Threads + Sync>(
     rt: &R,
     alloc: Global,
     log: &ShownLog<'_>,
-) -> Result<(FrontEnd, Option<Rule>), Fault>
+) -> Result<FrontEnd, Fault>
     ensures log { OnOk result (IsLog log.now.bytes.now) }
-    ensures end { IfOk result (λ x. (r : fronts.Restarted)
-        × IsRestartFrom log.now.at log.now.bytes.now r × IsEndOf r x.0) }
+    ensures end { IfOk result (λ end. (r : fronts.Restarted)
+        × IsRestartFrom log.now.at log.now.bytes.now r × IsEndOf r end) }
     ensures refused { IfErr result (RefusedFrom log.now.at log.now.bytes.now) }
 {
     match log.at {
         None => {
             let found = FrontEnd::of(rt, alloc, log.bytes, log.plan)?;
-            Ok(found)
+            Ok(found.0)
         }
         Some(at) => {
             let found = FrontEnd::ended_at(rt, alloc, log.bytes, at, log.plan)?;
-            Ok(found)
+            Ok(found.0)
         }
     }
 }
@@ -170,8 +93,9 @@ impl End {
         }
     }
 
-    /// Where the front ends of which the restart is known. Refuses with `Resources` where memory is
-    /// refused.
+    /// Where the front ends of which the restart is known. Of a record that is not lawful the reason is a
+    /// rule that it breaks; for that the front is read once more. Refuses with `Resources` where memory
+    /// is refused.
     pub fn after_restart<R: Threads + Sync>(
         rt: &R,
         alloc: Global,
@@ -179,6 +103,8 @@ impl End {
         r: &Restarted,
     ) -> Result<End, Fault>
         ensures end { IfOk result (λ end. IsEndOf r.now end.front) }
+        ensures reason { IfOk result (λ end. IsReason log.now.at log.now.bytes.now
+            (why_of end.front.why) (string_bytes end.reason)) }
         ensures refused { IfErr result (λ e. e ≡ Resources) }
     {
         let end = FrontEnd {
@@ -187,28 +113,22 @@ impl End {
             total: r.total(),
             why: r.why(),
         };
-        // A restart keeps no rule: so of a log that ends by one this reads the front once more. There is a
-        // restart of it, so memory alone is refused.
-        let rule = match end.why {
-            Why::Law => match ruled_end(rt, alloc, log) {
-                Ok((_, rule)) => rule,
-                Err(_) => return Err(Fault::Resources),
-            },
-            Why::Whole | Why::Cut | Why::Length | Why::Chain | Why::Form => None,
-        };
-        let told = told(alloc, log, &end, rule)?;
+        let told = told(rt, alloc, log, &end)?;
         Ok(told)
     }
 
-    /// Where the front of a log ends, from the checkpoint on that it begins with, if there is one.
+    /// Where the front of a log ends, from the checkpoint on that it begins with, if there is one, with
+    /// the reason as `after_restart` has it.
     pub fn of<R: Threads + Sync>(rt: &R, alloc: Global, log: &ShownLog<'_>) -> Result<End, Fault>
         ensures log { OnOk result (IsLog log.now.bytes.now) }
         ensures end { IfOk result (λ end. (r : fronts.Restarted)
             × IsRestartFrom log.now.at log.now.bytes.now r × IsEndOf r end.front) }
+        ensures reason { IfOk result (λ end. IsReason log.now.at log.now.bytes.now
+            (why_of end.front.why) (string_bytes end.reason)) }
         ensures refused { IfErr result (RefusedFrom log.now.at log.now.bytes.now) }
     {
-        let (end, rule) = ruled_end(rt, alloc, log)?;
-        let told = told(alloc, log, &end, rule)?;
+        let end = front_end(rt, alloc, log)?;
+        let told = told(rt, alloc, log, &end)?;
         Ok(told)
     }
 

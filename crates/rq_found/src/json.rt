@@ -1,50 +1,38 @@
 //! The end of a front as JSON.
 
-ghost use Rattle.std.specs.Prelude.{◌≡◌, string_bytes};
+ghost use Rattle.std.specs.Prelude.{◌≡◌, ◌++◌, IfOk, OnOk, string_bytes};
 ghost use Rattle.rq_model.specs.Reports.{why_text};
 ghost use Rattle.rq_judged.specs.Views.{why_of};
+ghost use Rattle.rq_found.specs.Objects.{front_members, members_shown, object_of, value_shown};
 
 use crate::ends::End;
-use serde::{Serialize, Serializer};
+use crate::objects::{Members, Shown, grouped, put_number, put_value};
+use crate::pieces::Put;
+use std::alloc::{AllocError, Global};
 
-/// Where a front ends, and where the checkpoint stands that a log begins with which was carried on.
-#[derive(Clone, Copy, Serialize)]
-pub struct FrontShown<'a> {
-    #[serde(skip_serializing_if = "Option::is_none")]
-    carried_at: Option<u64>,
-    records: u64,
-    used: u64,
-    total: u64,
-    why: &'a str,
-    reason: &'a str,
+// Puts where a front ends, of a log that begins so.
+fn put_front<'a>(members: &mut Members<'a>, at: Option<u64>, end: &'a End) -> Put
+    ensures { OnOk result (members_shown members.new.items ≡ members_shown members.old.items
+        ++ front_members at end.now.front.next end.now.front.used end.now.front.total
+        (why_text (why_of end.now.front.why)) (string_bytes end.now.reason)) }
+{
+    put_number(members, "carried_at", at)?;
+    put_value(members, "records", Shown::Number(end.front.next))?;
+    put_value(members, "used", Shown::Number(end.front.used))?;
+    put_value(members, "total", Shown::Number(end.front.total))?;
+    put_value(members, "why", Shown::Word(end.front.why.word()))?;
+    put_value(members, "reason", Shown::Word(end.reason.as_str()))
 }
 
-impl FrontShown<'_> {
-    /// Begins an object of which it is the first field.
-    pub fn begin<S: Serializer>(&self, out: &mut S) -> Result<(), S::Error> {
-        out.begin_map(None)?;
-        out.key("front")?;
-        self.serialize(out)
-    }
-}
-
-impl FrontShown<'_> {
-    /// Where the front ends.
-    pub fn of(end: &End) -> FrontShown<'_>
-        ensures beginning { result.carried_at ≡ end.now.at }
-        ensures records { result.records ≡ end.now.front.next }
-        ensures used { result.used ≡ end.now.front.used }
-        ensures total { result.total ≡ end.now.front.total }
-        ensures why { result.why.now ≡ why_text (why_of end.now.front.why) }
-        ensures reason { result.reason.now ≡ string_bytes end.now.reason }
+impl End {
+    /// Where a front ends as an object, of a log that begins so.
+    pub fn shown<'a>(alloc: Global, at: Option<u64>, end: &'a End) -> Result<Shown<'a>, AllocError>
+        ensures { IfOk result (λ v. value_shown v ≡ object_of (front_members at
+            end.now.front.next end.now.front.used end.now.front.total
+            (why_text (why_of end.now.front.why)) (string_bytes end.now.reason))) }
     {
-        FrontShown {
-            carried_at: end.at,
-            records: end.front.next,
-            used: end.front.used,
-            total: end.front.total,
-            why: end.front.why.word(),
-            reason: end.reason.as_str(),
-        }
+        let mut members = Vec::new(alloc);
+        put_front(&mut members, at, end)?;
+        Ok(grouped(members))
     }
 }

@@ -5,6 +5,7 @@
 
 mod diagnoses;
 mod ends;
+mod escapes;
 mod events;
 mod followed;
 mod frames;
@@ -12,22 +13,28 @@ mod hidden;
 mod json;
 mod misfits;
 mod numbered;
+mod objects;
 mod outputs;
 mod pieces;
+mod reasons;
 mod registrants;
+mod rules;
 mod shown_log;
 mod trouble;
 
 pub use diagnoses::Diagnosis;
-pub use ends::{End, form_reason};
+pub use ends::End;
 pub use events::{Effect, Event};
 pub use followed::Followed;
 pub use frames::{Placed, PlacedFrames};
 pub use hidden::Seen;
-pub use json::FrontShown;
 pub use numbered::{Numbered, kind_of, queue_named, queues_of, unit_of};
+pub use objects::{
+    Members, Shown, grouped, pretty_lines, put_number, put_object, put_value, several,
+};
 pub use outputs::write_bytes;
 pub use pieces::{Put, TextPiece};
+pub use reasons::form_reason;
 pub use registrants::RegistrantShown;
 pub use rq_report::{Output, OverWrite};
 pub use rq_restart::{Fault, Plan};

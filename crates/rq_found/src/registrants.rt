@@ -7,11 +7,10 @@ ghost use Rattle.rq_found.specs.Records.{last_shown, last_told, registrant_entry
 use rq_record::QueueNo;
 use rq_report::kind_word;
 use rq_state::{KeptRegistrant, Last, State};
-use serde::Serialize;
 use std::alloc::{AllocError, Global};
 
 /// The last operation of a registrant.
-#[derive(Clone, Copy, Serialize)]
+#[derive(Clone, Copy)]
 pub struct LastShown<'a> {
     /// `enqueue` or `dequeue`.
     pub kind: &'a str,
@@ -22,7 +21,7 @@ pub struct LastShown<'a> {
 }
 
 /// A registrant, and what it did last.
-#[derive(Clone, Copy, Serialize)]
+#[derive(Clone, Copy)]
 pub struct RegistrantShown<'a> {
     /// The registrant's name.
     pub name: &'a str,

@@ -25,7 +25,7 @@ use Rattle.rq_look.specs.Dumps.{AreFrontLines, AreLines, IsBodyLine, IsFrameLine
 use Rattle.rq_look.specs.Entries.{LogEntry, entries, entry_at, fits, is_wanted}
 use Rattle.rq_look.specs.Looks.{Gathers}
 use Rattle.rq_look.proofs.Gathered.{none_gathered, both_gathered}
-use Rattle.rq_look.proofs.ShownFronts.{IsFirst, as_two, frames_to}
+use Rattle.rq_found.proofs.ShownFronts.{IsFirst, as_two, frames_to}
 
 -- the frames that are left are those of lawful records behind a state, which says of the next its
 -- number and how many queues are defined before it

@@ -6,7 +6,4 @@ pub mod Members
 pub mod Puts
 pub mod Queues
 pub mod Scripts
-pub mod ShownFronts
-pub mod Spelled
-pub mod Tokens
 pub mod Words

@@ -8,24 +8,24 @@ use Rattle.std.proofs.KnownBytes.{Appends-nil, Appends-trans}
 use Rattle.std.proofs.lemmas.Grind.{flat_map-append}
 use Rattle.std.proofs.lemmas.List.{length-append, length-drop, drop_at}
 use Rattle.rq_model.specs.Records.{Record, Version, Two}
-use Rattle.rq_model.specs.Spelling.{body_of, IsRecord, Spells}
-use Rattle.rq_model.specs.Frames.{before, digest, header, log_limit, start, frames_of, stated, body_in}
+use Rattle.rq_model.specs.Spelling.{body_of, Spells}
+use Rattle.rq_model.specs.Frames.{before, digest, header, start, frames_of, stated, body_in}
 use Rattle.rq_model.specs.States.{State, empty}
 use Rattle.rq_model.specs.StateSpelling.{carried_next}
-use Rattle.rq_model.specs.Fronts.{IsLongest, Restarted}
-use Rattle.rq_model.proofs.RecordReaders.{body_fits, one_record}
+use Rattle.rq_model.specs.Fronts.{Restarted}
+use Rattle.rq_model.proofs.RecordReaders.{one_record}
 use Rattle.rq_model.proofs.Lists.{each_append}
-use Rattle.rq_model.proofs.Runs.{frame_reads}
 use Rattle.rq_model.proofs.Longest.{used_is_front}
-use Rattle.rq_model.proofs.Restarts.{each_cut, frames_many, header_long}
+use Rattle.rq_model.proofs.Restarts.{header_long}
 use Rattle.rq_model.proofs.StateCodes.{one_state}
 use Rattle.rq_writer.specs.Script.{IsTellable}
 use Rattle.rq_found.specs.Ends.{IsRestartFrom}
 use Rattle.rq_found.specs.Records.{front_at}
 use Rattle.rq_found.specs.declared.trouble.Trouble.{Trouble}
 use Rattle.rq_found.specs.declared.trouble.Trouble.TheVariants.{Log, Untold, NoQueue, Nothing}
-use Rattle.rq_look.proofs.ShownFronts.{IsFirst, as_two, frames_to}
-use Rattle.rq_look.specs.Scripts.{script_line, script_text, IsShownFront, PutsScript, IsDash, by_in, LeavesBody, LeavesOut}
+use Rattle.rq_found.proofs.ShownFronts.{IsFirst, frames_to, few, none_left, next_of}
+use Rattle.rq_found.specs.Fronts.{IsShownFront}
+use Rattle.rq_look.specs.Scripts.{script_line, script_text, PutsScript, IsDash, by_in, LeavesBody, LeavesOut}
 
 -- some records of the front are told, in what is appended and in the text; the frames of the others are left
 pub record IsUnderWay (at : Option ℕ) (b rest : List ℕ) (number : ℕ) (text : List ℕ) (old now : Option (List ℕ)) : Type 0 where
@@ -100,68 +100,6 @@ begun (Some at) b rest number text old r s h first left counted none =
       told = none;
     }
 
--- the records that are shown are the longest list behind some bytes of b
-record IsLongestIn (version : Version) (base : State) (records : List Record) (rest : List ℕ) : Type 0 where
-  pub ahead : List ℕ
-  pub bytes : List ℕ
-  pub longest : IsLongest version base ahead bytes records rest
-  pub short : length bytes ≤ log_limit
-
-longest_in : (at : Option ℕ) (b : List ℕ) (version : Version) (base : State) (records : List Record) (rest : List ℕ)
-    → IsShownFront at b version base records rest → IsLongestIn version base records rest
-longest_in None b version base records rest (front, is) = record {
-  ahead = start version;
-  bytes = front.bytes;
-  longest = subst (λ (s : State). IsLongest version s (start version) front.bytes records rest) (sym is) front.longest;
-  short = omega (arith, front.short, ap length front.whole, length-append (header version) front.bytes);
-}
-longest_in (Some at) b version base records rest part = record {
-  ahead = before at b;
-  bytes = drop at b;
-  longest = part.front;
-  short = omega (arith, part.short, length-drop at b);
-}
-
--- the record of the next frame, and those behind it
-pub record IsNext (at : Option ℕ) (b : List ℕ) (version : Version) (base : State) (done todo : List Record)
-    (behind place rest : List ℕ) : Type 0 where
-  pub r : Record
-  pub others : List Record
-  pub is : Spells Two r (body_in rest)
-  pub front : IsShownFront at b version base (done ++ r ∷ others) behind
-  pub left : drop (36 + stated rest) rest ≡ frames_of (digest place (body_of r)) others
-
-next_of : (at : Option ℕ) (b : List ℕ) (version : Version) (base : State) (done todo : List Record)
-    (behind place rest : List ℕ) → IsShownFront at b version base (done ++ todo) behind → rest ≡ frames_of place todo
-    → 36 + stated rest ≤ length rest → IsNext at b version base done todo behind place rest
-next_of at b version base done [] behind place rest front left room =
-    let none : length rest ≡ 0 = ap length left in let no : ⊥ = omega (arith, room, none) in absurd no
-next_of at b version base done (r ∷ others) behind place rest front left room =
-    let all = longest_in at b version base (done ++ r ∷ others) behind front in
-    let is = (each_cut (IsRecord version) done (r ∷ others) all.longest.begins.records).1.0 in
-    let reads = frame_reads place (body_of r) (frames_of (digest place (body_of r)) others) (body_fits version r is) in
-    record {
-      r = r;
-      others = others;
-      is = (as_two version r is, ap body_in left ∙ reads.body_is);
-      front = front;
-      left = ap (λ (z : List ℕ). drop (36 + stated z) z) left ∙ reads.after_is;
-    }
-
--- as many records as are told can be counted
-few : (at : Option ℕ) (b : List ℕ) (version : Version) (base : State) (done todo : List Record) (behind : List ℕ)
-    → IsShownFront at b version base (done ++ todo) behind → length done ≤ 4294967295
-few at b version base done todo behind front =
-    let all = longest_in at b version base (done ++ todo) behind front in
-    omega (
-      arith,
-      all.short,
-      ap length all.longest.begins.whole,
-      length-append (frames_of all.ahead (done ++ todo)) behind,
-      frames_many all.ahead (done ++ todo),
-      length-append done todo,
-    )
-
 -- one more is told
 told_more : (done : List Record) (r : Record) (put more text new : List ℕ) → put ++ text ≡ script_text done
     → text ++ script_line r ≡ more ++ new → (put ++ more) ++ new ≡ script_text (done ++ r ∷ [])
@@ -206,18 +144,6 @@ goes_on at b rest number text old now after count new last body more r u room bo
       appends = Appends-trans old now last u.put more u.appends appends;
       told = told_more u.done r u.put more text new u.told e;
     }
-
-none_left : (at : Option ℕ) (b : List ℕ) (version : Version) (base : State) (done todo : List Record)
-    (behind place rest : List ℕ) → IsShownFront at b version base (done ++ todo) behind → rest ≡ frames_of place todo
-    → length rest < 36 + stated rest → IsShownFront at b version base done behind
-none_left at b version base done [] behind place rest front left short =
-    subst (λ (rs : List Record). IsShownFront at b version base rs behind) (append-nil done) front
-none_left at b version base done (r ∷ others) behind place rest front left short =
-    let all = longest_in at b version base (done ++ r ∷ others) behind front in
-    let is = (each_cut (IsRecord version) done (r ∷ others) all.longest.begins.records).1.0 in
-    let reads = frame_reads place (body_of r) (frames_of (digest place (body_of r)) others) (body_fits version r is) in
-    let no : ⊥ = omega (arith, short, ap length left, ap stated left, reads.long, reads.stated_is) in
-    absurd no
 
 -- all records are told, once the text is written
 pub ended : (at : Option ℕ) (b rest : List ℕ) (number : ℕ) (text : List ℕ) (old now new : Option (List ℕ))

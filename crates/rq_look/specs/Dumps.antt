@@ -17,8 +17,9 @@ use Rattle.rq_look.specs.Entries.{LogEntry, entries, entry_at, fits, fits_none, 
 use Rattle.rq_look.specs.Lines.{record_line}
 use Rattle.rq_look.specs.Findings.{IsBehind, behind_text}
 use Rattle.rq_look.specs.Looks.{IsClosing}
-use Rattle.rq_look.specs.Objects.{behind_members, formless_members, object_line, record_members}
-use Rattle.rq_look.specs.Scripts.{IsShownFront}
+use Rattle.rq_found.specs.Objects.{object_line}
+use Rattle.rq_look.specs.Objects.{behind_members, formless_members, record_members}
+use Rattle.rq_found.specs.Fronts.{IsShownFront}
 
 -- a line of a dump: the object of the record, or its line, in full or not
 abbrev pub IsLineOf : Bool → Bool → LogEntry → List ℕ → Type 0

@@ -13,6 +13,7 @@ use Rattle.rq_behind.specs.Behind.{AreRightFrames, frame_bytes, looked_to}
 use Rattle.rq_behind.specs.declared.search.Found.{Found}
 use Rattle.rq_restart.specs.Audits.{IsAuditAt, audited_of}
 use Rattle.rq_found.specs.Ends.{IsRestartFrom, beginning_text, end_text, is_whole}
+use Rattle.rq_found.specs.Reasons.{IsReason}
 use Rattle.rq_found.specs.declared.ends.End.{End}
 use Rattle.rq_found.specs.declared.diagnoses.Diagnosis.{Diagnosis}
 use Rattle.rq_found.specs.Diagnoses.{diagnosis_of}
@@ -89,12 +90,13 @@ IsAuditFrom None b found = IsAudit b found
 IsAuditFrom (Some at) b found = IsAuditAt b at found
 
 -- whether b is whole, and each checkpoint of its front true; and the text says with which checkpoint
--- it begins, if it does, and has these lines of b, with some reason, and those of what stands behind
--- the front
+-- it begins, if it does, and has these lines of b, with the reason why its front ends, and those of
+-- what stands behind the front
 abbrev pub IsFindings : Option ℕ → List ℕ → Bool → List ℕ → Type 0
 IsFindings at b fine text = (r : Restarted) × (found : List (ℕ × Bool)) × (behind : Found)
-    × (reason : List ℕ) × IsRestartFrom at b r × IsAuditFrom at b (map audited_of found)
-    × IsBehind b r.used behind × (fine ≡ all_fine r.why found)
+    × (reason : List ℕ) × IsRestartFrom at b r × IsReason at b r.why reason
+    × IsAuditFrom at b (map audited_of found) × IsBehind b r.used behind
+    × (fine ≡ all_fine r.why found)
     × (text ≡ findings_text at r.records r.used r.total r.why reason behind found)
 
 -- a frame behind a front may be right in itself: one was found, or the search gave up

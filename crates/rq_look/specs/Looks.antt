@@ -1,5 +1,5 @@
 -- What a look at a log promises.
-use Rattle.std.specs.Prelude.{◌≡◌, ℕ, ◌+◌, ◌<◌, ◌≤◌, ◌⊎◌, Bool, true, false, ⊤, List, ◌++◌, length, codes}
+use Rattle.std.specs.Prelude.{◌≡◌, ℕ, ◌+◌, ◌<◌, ◌≤◌, ◌⊎◌, Bool, true, false, ⊤, List, ◌++◌, length}
 use Rattle.std.specs.Prelude.{MatchOption, Option, Some, None}
 use Rattle.std.specs.Io.KnownBytes.{Appends}
 use Rattle.rq_model.specs.Fronts.{Restarted}
@@ -8,8 +8,10 @@ use Rattle.rq_model.specs.Carrying.{IsCarriedReport}
 use Rattle.rq_report.specs.Pieces.{AreLinesOf}
 use Rattle.rq_front.specs.Chains.{IsLog}
 use Rattle.rq_found.specs.Ends.{IsRestartFrom, beginning_text, end_line}
+use Rattle.rq_found.specs.Reasons.{IsReason}
 use Rattle.rq_found.specs.Refusals.{IsBroken, IsRefusal, StaysUnshown}
-use Rattle.rq_look.specs.Objects.{closing_members, object_line}
+use Rattle.rq_found.specs.Objects.{object_line}
+use Rattle.rq_look.specs.Objects.{closing_members}
 use Rattle.rq_look.specs.ReportObjects.{IsReportJson}
 use Rattle.rq_look.specs.Scripts.{LeavesOut}
 use Rattle.rq_found.specs.declared.trouble.Subject.{Subject}
@@ -26,13 +28,13 @@ abbrev pub Gathers : List ℕ → List ℕ → Option (List ℕ) → List ℕ �
 Gathers put text old left new = (written : List ℕ) × Appends old new written
     × (text ++ put ≡ written ++ left)
 
--- the last line of a dump of b, of where its front ends, with some reason: as an object, which says where
+-- the last line of a dump of b, of where its front ends, with the reason: as an object, which says where
 -- b begins if it was carried on, or as a line
 abbrev pub IsClosing : Option ℕ → List ℕ → Bool → List ℕ → Type 0
 IsClosing at b true text = (r : Restarted) × (reason : List ℕ) × IsRestartFrom at b r
-    × (text ≡ object_line (closing_members at r reason))
+    × IsReason at b r.why reason × (text ≡ object_line (closing_members at r reason))
 IsClosing at b false text = (r : Restarted) × (reason : List ℕ) × IsRestartFrom at b r
-    × (text ≡ end_line r reason)
+    × IsReason at b r.why reason × (text ≡ end_line r reason)
 
 -- a script broke off: so is told of a record that no script tells, and of what `IsBroken` says
 abbrev pub BreaksOff : Trouble → Type 0
@@ -99,16 +101,18 @@ abbrev pub PutsQueue : Restarted → ℕ → Option (List ℕ) → Option (List 
 PutsQueue r queue old new = (text : List ℕ) × AreLinesOf r.state queue (queue + 1) text
     × Appends old new text
 
--- the report of a restart is appended as one value of JSON
-abbrev pub PutsJson : Option ℕ → Restarted → Option ℕ → Option (List ℕ) → Option (List ℕ) → Type 0
-PutsJson at r wanted old new = (text : List ℕ) × IsReportJson at r wanted text × Appends old new text
+-- the report of a restart of b is appended as one value of JSON
+abbrev pub PutsJson : Option ℕ → List ℕ → Restarted → Option ℕ → Option (List ℕ) → Option (List ℕ)
+    → Type 0
+PutsJson at b r wanted old new = (text : List ℕ) × IsReportJson at b r wanted text
+    × Appends old new text
 
 -- of b, which has the queue that is wanted, the report is appended as one value of JSON; or
 -- its report is; or, if one queue is wanted alone, those lines of it that are of this queue
 abbrev pub PutsReportAs : Bool → Option ℕ → List ℕ → Option ℕ → Option (List ℕ) → Option (List ℕ)
     → Type 0
 PutsReportAs true at b wanted old new = IsLog b × (r : Restarted) × IsRestartFrom at b r
-    × HasQueue r wanted × PutsJson at r wanted old new
+    × HasQueue r wanted × PutsJson at b r wanted old new
 PutsReportAs false at b None old new = PutsReport at b old new
 PutsReportAs false at b (Some queue) old new = IsLog b × (r : Restarted) × IsRestartFrom at b r
     × HasQueue r (Some queue) × PutsQueue r queue old new

@@ -1,78 +1,20 @@
--- What is shown as JSON: the members of each object, in order, and its text.
-use Rattle.std.specs.Prelude.{ℕ, ◌/◌, ◌%◌, ◌-◌, ◌==◌, ◌||◌, Bool, true, not, if◌then◌else◌, List, [], ◌∷◌, ◌++◌}
-use Rattle.std.specs.Prelude.{codes, encode_utf8, length, map, string_bytes, Option, Some, None, option_map}
-use Rattle.std.specs.Borrow.{Bor}
-use Rattle.std.specs.Char.Escape.{encode_utf16}
+-- What is shown as JSON: the members of each object, in order.
+use Rattle.std.specs.Prelude.{ℕ, ◌-◌, ◌==◌, true, if◌then◌else◌, List, [], ◌∷◌, ◌++◌}
+use Rattle.std.specs.Prelude.{codes, length, Option, Some, None, option_map}
 use Rattle.std.specs.List.{flat_map}
-use Rattle.std.specs.Str.{chars, is_utf8}
-use Rattle.serde_json.specs.Data.{Data, null, number, unsigned, boolean, string, array, object}
-use Rattle.serde_json.specs.Data.{Items, no_items, item, Members, no_members, member}
-use Rattle.serde_json.specs.Written.{compact_text}
+use Rattle.std.specs.Str.{is_utf8}
+use Rattle.serde_json.specs.Data.{Data, boolean, string}
 use Rattle.rq_model.specs.Fronts.{Restarted}
 use Rattle.rq_model.specs.Records.{Record, Define, Enqueue, Checkpoint, Kill, no_queue}
 use Rattle.rq_model.specs.Reports.{hex_of, why_text}
 use Rattle.rq_front.specs.declared.spans.Span.{Span}
 use Rattle.rq_behind.specs.declared.search.Found.{Found}
+use Rattle.rq_found.specs.Objects.{Named, front_members, known, object_of, whole, with_name}
 use Rattle.rq_found.specs.Records.{kind_word, unit_shown}
-use Rattle.rq_found.specs.Texts.{is_hidden}
 use Rattle.rq_look.specs.Entries.{LogEntry, registrant_named}
 use Rattle.rq_look.specs.Scripts.{by_in}
-use Rattle.rq_look.specs.declared.objects.Shown.{Shown, fold-Shown}
-use Rattle.rq_look.specs.declared.objects.Shown.TheOpen.{Shown-F}
 
--- Text.
-
--- a unit of UTF-16 by its number, in four digits
-abbrev pub unit_text : ℕ → List ℕ
-unit_text u = codes "\\u" ++ (hex_of (u / 256) ++ hex_of (u % 256))
-
--- a character that is hidden by its units, each other as it is, and so the end of a line
-abbrev pub spelled_character : ℕ → List ℕ
-spelled_character c =
-    if (c == 10) || not (is_hidden c) then encode_utf8 c else flat_map unit_text (encode_utf16 c)
-
--- a text of JSON with each hidden character by its numbers
-abbrev pub spelled : List ℕ → List ℕ
-spelled text = flat_map spelled_character (chars text)
-
--- values by their names, in order
-abbrev pub Named : Type 0
-Named = List (List ℕ × Data)
-
-abbrev pub as_members : Named → Members
-as_members [] = no_members
-as_members (m ∷ ms) = member m.0 m.1 (as_members ms)
-
--- values in order
-abbrev pub as_items : List Data → Items
-as_items [] = no_items
-as_items (d ∷ ds) = item d (as_items ds)
-
-abbrev pub as_list : List Data → Data
-as_list ds = array (as_items ds)
-
--- an object of members
-abbrev pub object_of : Named → Data
-object_of ms = object (as_members ms)
-
--- the line of an object: its text with no space, hidden characters by their numbers
-abbrev pub object_line : Named → List ℕ
-object_line ms = spelled (compact_text (object_of ms)) ++ codes "\n"
-
--- Members.
-
--- a value by its name
-abbrev pub with_name : List ℕ → Data → Named
-with_name name value = (name, value) ∷ []
-
--- a value by its name, if there is one
-abbrev pub known : List ℕ → Option Data → Named
-known name None = []
-known name (Some value) = with_name name value
-
--- a number
-abbrev pub whole : ℕ → Data
-whole n = number (unsigned n)
+-- Bytes.
 
 -- bytes as digits
 abbrev pub digits : List ℕ → Data
@@ -156,16 +98,7 @@ found_members found = with_name (codes "frames") (whole (length found.spans.item
 abbrev pub behind_members : Found → Named
 behind_members found = with_name (codes "behind") (object_of (found_members found))
 
--- that of where a front ends: with which checkpoint the log begins, if it was carried on; its records,
--- its bytes, all bytes, why it ends, and the reason
-abbrev pub front_members : Option ℕ → ℕ → ℕ → ℕ → List ℕ → List ℕ → Named
-front_members at records used total why reason =
-    known (codes "carried_at") (option_map whole at)
-    ++ (with_name (codes "records") (whole records)
-    ++ (with_name (codes "used") (whole used)
-    ++ (with_name (codes "total") (whole total)
-    ++ (with_name (codes "why") (string why) ++ with_name (codes "reason") (string reason)))))
-
+-- that of where a front ends
 abbrev pub end_members : Option ℕ → ℕ → ℕ → ℕ → List ℕ → List ℕ → Named
 end_members at records used total why reason = with_name (codes "front")
     (object_of (front_members at records used total why reason))
@@ -173,26 +106,3 @@ end_members at records used total why reason = with_name (codes "front")
 -- this one of what a restart answers
 abbrev pub closing_members : Option ℕ → Restarted → List ℕ → Named
 closing_members at r reason = end_members at r.records r.used r.total (why_text r.why) reason
-
--- What the code's values stand for.
-
-abbrev pub member_of : Bor (List ℕ) × Data → List ℕ × Data
-member_of m = (m.0.now, m.1)
-
--- one level of a value, with each value inside as what it stands for
-abbrev pub level_shown : Shown-F Data → Data
-level_shown (Shown-F.Number n) = whole n
-level_shown (Shown-F.Flag b) = boolean b
-level_shown Shown-F.Nothing = null
-level_shown (Shown-F.Word text) = string text.now
-level_shown (Shown-F.Made text) = string (string_bytes text)
-level_shown (Shown-F.Group members) = object_of (map member_of members.items)
-level_shown (Shown-F.Several values) = as_list values.items
-
--- a value
-abbrev pub value_shown : Shown → Data
-value_shown = fold-Shown Data level_shown
-
--- the members of an object
-abbrev pub members_shown : List (Bor (List ℕ) × Shown) → Named
-members_shown ms = map (λ m. (m.0.now, value_shown m.1)) ms

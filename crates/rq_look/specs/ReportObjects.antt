@@ -1,15 +1,14 @@
 -- The report of a log as JSON.
 use Rattle.std.specs.Prelude.{◌≡◌, ℕ, ◌+◌, List, [], ◌∷◌, ◌++◌, codes, length, map, slice_range, Option, Some, None, option_map}
-use Rattle.json.specs.Layout.{pretty}
-use Rattle.json.specs.Tree.{json_tokens}
 use Rattle.serde_json.specs.Data.{Data, null, string}
-use Rattle.serde_json.specs.Written.{outline}
 use Rattle.rq_model.specs.Fronts.{Restarted}
 use Rattle.rq_model.specs.Queues.{registrants_at}
 use Rattle.rq_model.specs.Reports.{IsListing, why_text}
 use Rattle.rq_model.specs.States.{Definition, Element, State}
+use Rattle.rq_found.specs.Reasons.{IsReason}
 use Rattle.rq_found.specs.Records.{registrant_entry}
-use Rattle.rq_look.specs.Objects.{Named, bytes_members, error_known, front_members, as_list, with_name, object_of, spelled, whole}
+use Rattle.rq_found.specs.Objects.{Named, front_members, as_list, with_name, object_of, whole}
+use Rattle.rq_look.specs.Objects.{bytes_members, error_known}
 
 -- a value, or `null`
 abbrev pub or_null : Option Data → Data
@@ -94,13 +93,9 @@ abbrev pub report_members : Option ℕ → Restarted → List ℕ → List Data 
 report_members at r reason queues =
     report_with (front_members at r.records r.used r.total (why_text r.why) reason) r queues
 
--- a value in lines, each level two spaces deeper, hidden characters by their numbers
-abbrev pub pretty_lines : Data → List ℕ
-pretty_lines d = spelled (pretty (json_tokens (outline d))) ++ codes "\n"
-
--- the report of a restart as JSON, of a log that begins so, with all queues or the one that is wanted,
--- and some reason
-abbrev pub IsReportJson : Option ℕ → Restarted → Option ℕ → List ℕ → Type 0
-IsReportJson at r wanted text = (reason : List ℕ) × (queues : List Data)
-    × AreWantedQueues wanted r.state queues
+-- the report of a restart of b as JSON, of a log that begins so, with all queues or the one that is
+-- wanted, and the reason why its front ends
+abbrev pub IsReportJson : Option ℕ → List ℕ → Restarted → Option ℕ → List ℕ → Type 0
+IsReportJson at b r wanted text = (reason : List ℕ) × (queues : List Data)
+    × IsReason at b r.why reason × AreWantedQueues wanted r.state queues
     × (text ≡ pretty_lines (object_of (report_members at r reason queues)))

@@ -1,17 +1,15 @@
 -- The script of a log, and what a salvage has behind it.
-use Rattle.std.specs.Prelude.{◌≡◌, ◌≤◌, ◌+◌, ℕ, ⊤, Bool, true, false, List, [], ◌∷◌, ◌++◌, length, drop, codes}
+use Rattle.std.specs.Prelude.{◌≡◌, ◌+◌, ℕ, ⊤, Bool, true, false, List, [], ◌∷◌, ◌++◌, length, codes}
 use Rattle.std.specs.Prelude.{Option, Some, None}
 use Rattle.std.specs.List.{AllByRecursion, flat_map}
 use Rattle.std.specs.Io.KnownBytes.{Appends}
 use Rattle.rq_model.specs.Records.{By, Record, Enqueue, Dequeue, Version, Two}
 use Rattle.rq_model.specs.Spelling.{Spells}
-use Rattle.rq_model.specs.Frames.{log_limit, HasHeader, before}
-use Rattle.rq_model.specs.States.{State, empty}
-use Rattle.rq_model.specs.StateSpelling.{SpellsCarried}
-use Rattle.rq_model.specs.Fronts.{IsFront, IsLongest, Restarted}
-use Rattle.rq_model.specs.Checkpoints.{IsCheckpointAt}
+use Rattle.rq_model.specs.States.{State}
+use Rattle.rq_model.specs.Fronts.{Restarted}
 use Rattle.rq_writer.specs.Script.{record_text, IsTellable}
 use Rattle.rq_found.specs.Ends.{IsRestartFrom, is_whole}
+use Rattle.rq_found.specs.Fronts.{IsShownFront}
 use Rattle.rq_found.specs.declared.trouble.Trouble.{Trouble}
 use Rattle.rq_found.specs.declared.trouble.Trouble.TheVariants.{Untold}
 
@@ -22,23 +20,6 @@ script_line r = record_text r ++ codes "\n"
 -- a line for each record, in order
 abbrev pub script_text : List Record → List ℕ
 script_text rs = flat_map script_line rs
-
--- the records of a carried file that is read as b, from the checkpoint at an offset on, behind the
--- state that it spells
-pub record IsShownPart (b : List ℕ) (offset : ℕ) (version : Version) (base : State)
-    (records : List Record) (rest : List ℕ) : Type 0 where
-  pub kept : List ℕ
-  pub short : length b ≤ log_limit
-  pub header : HasHeader version b
-  pub checkpoint : IsCheckpointAt b offset kept
-  pub spells : SpellsCarried version base kept
-  pub front : IsLongest version base (before offset b) (drop offset b) records rest
-
--- the records of the front of b that are shown, behind this state: all of them, or those from the
--- checkpoint at an offset on
-abbrev pub IsShownFront : Option ℕ → List ℕ → Version → State → List Record → List ℕ → Type 0
-IsShownFront None b version base records rest = IsFront b version records rest × (base ≡ empty)
-IsShownFront (Some at) b version base records rest = IsShownPart b at version base records rest
 
 -- the front of b as a script tells it, which can tell each of its records
 abbrev pub IsScriptOf : Option ℕ → List ℕ → List ℕ → Type 0

@@ -2,7 +2,6 @@
 
 ghost use Rattle.std.specs.Prelude.{◌≡◌, ◌++◌, true, false, encode_utf8_all, length, take};
 ghost use Rattle.std.specs.Prelude.{IfOk, MatchOption, OnOk, string_bytes};
-ghost use Rattle.std.specs.Int.{is_in_range};
 ghost use Rattle.std.specs.List.{list_all};
 ghost use Rattle.std.specs.Str.{chars};
 ghost use Rattle.rq_look.specs.Lines.{bytes_text, character_text, cut_text, first_text};
@@ -15,13 +14,6 @@ use std::str::from_utf8;
 
 // As many characters or bytes of a payload are shown where it is shortened.
 const SHOWN: usize = 32;
-
-/// Whether a byte is a character that anybody sees.
-pub(crate) fn is_plain(byte: u8) -> bool
-    ensures { result ≡ is_in_range 32 126 byte }
-{
-    matches!(byte, b' '..=b'~')
-}
 
 // Whether a character of a text is shown as it is, or by what stands for the end of a line or a tab.
 fn is_shown(c: char) -> bool

@@ -5,19 +5,16 @@ ghost use Rattle.rq_judged.specs.Views.{why_of};
 ghost use Rattle.rq_model.specs.Reports.{why_text};
 ghost use Rattle.rq_record.specs.Views.{record_of};
 ghost use Rattle.rq_look.specs.Entries.{shown_entry};
+ghost use Rattle.rq_found.specs.Objects.{members_shown, object_line, object_of, value_shown, with_name};
 ghost use Rattle.rq_look.specs.Objects as spec;
 ghost use Rattle.rq_look.specs.Objects.{behind_mark, behind_members, by_members, end_members};
 ghost use Rattle.rq_look.specs.Objects.{error_known, first_place, formless_members, found_members};
-ghost use Rattle.rq_look.specs.Objects.{front_members, load_members, members_shown, object_line, object_of};
-ghost use Rattle.rq_look.specs.Objects.{own_members, place_members, record_members};
+ghost use Rattle.rq_look.specs.Objects.{load_members, own_members, place_members, record_members};
 
-use crate::objects::{
-    Members, Shown, grouped, put_digits, put_hex_and_text, put_number, put_object, put_value,
-    put_word,
-};
+use crate::objects::{put_digits, put_hex_and_text, put_word};
 use crate::shown_records::{ShownRecord, by_of, registrant_of, unit_number};
 use rq_behind::Found;
-use rq_found::{End, Put, kind_of};
+use rq_found::{End, Members, Put, Shown, grouped, kind_of, put_number, put_object, put_value};
 use rq_front::Span;
 use rq_record::{KeptRecord, QueueNo};
 use std::alloc::{AllocError, Global};
@@ -92,7 +89,7 @@ fn put_by<'a>(members: &mut Members<'a>, record: &'a KeptRecord) -> Put
 /// The bytes of a payload as an object.
 pub(crate) fn payload_shown<'a>(alloc: Global, bytes: &'a [u8]) -> Result<Shown<'a>, AllocError>
     ensures { IfOk result
-        (λ v. spec.value_shown v ≡ object_of (spec.bytes_members bytes.now)) }
+        (λ v. value_shown v ≡ object_of (spec.bytes_members bytes.now)) }
 {
     let mut members = Vec::new(alloc);
     put_hex_and_text(alloc, &mut members, bytes)?;
@@ -101,8 +98,8 @@ pub(crate) fn payload_shown<'a>(alloc: Global, bytes: &'a [u8]) -> Result<Shown<
 
 // The bytes of a checkpoint, which are as many as a state has, as an object of digits alone.
 fn checkpoint_shown<'a>(alloc: Global, bytes: &[u8]) -> Result<Shown<'a>, AllocError>
-    ensures { IfOk result (λ v. spec.value_shown v
-        ≡ object_of (spec.with_name (codes "hex") (spec.digits bytes.now))) }
+    ensures { IfOk result (λ v. value_shown v
+        ≡ object_of (with_name (codes "hex") (spec.digits bytes.now))) }
 {
     let mut members = Vec::new(alloc);
     put_digits(alloc, &mut members, bytes)?;
@@ -182,38 +179,15 @@ fn put_found(members: &mut Members<'_>, found: &Found) -> Put
     put_number(members, "gave_up", found.gave_up.map(|place| place as u64))
 }
 
-// Puts an object of one member, which is an object, in a line.
-fn put_only<'a>(alloc: Global, text: &mut String, name: &'a str, inner: Members<'a>) -> Put
-    ensures { OnOk result (string_bytes text.new ≡ string_bytes text.old
-        ++ object_line (spec.with_name name.now (object_of (members_shown inner.entry.items)))) }
-{
-    let mut members = Vec::new(alloc);
-    put_value(&mut members, name, grouped(inner))?;
-    put_object(alloc, text, members)
-}
-
 /// Puts what stands behind the front as an object in a line.
 pub(crate) fn put_behind_object(alloc: Global, text: &mut String, found: &Found) -> Put
     ensures { OnOk result (string_bytes text.new
         ≡ string_bytes text.old ++ object_line (behind_members found.now)) }
 {
-    let mut members = Vec::new(alloc);
-    put_found(&mut members, found)?;
-    put_only(alloc, text, "behind", members)
-}
-
-/// Puts where a front ends, of a log that begins so.
-pub(crate) fn put_front_members<'a>(members: &mut Members<'a>, at: Option<u64>, end: &'a End) -> Put
-    ensures { OnOk result (members_shown members.new.items ≡ members_shown members.old.items
-        ++ front_members at end.now.front.next end.now.front.used end.now.front.total
-        (why_text (why_of end.now.front.why)) (string_bytes end.now.reason)) }
-{
-    put_number(members, "carried_at", at)?;
-    put_value(members, "records", Shown::Number(end.front.next))?;
-    put_value(members, "used", Shown::Number(end.front.used))?;
-    put_value(members, "total", Shown::Number(end.front.total))?;
-    put_value(members, "why", Shown::Word(end.front.why.word()))?;
-    put_value(members, "reason", Shown::Word(end.reason.as_str()))
+    let (mut inner, mut members) = (Vec::new(alloc), Vec::new(alloc));
+    put_found(&mut inner, found)?;
+    put_value(&mut members, "behind", grouped(inner))?;
+    put_object(alloc, text, members)
 }
 
 /// Puts the last line of a dump, of where the front ends and with which checkpoint the log begins, as an
@@ -229,6 +203,7 @@ pub(crate) fn put_closing_object(
         (why_text (why_of end.now.front.why)) (string_bytes end.now.reason))) }
 {
     let mut members = Vec::new(alloc);
-    put_front_members(&mut members, at, end)?;
-    put_only(alloc, text, "front", members)
+    let front = End::shown(alloc, at, end)?;
+    put_value(&mut members, "front", front)?;
+    put_object(alloc, text, members)
 }

@@ -9,8 +9,10 @@ ghost use Rattle.rq_model.specs.Checkpoints.{IsCheckpointAt};
 ghost use Rattle.rq_model.specs.Fronts.{Restarted};
 ghost use Rattle.rq_model.specs.States.{empty};
 ghost use Rattle.rq_judged.specs.FrontEnds.{IsEndOf};
+ghost use Rattle.rq_judged.specs.Views.{why_of};
 ghost use Rattle.rq_front.specs.Chains.{IsLog};
 ghost use Rattle.rq_found.specs.Ends.{IsRestartFrom};
+ghost use Rattle.rq_found.specs.Reasons.{IsReason};
 ghost use Rattle.rq_found.specs.Records.{SpelledIn, front_at};
 ghost use Rattle.rq_found.specs.Refusals.{CountsFaults, IsBroken, StaysUnshown};
 ghost use Rattle.rq_look.specs.Dumps.{AreFrontLines, AreLinesBehind, IsCountLine, IsShownBehind};
@@ -41,6 +43,7 @@ pub(crate) fn put_closing(
 ) -> Put
     ensures { OnOk result ((b : List ℕ) (r : Restarted)
         → IsRestartFrom at b r → IsEndOf r end.now.front
+        → IsReason at b (why_of end.now.front.why) (string_bytes end.now.reason)
         → (line : List ℕ) × IsClosing at b wanted.now.json line
         × (string_bytes text.new ≡ string_bytes text.old ++ line)) }
 {
@@ -206,6 +209,8 @@ fn put_lines<W: Output>(
 ) -> Result<(), Trouble>
     requires end { (r : Restarted) × IsRestartFrom log.now.at log.now.bytes.now r
         × IsEndOf r end.now.front }
+    requires reason { IsReason log.now.at log.now.bytes.now (why_of end.now.front.why)
+        (string_bytes end.now.reason) }
     requires start { log.now.at ≡ None → first.now ≡ empty }
     requires there { (offset : ℕ) (kept : List ℕ) → log.now.at ≡ Some offset
         → IsCheckpointAt log.now.bytes.now offset kept → SpelledIn log.now.bytes.now kept first.now }

@@ -8,7 +8,6 @@ mod bytes;
 mod checks;
 mod dump_objects;
 mod dumps;
-mod escapes;
 mod frame_lines;
 mod frontless;
 mod lines;

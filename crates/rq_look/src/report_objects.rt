@@ -8,19 +8,20 @@ ghost use Rattle.rq_model.specs.Reports.{IsListing, why_text};
 ghost use Rattle.rq_model.specs.States as model;
 ghost use Rattle.rq_judged.specs.FrontEnds.{IsEndOf};
 ghost use Rattle.rq_judged.specs.Views.{why_of};
+ghost use Rattle.rq_found.specs.Reasons.{IsReason};
 ghost use Rattle.rq_found.specs.Records.{last_told, registrant_entry, registrant_told};
 ghost use Rattle.rq_look.specs.Looks.{HasQueue};
-ghost use Rattle.rq_look.specs.Objects.{front_members, members_shown, object_of, value_shown, whole};
+ghost use Rattle.rq_found.specs.Objects.{front_members, members_shown, object_of, value_shown, whole};
 ghost use Rattle.rq_look.specs.ReportObjects.{AreObjectsOf, AreWantedQueues, IsQueueObject, IsReportJson};
 ghost use Rattle.rq_look.specs.ReportObjects.{definition_members, element_members};
 ghost use Rattle.rq_look.specs.ReportObjects.{element_numbers, element_object};
 ghost use Rattle.rq_look.specs.ReportObjects.{held_members, last_object, or_null};
 ghost use Rattle.rq_look.specs.ReportObjects.{registrant_object, report_with, units_members};
 
-use crate::dump_objects::{payload_shown, put_front_members, queue_number};
-use crate::escapes::spelled_out;
-use crate::objects::{Members, Shown, grouped, pretty_text, put_value, several};
-use rq_found::{End, Put, RegistrantShown};
+use crate::dump_objects::{payload_shown, queue_number};
+use rq_found::{
+    End, Members, Put, RegistrantShown, Shown, ShownLog, grouped, pretty_lines, put_value, several,
+};
 use rq_record::QueueNo;
 use rq_report::free_elements;
 use rq_restart::Restarted;
@@ -67,7 +68,7 @@ fn element_shown(alloc: Global, e: &KeptElement) -> Result<Shown<'_>, AllocError
 }
 
 // The queue's free elements, in the order in which they would be taken.
-#[tactic(auto, using(crate::proofs::Members::shown_more))]
+#[tactic(auto, using(rq_found::proofs::Members::shown_more))]
 fn elements_shown(
     alloc: Global,
     state: &State,
@@ -111,7 +112,7 @@ fn registrant_shown<'a>(alloc: Global, r: &RegistrantShown<'a>) -> Result<Shown<
 }
 
 // The queue's registrants, by name.
-#[tactic(auto, using(crate::proofs::Members::shown_more))]
+#[tactic(auto, using(rq_found::proofs::Members::shown_more))]
 fn registrants_shown(
     alloc: Global,
     state: &State,
@@ -214,17 +215,6 @@ fn units_shown<'a>(alloc: Global, r: &Restarted) -> Result<Shown<'a>, AllocError
     Ok(grouped(members))
 }
 
-// Where a front ends, of a log that begins so.
-fn front_shown<'a>(alloc: Global, at: Option<u64>, end: &'a End) -> Result<Shown<'a>, AllocError>
-    ensures { IfOk result (λ v. value_shown v ≡ object_of (front_members at end.now.front.next
-        end.now.front.used end.now.front.total (why_text (why_of end.now.front.why))
-        (string_bytes end.now.reason))) }
-{
-    let mut members = Vec::new(alloc);
-    put_front_members(&mut members, at, end)?;
-    Ok(grouped(members))
-}
-
 fn report_shown<'a>(
     alloc: Global,
     at: Option<u64>,
@@ -239,7 +229,7 @@ fn report_shown<'a>(
         (string_bytes end.now.reason)) r.now queues))) }
 {
     let mut members = Vec::new(alloc);
-    let front = front_shown(alloc, at, end)?;
+    let front = End::shown(alloc, at, end)?;
     put_value(&mut members, "front", front)?;
     let units = units_shown(alloc, r)?;
     put_value(&mut members, "units", units)?;
@@ -251,18 +241,18 @@ fn report_shown<'a>(
 /// The report as one value of JSON, in lines. Refuses if memory is refused.
 pub(crate) fn report_json(
     alloc: Global,
-    at: Option<u64>,
+    log: &ShownLog<'_>,
     r: &Restarted,
     end: &End,
     wanted: Option<u32>,
 ) -> Result<String, AllocError>
     requires end { IsEndOf r.now end.now.front }
+    requires reason { IsReason log.now.at log.now.bytes.now (why_of end.now.front.why)
+        (string_bytes end.now.reason) }
     requires queue { HasQueue r.now wanted }
-    ensures { IfOk result (λ text. IsReportJson at r.now wanted (string_bytes text)) }
+    ensures { IfOk result
+        (λ text. IsReportJson log.now.at log.now.bytes.now r.now wanted (string_bytes text)) }
 {
-    let report = report_shown(alloc, at, r, end, wanted)?;
-    let json = pretty_text(alloc, &report)?;
-    let mut text = spelled_out(alloc, json)?;
-    text.push('\n')?;
-    Ok(text)
+    let report = report_shown(alloc, log.at, r, end, wanted)?;
+    pretty_lines(alloc, &report)
 }

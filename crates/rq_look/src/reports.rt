@@ -6,9 +6,11 @@ ghost use Rattle.rq_model.specs.Reports.{IsText};
 ghost use Rattle.rq_record.specs.declared.fault.Fault.TheVariants.{Resources, WriteFailed};
 ghost use Rattle.rq_front.specs.Chains.{IsLog};
 ghost use Rattle.rq_found.specs.Ends.{IsRestartFrom, beginning_text};
+ghost use Rattle.rq_found.specs.Reasons.{IsReason};
 ghost use Rattle.rq_found.specs.Refusals.{CountsFaults};
 ghost use Rattle.rq_found.specs.declared.trouble.Trouble.TheVariants.{Log};
 ghost use Rattle.rq_judged.specs.FrontEnds.{IsEndOf};
+ghost use Rattle.rq_judged.specs.Views.{why_of};
 ghost use Rattle.rq_look.specs.Looks.{BreaksReport, HasQueue, LacksReport, PutsJson, PutsQueue};
 ghost use Rattle.rq_look.specs.Looks.{PutsReport, PutsReportAs, StaysUnreported};
 
@@ -43,21 +45,23 @@ fn restarted_with<R: Threads + Sync>(
 // Writes the report of a restart as one value of JSON.
 fn put_json<W: Output>(
     alloc: Global,
-    at: Option<u64>,
+    log: &ShownLog<'_>,
     restarted: &Restarted,
     end: &End,
     wanted: Option<u32>,
     output: &mut W,
 ) -> Result<(), Trouble>
     requires end { IsEndOf restarted.now end.now.front }
+    requires reason { IsReason log.now.at log.now.bytes.now (why_of end.now.front.why)
+        (string_bytes end.now.reason) }
     requires queue { HasQueue restarted.now wanted }
     requires faults { W.faults output.old < 18446744073709551615 }
-    ensures report { OnOk result (PutsJson at restarted.now wanted
+    ensures report { OnOk result (PutsJson log.now.at log.now.bytes.now restarted.now wanted
         (W.contents output.old) (W.contents output.new)) }
     ensures refused { IfErr result (BreaksReport (W.contents output.old) (W.contents output.new)) }
     ensures faults { CountsFaults (W.faults output.old) (W.faults output.new) result }
 {
-    let text = report_json(alloc, at, restarted, end, wanted)?;
+    let text = report_json(alloc, log, restarted, end, wanted)?;
     write_bytes(output, text.as_bytes())?;
     Ok(())
 }
@@ -193,7 +197,7 @@ pub fn report<R: Threads + Sync, W: Output>(
     let restarted = restarted_with(rt, alloc, log, wanted)?;
     if json {
         let end = End::after_restart(rt, alloc, log, &restarted)?;
-        put_json(alloc, log.at, &restarted, &end, wanted, output)
+        put_json(alloc, log, &restarted, &end, wanted, output)
     } else {
         put_text(rt, alloc, log, &restarted, wanted, output)
     }

@@ -1,37 +1,18 @@
-//! What one walk over the front of a log counts: records, units, payloads and queues.
+//! What one walk over the front of a log finds of its payloads, units and queues.
 
-ghost use Rattle.std.specs.Prelude.{◌≡◌, IfErr};
-ghost use Rattle.rq_record.specs.declared.fault.Fault.TheVariants.{Resources};
-
-use crate::rows::Value::{Number, Word};
-use crate::rows::{PAYLOADS, Row, UNITS, put_greatest};
-use rq_found::{
-    Effect, End, Event, Followed, Numbered, PlacedFrames, ShownLog, kind_of, queues_of,
-};
-use rq_front::FRAME_LEN;
+use crate::rows::{Row, put_greatest};
+use rq_found::TextPiece::{Number, Word};
+use rq_found::{Effect, Event, Numbered, queues_of};
 use rq_queue::Fate;
-use rq_record::{Fault, KeptRecord, Name, QueueNo, UnitNo};
+use rq_record::{KeptRecord, Name, QueueNo, UnitNo};
 use rq_standing::Machine;
 use rq_state::{Definition, State};
 use std::alloc::{AllocError, Global};
 use std::collections::BTreeMap;
 
-/// The records of a kind, and the bytes of their frames.
-#[derive(Clone, Copy)]
-pub(crate) struct Kind {
-    pub(crate) kind: &'static str,
-    pub(crate) records: u64,
-    pub(crate) bytes: u64,
-}
-
-/// What one walk over the front counts.
+/// What one walk over the front finds to be greatest.
 #[derive(Drop)]
 pub(crate) struct Measures {
-    /// By the number of the kind.
-    pub(crate) kinds: BTreeMap<u8, Kind>,
-    pub(crate) committed: u64,
-    pub(crate) aborted: u64,
-    pub(crate) cut_off: u64,
     /// The largest payloads, the largest first.
     pub(crate) loads: Vec<Row<'static>>,
     /// The units that were open longest, the longest first.
@@ -49,10 +30,6 @@ pub(crate) struct Measures {
 impl Measures {
     fn new(alloc: Global) -> Measures {
         Measures {
-            kinds: BTreeMap::new(alloc),
-            committed: 0,
-            aborted: 0,
-            cut_off: 0,
             loads: Vec::new(alloc),
             units: Vec::new(alloc),
             names: Vec::new(alloc),
@@ -82,32 +59,15 @@ impl Measures {
         Ok(())
     }
 
-    fn take_kind(&mut self, body: &[u8], kind: &'static str) -> Result<(), AllocError> {
-        let number = body.first().copied().unwrap_or(0);
-        let bytes = body.len().saturating_add(FRAME_LEN) as u64;
-        if let Some(known) = self.kinds.get_mut(&number) {
-            known.records = known.records.saturating_add(1);
-            known.bytes = known.bytes.saturating_add(bytes);
-            return Ok(());
-        }
-        let records = 1;
-        let kind = Kind {
-            kind,
-            records,
-            bytes,
-        };
-        self.kinds.insert(number, kind)?;
-        Ok(())
-    }
-
     fn end_unit(&mut self, unit: u64, number: u64, fate: &'static str) -> Result<(), AllocError> {
         let Some(begun) = self.begun.remove(&unit) else {
             return Ok(());
         };
         let rank = number.saturating_sub(begun);
         let row = Row {
-            sort: &UNITS,
-            fields: [Number(unit), Number(rank), Word(fate)],
+            first: Number(unit),
+            second: Number(rank),
+            third: Word(fate),
             rank,
         };
         put_greatest(&mut self.units, &row)
@@ -120,19 +80,14 @@ impl Measures {
                 self.begun.insert(unit.0, it.number)?;
                 Ok(())
             }
-            KeptRecord::Commit { unit } => {
-                self.committed = self.committed.saturating_add(1);
-                self.end_unit(unit.0, it.number, "committed")
-            }
-            KeptRecord::Abort { unit } => {
-                self.aborted = self.aborted.saturating_add(1);
-                self.end_unit(unit.0, it.number, "aborted")
-            }
+            KeptRecord::Commit { unit } => self.end_unit(unit.0, it.number, "committed"),
+            KeptRecord::Abort { unit } => self.end_unit(unit.0, it.number, "aborted"),
             KeptRecord::Enqueue { payload, .. } => {
                 let rank = payload.bytes().len() as u64;
                 let row = Row {
-                    sort: &PAYLOADS,
-                    fields: [Number(rank), Number(it.offset), Number(it.number)],
+                    first: Number(rank),
+                    second: Number(it.offset),
+                    third: Number(it.number),
                     rank,
                 };
                 put_greatest(&mut self.loads, &row)
@@ -152,53 +107,35 @@ impl Measures {
         }
     }
 
-    // A record, and what happens at it.
-    fn take(&mut self, body: &[u8], it: &Numbered, events: &[Event]) -> Result<(), AllocError> {
+    /// A record, and what happens at it.
+    pub(crate) fn take(&mut self, it: &Numbered, events: &[Event]) -> Result<(), AllocError> {
         self.take_events(events);
-        self.take_kind(body, kind_of(&it.record))?;
         self.take_record(it)
     }
 
-    // Does all records of the front.
-    fn walk(&mut self, frames: PlacedFrames<'_>, followed: &mut Followed) -> Result<(), Fault>
-        ensures { IfErr result (λ e. e ≡ Resources) }
-    {
-        for placed in frames {
-            let it = followed.follow(placed)?;
-            self.take(placed.body, &it, followed.events())?;
-        }
-        Ok(())
-    }
-
-    // Aborts the units that are open behind the front, as a restart does.
-    fn restart(&mut self, alloc: Global, followed: &mut Followed, number: u64) -> Result<(), Fault>
-        ensures { IfErr result (λ e. e ≡ Resources) }
-    {
-        for unit in followed.machine().open_units(alloc)? {
-            followed.abort(unit)?;
-            self.take_events(followed.events());
-            self.cut_off = self.cut_off.saturating_add(1);
-            self.end_unit(unit.0, number, "cut off")?;
-        }
-        Ok(())
-    }
-
-    // Does all of a front that begins behind a state, and its restart.
-    fn take_all(
+    /// What a restart makes of a unit that is open behind the front, where the next record has this
+    /// number.
+    pub(crate) fn cut_off(
         &mut self,
-        alloc: Global,
-        first: &State,
-        frames: PlacedFrames<'_>,
-        end: &End,
-    ) -> Result<(), Fault>
-        ensures { IfErr result (λ e. e ≡ Resources) }
-    {
-        let mut followed = Followed::of(alloc, first)?;
-        self.take_names(first.definitions())?;
-        self.take_units(first.units(), first.next())?;
-        self.walk(frames, &mut followed)?;
-        self.restart(alloc, &mut followed, end.front.next)?;
-        self.depths = depths_of(alloc, followed.machine())?;
+        unit: UnitNo,
+        number: u64,
+        events: &[Event],
+    ) -> Result<(), AllocError> {
+        self.take_events(events);
+        self.end_unit(unit.0, number, "cut off")
+    }
+
+    /// Before the first record of a front that begins behind a state.
+    pub(crate) fn begun(alloc: Global, first: &State) -> Result<Measures, AllocError> {
+        let mut measures = Measures::new(alloc);
+        measures.take_names(first.definitions())?;
+        measures.take_units(first.units(), first.next())?;
+        Ok(measures)
+    }
+
+    /// How many free elements each queue has in the end, by number.
+    pub(crate) fn take_depths(&mut self, alloc: Global, state: &Machine) -> Result<(), AllocError> {
+        self.depths = depths_of(alloc, state)?;
         Ok(())
     }
 }
@@ -210,15 +147,4 @@ fn depths_of(alloc: Global, state: &Machine) -> Result<Vec<u64>, AllocError> {
         depths.push(state.depth(QueueNo(queue)) as u64)?;
     }
     Ok(depths)
-}
-
-/// What the front of a log counts.
-pub(crate) fn counted(alloc: Global, log: &ShownLog<'_>, end: &End) -> Result<Measures, Fault>
-    ensures { IfErr result (λ e. e ≡ Resources) }
-{
-    let first = ShownLog::first_state(alloc, log.bytes, log.at)?;
-    let frames = PlacedFrames::front_frames(log.bytes, &first, log.at, end.front.used);
-    let mut measures = Measures::new(alloc);
-    measures.take_all(alloc, &first, frames, end)?;
-    Ok(measures)
 }

@@ -1,19 +1,23 @@
 //! Numbers of a log: as lines, and as JSON.
 
-ghost use Rattle.std.specs.Prelude.{◌≡◌, ◌<◌, ◌++◌, ℕ, List, IfOk, IfErr, OnOk, codes, string_bytes};
+ghost use Rattle.std.specs.Prelude.{◌≡◌, ◌<◌, ◌++◌, IfOk, IfErr, OnOk, string_bytes};
 ghost use Rattle.rq_model.specs.Fronts as fronts;
+ghost use Rattle.rq_model.specs.Reports.{why_text};
 ghost use Rattle.rq_record.specs.declared.fault.Fault.TheVariants.{Resources};
 ghost use Rattle.rq_front.specs.Chains.{IsLog};
 ghost use Rattle.rq_judged.specs.FrontEnds.{IsEndOf};
 ghost use Rattle.rq_judged.specs.Views.{why_of};
 ghost use Rattle.rq_found.specs.Ends.{IsRestartFrom, beginning_text, end_text};
+ghost use Rattle.rq_found.specs.Objects.{front_members, object_of, pretty_lines};
+ghost use Rattle.rq_found.specs.Reasons.{IsReason};
 ghost use Rattle.rq_found.specs.Refusals.{CountsFaults, StaysUnshown};
 ghost use Rattle.rq_found.specs.declared.trouble.Trouble.TheVariants.{Log};
-ghost use Rattle.rq_stats.specs.Statistics.{AreNumbers, PutsNumbers};
+ghost use Rattle.rq_stats.specs.Statistics.{AreNumbers, IsNumberText, PutsNumbers};
+ghost use Rattle.rq_stats.specs.Statistics.{number_lines, number_members, numbers_in};
 
-use crate::measures::{Measures, counted};
-use crate::shown::{StatisticsShown, lines_of, rows_of};
-use rq_found::{End, FrontShown, Output, ShownLog, Trouble, write_bytes};
+use crate::counts::counted;
+use crate::tables::{Tables, put_lines, tables_of, tables_shown};
+use rq_found::{End, Output, ShownLog, Trouble, pretty_lines, write_bytes};
 use std::alloc::{AllocError, Global};
 use std::thread::Threads;
 
@@ -22,47 +26,70 @@ fn text_of(
     alloc: Global,
     at: Option<u64>,
     end: &End,
-    measures: &Measures,
+    tables: &Tables<'_>,
 ) -> Result<String, AllocError>
-    ensures { IfOk result (λ text. (lines : List ℕ) × (string_bytes text
+    ensures { IfOk result (λ text. string_bytes text
         ≡ beginning_text at ++ (end_text end.now.front.next end.now.front.used end.now.front.total
-        (why_of end.now.front.why) (string_bytes end.now.reason) ++ lines))) }
+        (why_of end.now.front.why) (string_bytes end.now.reason)
+        ++ number_lines (numbers_in tables.now))) }
 {
-    let lines = lines_of(alloc, measures)?;
     let mut text = String::new(alloc);
     End::put_beginning(&mut text, at)?;
     End::put_end(&mut text, end)?;
-    text.push_str(lines.as_str())?;
+    put_lines(&mut text, tables)?;
     Ok(text)
 }
 
-// The same as one value of JSON. What it holds of a log are names, which have no character that is
-// hidden.
-fn json_of(alloc: Global, end: &End, measures: &Measures) -> Result<String, Trouble>
-    ensures line { IfOk result
-        (λ text. (object : List ℕ) × (string_bytes text ≡ object ++ codes "\n")) }
-    ensures refused { IfErr result (λ e. e ≡ Log Resources) }
+// The same as one value of JSON.
+fn json_of(
+    alloc: Global,
+    at: Option<u64>,
+    end: &End,
+    tables: &Tables<'_>,
+) -> Result<String, AllocError>
+    ensures { IfOk result (λ text. string_bytes text
+        ≡ pretty_lines (object_of (number_members (object_of (front_members at
+        end.now.front.next end.now.front.used end.now.front.total
+        (why_text (why_of end.now.front.why)) (string_bytes end.now.reason)))
+        (numbers_in tables.now)))) }
 {
-    let (front, rows) = (FrontShown::of(end), rows_of(alloc, measures)?);
-    let mut text = serde_json::to_string_pretty(alloc, &StatisticsShown { front, rows: &rows })?;
-    text.push('\n')?;
-    Ok(text)
+    let front = End::shown(alloc, at, end)?;
+    let shown = tables_shown(alloc, front, tables)?;
+    pretty_lines(alloc, &shown)
+}
+
+// Rows of numbers, in the form that is wanted.
+fn form_of(
+    alloc: Global,
+    at: Option<u64>,
+    end: &End,
+    tables: &Tables<'_>,
+    json: bool,
+) -> Result<String, AllocError>
+    ensures { IfOk result (λ text. (r : fronts.Restarted) → IsEndOf r end.now.front
+        → IsNumberText at json r (string_bytes end.now.reason) (numbers_in tables.now)
+        (string_bytes text)) }
+{
+    if json {
+        json_of(alloc, at, end, tables)
+    } else {
+        text_of(alloc, at, end, tables)
+    }
 }
 
 // The numbers of a front of which the end is known.
 fn numbers_of(alloc: Global, log: &ShownLog<'_>, end: &End, json: bool) -> Result<String, Trouble>
     requires end { (r : fronts.Restarted) × IsRestartFrom log.now.at log.now.bytes.now r
         × IsEndOf r end.now.front }
+    requires reason { IsReason log.now.at log.now.bytes.now (why_of end.now.front.why)
+        (string_bytes end.now.reason) }
     ensures numbers { IfOk result
         (λ text. AreNumbers log.now.at log.now.bytes.now json (string_bytes text)) }
     ensures refused { IfErr result (λ e. e ≡ Log Resources) }
 {
-    let measures: Measures = counted(alloc, log, end)?;
-    if json {
-        let object = json_of(alloc, end, &measures)?;
-        return Ok(object);
-    }
-    let text = text_of(alloc, log.at, end, &measures)?;
+    let (counts, measures) = counted(alloc, log, end)?;
+    let tables = tables_of(alloc, &counts, &measures)?;
+    let text = form_of(alloc, log.at, end, &tables, json)?;
     Ok(text)
 }
 

@@ -1,7 +1,8 @@
 use Rattle.std.proofs.Common.{Bool, List, ℕ, refl, sym, subst}
 use Rattle.rq_look.specs.Dumps.{IsCountLine}
 use Rattle.rq_look.specs.Findings.{behind_text}
-use Rattle.rq_look.specs.Objects.{behind_members, object_line}
+use Rattle.rq_found.specs.Objects.{object_line}
+use Rattle.rq_look.specs.Objects.{behind_members}
 use Rattle.rq_look.proofs.Puts.{then_ok}
 use Rattle.rq_look.proofs.dumps.put_counted.Goals as goal
 

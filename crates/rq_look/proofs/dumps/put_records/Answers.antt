@@ -5,8 +5,8 @@ use Rattle.rq_record.specs.Views.{version_of}
 use Rattle.rq_found.specs.Records.{front_at}
 use Rattle.rq_found.specs.declared.frames.PlacedFrames.{PlacedFrames}
 use Rattle.rq_look.proofs.Dumped.{first_ahead, goes_on, same_frame, enough, ended}
-use Rattle.rq_look.proofs.FrontEnds.{used_within}
-use Rattle.rq_look.proofs.ShownFronts.{first_is}
+use Rattle.rq_found.proofs.ShownFronts.{used_within}
+use Rattle.rq_found.proofs.ShownFronts.{first_is}
 use Rattle.rq_look.proofs.dumps.put_records.Goals as goal
 use Rattle.rq_look.proofs.dumps.put_records.Goals.{then-is_wanted, else-is_wanted}
 

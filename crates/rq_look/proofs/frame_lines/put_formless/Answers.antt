@@ -1,6 +1,7 @@
 use Rattle.std.proofs.Common.{Bool, refl, sym, subst}
 use Rattle.rq_look.specs.Dumps.{IsFormless, formless_line}
-use Rattle.rq_look.specs.Objects.{formless_members, object_line}
+use Rattle.rq_found.specs.Objects.{object_line}
+use Rattle.rq_look.specs.Objects.{formless_members}
 use Rattle.rq_look.proofs.Puts.{then_ok}
 use Rattle.rq_look.proofs.frame_lines.put_formless.Goals as goal
 

@@ -2,7 +2,8 @@ use Rattle.std.proofs.Common.{◌++◌, Bool, codes, refl, sym, subst, string_by
 use Rattle.rq_look.specs.Dumps.{IsLineOf}
 use Rattle.rq_look.specs.Entries.{shown_entry}
 use Rattle.rq_look.specs.Lines.{record_line}
-use Rattle.rq_look.specs.Objects.{object_line, record_members}
+use Rattle.rq_found.specs.Objects.{object_line}
+use Rattle.rq_look.specs.Objects.{record_members}
 use Rattle.rq_look.proofs.Gathered.{once_put, put_more}
 use Rattle.rq_look.proofs.Puts.{then_ok}
 use Rattle.rq_look.proofs.frame_lines.put_shown.Goals as goal

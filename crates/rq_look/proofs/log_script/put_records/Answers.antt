@@ -2,8 +2,8 @@ use Rattle.std.proofs.Common.{ℕ, ◌∙◌, string_bytes, drop, take, ap, arit
 use Rattle.std.proofs.lemmas.Result.{err_from_is_err_and}
 use Rattle.rq_found.specs.Records.{front_at}
 use Rattle.rq_found.specs.declared.frames.PlacedFrames.{PlacedFrames}
-use Rattle.rq_look.proofs.FrontEnds.{used_within}
-use Rattle.rq_look.proofs.ShownFronts.{first_is}
+use Rattle.rq_found.proofs.ShownFronts.{used_within}
+use Rattle.rq_found.proofs.ShownFronts.{first_is}
 use Rattle.rq_look.proofs.Scripts.{begun, goes_on, ended, left_out}
 use Rattle.rq_look.proofs.log_script.put_records.Goals as goal
 

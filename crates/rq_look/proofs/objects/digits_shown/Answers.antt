@@ -1,7 +1,7 @@
 use Rattle.std.proofs.Common.{◌∙◌, ap}
 use Rattle.serde_json.specs.Data.{string}
 use Rattle.rq_report.proofs.Digits.{digits_are}
-use Rattle.rq_look.proofs.Members.{made_shown}
+use Rattle.rq_found.proofs.Members.{made_shown}
 use Rattle.rq_look.proofs.objects.digits_shown.Goals as goal
 
 pub returns : goal.returns

@@ -1,8 +1,10 @@
 use Rattle.std.proofs.Common.{◌≡◌, ◌++◌, ◌∙◌, List, ℕ, ap, rules, subst, sym}
 use Rattle.std.specs.Prelude.{OnOk, Some, codes}
 use Rattle.serde_json.specs.Data.{Data, string}
-use Rattle.rq_look.specs.Objects.{members_shown, text_in, with_name}
-use Rattle.rq_look.proofs.Members.{no_text_is, text_is, word_shown}
+use Rattle.rq_found.specs.Objects.{members_shown, with_name}
+use Rattle.rq_look.specs.Objects.{text_in}
+use Rattle.rq_found.proofs.Members.{word_shown}
+use Rattle.rq_look.proofs.Members.{no_text_is, text_is}
 use Rattle.rq_look.proofs.objects.put_text.Goals as goal
 
 pub returns-in-Ok : goal.returns-in-Ok

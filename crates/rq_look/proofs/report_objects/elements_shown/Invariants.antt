@@ -1,5 +1,5 @@
 use Rattle.std.proofs.Common.{◌≡◌, map, take}
-use Rattle.rq_look.specs.Objects.{value_shown}
+use Rattle.rq_found.specs.Objects.{value_shown}
 use Rattle.rq_look.specs.ReportObjects.{element_object}
 use Rattle.rq_look.proofs.report_objects.elements_shown.Given as goal
 

@@ -1,6 +1,6 @@
 use Rattle.std.proofs.Common.{◌∙◌, ◌++◌, ap, codes}
-use Rattle.rq_look.specs.Objects.{as_list, members_shown, with_name}
-use Rattle.rq_look.proofs.Members.{both_put, if_put}
+use Rattle.rq_found.specs.Objects.{as_list, members_shown, with_name}
+use Rattle.rq_found.proofs.Members.{both_put, if_put}
 use Rattle.rq_look.proofs.report_objects.put_held.Goals as goal
 
 pub returns : goal.returns

@@ -1,6 +1,6 @@
 use Rattle.std.proofs.Common.{◌≡◌, ◌++◌, codes, subst, rules}
-use Rattle.rq_look.specs.Objects.{Named, members_shown, whole, with_name}
-use Rattle.rq_look.proofs.Members.{both_put, if_put, number_put}
+use Rattle.rq_found.specs.Objects.{Named, members_shown, whole, with_name}
+use Rattle.rq_found.proofs.Members.{both_put, if_put, number_put}
 use Rattle.rq_look.proofs.report_objects.put_numbers.Goals as goal
 
 pub returns : goal.returns

@@ -1,9 +1,9 @@
 use Rattle.std.proofs.Common.{List, [], ◌∷◌, map, subst, sym, arith, append-nil}
 use Rattle.serde_json.specs.Data.{Data}
 use Rattle.rq_model.specs.States.{Definition}
-use Rattle.rq_look.specs.Objects.{value_shown}
+use Rattle.rq_found.specs.Objects.{value_shown}
 use Rattle.rq_look.specs.ReportObjects.{AreObjectsOf}
-use Rattle.rq_look.proofs.Members.{shown_before}
+use Rattle.rq_found.proofs.Members.{shown_before}
 use Rattle.rq_look.proofs.Queues.{next_queue, no_more_queues}
 use Rattle.rq_look.proofs.report_objects.queues_shown.Goals as goal
 

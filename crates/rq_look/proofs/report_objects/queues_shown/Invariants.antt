@@ -1,6 +1,6 @@
 use Rattle.std.proofs.Common.{◌≤◌, ◌++◌, List, map}
 use Rattle.serde_json.specs.Data.{Data}
-use Rattle.rq_look.specs.Objects.{value_shown}
+use Rattle.rq_found.specs.Objects.{value_shown}
 use Rattle.rq_look.specs.ReportObjects.{AreObjectsOf}
 use Rattle.rq_look.proofs.report_objects.queues_shown.Given as goal
 

@@ -1,6 +1,6 @@
 use Rattle.std.proofs.Common.{◌≡◌, map, take}
 use Rattle.rq_found.specs.Records.{registrant_told}
-use Rattle.rq_look.specs.Objects.{value_shown}
+use Rattle.rq_found.specs.Objects.{value_shown}
 use Rattle.rq_look.specs.ReportObjects.{registrant_object}
 use Rattle.rq_look.proofs.report_objects.registrants_shown.Given as goal
 

@@ -1,6 +1,8 @@
 use Rattle.std.proofs.Common.{◌∙◌, ◌-◌, ℕ, subst, string_bytes}
 use Rattle.std.specs.List.{list_all}
+use Rattle.rq_model.specs.Fronts.{Why}
 use Rattle.rq_found.specs.Diagnoses.{diagnosis_of}
+use Rattle.rq_found.specs.Reasons.{IsReason}
 use Rattle.rq_look.specs.Findings.{findings_text, all_fine, IsBehind, may_have_right}
 use Rattle.rq_look.proofs.FrontEnds.{ends_within}
 use Rattle.rq_look.proofs.checks.Findings.of.Goals as goal
@@ -24,6 +26,7 @@ returns-clause-checked g c =
       behind,
       reason,
       end.1,
+      subst (λ (w : Why). IsReason at b w reason) end.2.why c.in_ok-end.ensures.reason,
       c.in_ok-checkpoints.ensures.found,
       subst (λ (used : ℕ). IsBehind b used behind) end.2.used c.in_ok-behind.ensures.found,
       is.fine ∙ (λ i. all_fine (end.2.why i) (all i)),

@@ -1,5 +1,0 @@
-use Rattle.rq_look.proofs.Members.{group_shown}
-use Rattle.rq_look.proofs.objects.grouped.Goals as goal
-
-pub returns : goal.returns
-returns c = group_shown c.args.members
