@@ -1,3 +1,4 @@
+pub mod Judged
 pub mod Lines
 pub mod Members
 pub mod ShownFronts

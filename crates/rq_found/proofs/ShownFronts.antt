@@ -71,6 +71,7 @@ pub record IsNext (at : Option ℕ) (b : List ℕ) (version : Version) (base : S
     (behind place rest : List ℕ) : Type 0 where
   pub r : Record
   pub others : List Record
+  pub first : todo ≡ r ∷ others
   pub is : Spells Two r (body_in rest)
   pub front : IsShownFront at b version base (done ++ r ∷ others) behind
   pub left : drop (36 + stated rest) rest ≡ frames_of (digest place (body_of r)) others
@@ -87,6 +88,7 @@ next_of at b version base done (r ∷ others) behind place rest front left room 
     record {
       r = r;
       others = others;
+      first = refl;
       is = (as_two version r is, ap body_in left ∙ reads.body_is);
       front = front;
       left = ap (λ (z : List ℕ). drop (36 + stated z) z) left ∙ reads.after_is;

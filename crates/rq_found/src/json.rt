@@ -26,7 +26,11 @@ fn put_front<'a>(members: &mut Members<'a>, at: Option<u64>, end: &'a End) -> Pu
 
 impl End {
     /// Where a front ends as an object, of a log that begins so.
-    pub fn shown<'a>(alloc: Global, at: Option<u64>, end: &'a End) -> Result<Shown<'a>, AllocError>
+    pub fn as_object<'a>(
+        alloc: Global,
+        at: Option<u64>,
+        end: &'a End,
+    ) -> Result<Shown<'a>, AllocError>
         ensures { IfOk result (λ v. value_shown v ≡ object_of (front_members at
             end.now.front.next end.now.front.used end.now.front.total
             (why_text (why_of end.now.front.why)) (string_bytes end.now.reason))) }

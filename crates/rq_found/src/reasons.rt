@@ -92,16 +92,18 @@ pub(crate) fn reason_of<R: Threads + Sync>(
     ensures refused { IfErr result (λ e. e ≡ Resources) }
 {
     let (before, rest) = log.bytes.split_at(log.bytes.len().min(end.used as usize));
-    let reason = match end.why {
-        Why::Whole => String::from_str(alloc, "nothing follows")?,
-        Why::Cut => cut_reason(alloc, rest)?,
-        Why::Length => length_reason(alloc, rest)?,
-        Why::Chain => chain_reason(alloc, before, rest)?,
+    match end.why {
+        Why::Whole => Ok(String::from_str(alloc, "nothing follows")?),
+        Why::Cut => Ok(cut_reason(alloc, rest)?),
+        Why::Length => Ok(length_reason(alloc, rest)?),
+        Why::Chain => Ok(chain_reason(alloc, before, rest)?),
         Why::Form => {
             let version = version(log.bytes).unwrap_or(Version::Two);
-            form_reason(alloc, version, body_of(rest))?
+            Ok(form_reason(alloc, version, body_of(rest))?)
         }
-        Why::Law => rule_reason(alloc, &broken_rule(rt, alloc, log)?)?,
-    };
-    Ok(reason)
+        Why::Law => {
+            let rule = broken_rule(rt, alloc, log)?;
+            Ok(rule_reason(alloc, &rule)?)
+        }
+    }
 }

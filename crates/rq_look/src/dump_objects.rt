@@ -203,7 +203,7 @@ pub(crate) fn put_closing_object(
         (why_text (why_of end.now.front.why)) (string_bytes end.now.reason))) }
 {
     let mut members = Vec::new(alloc);
-    let front = End::shown(alloc, at, end)?;
+    let front = End::as_object(alloc, at, end)?;
     put_value(&mut members, "front", front)?;
     put_object(alloc, text, members)
 }

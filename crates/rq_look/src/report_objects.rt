@@ -229,7 +229,7 @@ fn report_shown<'a>(
         (string_bytes end.now.reason)) r.now queues))) }
 {
     let mut members = Vec::new(alloc);
-    let front = End::shown(alloc, at, end)?;
+    let front = End::as_object(alloc, at, end)?;
     put_value(&mut members, "front", front)?;
     let units = units_shown(alloc, r)?;
     put_value(&mut members, "units", units)?;

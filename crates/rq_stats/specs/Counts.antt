@@ -21,8 +21,8 @@ abbrev pub of_kind : List ℕ → List Record → List Record
 of_kind word rs = filter (λ r. bytes_eq (kind_word r) word) rs
 
 -- the bytes of a record's frame: its length, its body and its digest
-abbrev pub frame_bytes : Record → ℕ
-frame_bytes r = 36 + length (body_of r)
+abbrev pub framed_bytes : Record → ℕ
+framed_bytes r = 36 + length (body_of r)
 
 -- a kind, how many records are of it, and the bytes of their frames
 abbrev pub Count : Type 0
@@ -32,7 +32,7 @@ abbrev pub count_of : List ℕ → List Record → ℕ
 count_of word rs = length (of_kind word rs)
 
 abbrev pub kind_count : List Record → List ℕ → Count
-kind_count rs word = (word, count_of word rs, sum (map frame_bytes (of_kind word rs)))
+kind_count rs word = (word, count_of word rs, sum (map framed_bytes (of_kind word rs)))
 
 -- of each kind
 abbrev pub kind_counts : List Record → List Count

@@ -22,24 +22,24 @@ field_value (Said word) = string word
 field_value (Counted n) = whole n
 
 -- three fields
-abbrev pub Fields : Type 0
-Fields = Field × Field × Field
+abbrev pub RowFields : Type 0
+RowFields = Field × Field × Field
 
 -- the line of a row: these words before each field, and behind the last
-abbrev pub row_line : List ℕ → List ℕ → List ℕ → List ℕ → Fields → List ℕ
+abbrev pub row_line : List ℕ → List ℕ → List ℕ → List ℕ → RowFields → List ℕ
 row_line a b c d r =
     a ++ (field_text r.0 ++ (b ++ (field_text r.1 ++ (c ++ (field_text r.2 ++ d)))))
 
 -- its object: the fields by these names
-abbrev pub row_members : List ℕ → List ℕ → List ℕ → Fields → Named
+abbrev pub row_members : List ℕ → List ℕ → List ℕ → RowFields → Named
 row_members a b c r = with_name a (field_value r.0)
     ++ (with_name b (field_value r.1) ++ with_name c (field_value r.2))
 
-abbrev pub row_object : List ℕ → List ℕ → List ℕ → Fields → Data
+abbrev pub row_object : List ℕ → List ℕ → List ℕ → RowFields → Data
 row_object a b c r = object_of (row_members a b c r)
 
 -- the row of a kind, if there are records of it
-abbrev pub kind_rows : Count → List Fields
+abbrev pub kind_rows : Count → List RowFields
 kind_rows k = if k.1 == 0 then [] else (Said k.0, Counted k.1, Counted k.2) ∷ []
 
 -- what the code's values stand for
@@ -47,5 +47,5 @@ abbrev pub field_of : TextPiece → Field
 field_of (Word word) = Said word.now
 field_of (Number n) = Counted n
 
-abbrev pub fields_of : Row → Fields
+abbrev pub fields_of : Row → RowFields
 fields_of r = (field_of r.first, field_of r.second, field_of r.third)

@@ -12,62 +12,62 @@ use Rattle.rq_found.specs.Fronts.{IsShownFront}
 use Rattle.rq_found.specs.Objects.{Named, as_list, front_members, object_of, pretty_lines, with_name}
 use Rattle.rq_found.specs.Reasons.{IsReason}
 use Rattle.rq_stats.specs.Counts.{kind_counts, outcomes_of}
-use Rattle.rq_stats.specs.Rows.{Counted, Fields, fields_of, kind_rows, row_line, row_members, row_object}
+use Rattle.rq_stats.specs.Rows.{Counted, RowFields, fields_of, kind_rows, row_line, row_members, row_object}
 use Rattle.rq_stats.specs.declared.tables.Tables.{Tables}
 
 -- rows of each sort: records by kind, how units ended, the largest payloads, the units that were open
 -- longest, the deepest queues, and those to which most elements moved
 pub record Numbers : Type 0 where
-  pub kinds : List Fields
-  pub outcomes : Fields
-  pub payloads : List Fields
-  pub units : List Fields
-  pub depths : List Fields
-  pub moves : List Fields
+  pub kinds : List RowFields
+  pub outcomes : RowFields
+  pub payloads : List RowFields
+  pub units : List RowFields
+  pub depths : List RowFields
+  pub moves : List RowFields
 
 -- Lines.
 
-abbrev pub outcome_line : Fields → List ℕ
+abbrev pub outcome_line : RowFields → List ℕ
 outcome_line r = row_line (codes "units ") (codes " committed, ") (codes " aborted, ") (codes " cut off\n") r
 
-abbrev pub kind_line : Fields → List ℕ
+abbrev pub kind_line : RowFields → List ℕ
 kind_line r = row_line (codes "") (codes " ") (codes " records, ") (codes " bytes\n") r
 
-abbrev pub payload_line : Fields → List ℕ
+abbrev pub payload_line : RowFields → List ℕ
 payload_line r =
     row_line (codes "payload of ") (codes " bytes at ") (codes ", record ") (codes "\n") r
 
-abbrev pub unit_line : Fields → List ℕ
-unit_line r = row_line (codes "unit ") (codes " open for ") (codes " records, ") (codes "\n") r
+abbrev pub longest_line : RowFields → List ℕ
+longest_line r = row_line (codes "unit ") (codes " open for ") (codes " records, ") (codes "\n") r
 
-abbrev pub depth_line : Fields → List ℕ
+abbrev pub depth_line : RowFields → List ℕ
 depth_line r = row_line (codes "queue ") (codes " ") (codes " ") (codes " free elements\n") r
 
-abbrev pub move_line : Fields → List ℕ
+abbrev pub move_line : RowFields → List ℕ
 move_line r =
     row_line (codes "queue ") (codes " ") (codes " ") (codes " elements moved there by aborts\n") r
 
 -- of all rows
 abbrev pub number_lines : Numbers → List ℕ
 number_lines n = flat_map kind_line n.kinds ++ (outcome_line n.outcomes
-    ++ (flat_map unit_line n.units ++ (flat_map payload_line n.payloads
+    ++ (flat_map longest_line n.units ++ (flat_map payload_line n.payloads
     ++ (flat_map depth_line n.depths ++ flat_map move_line n.moves))))
 
 -- Objects.
 
-abbrev pub kind_object : Fields → Data
+abbrev pub kind_object : RowFields → Data
 kind_object r = row_object (codes "kind") (codes "records") (codes "bytes") r
 
-abbrev pub payload_object : Fields → Data
+abbrev pub payload_object : RowFields → Data
 payload_object r = row_object (codes "bytes") (codes "offset") (codes "record") r
 
-abbrev pub unit_object : Fields → Data
+abbrev pub unit_object : RowFields → Data
 unit_object r = row_object (codes "unit") (codes "records") (codes "fate") r
 
-abbrev pub queue_object : Fields → Data
+abbrev pub queue_object : RowFields → Data
 queue_object r = row_object (codes "queue") (codes "name") (codes "elements") r
 
-abbrev pub outcome_object : Fields → Data
+abbrev pub outcome_object : RowFields → Data
 outcome_object r = row_object (codes "committed") (codes "aborted") (codes "cut_off") r
 
 -- what is greatest
@@ -114,8 +114,8 @@ abbrev pub numbers_in : Tables → Numbers
 numbers_in t = record {
   kinds = map fields_of t.kinds.items;
   outcomes = fields_of t.outcomes;
-  payloads = map fields_of t.payloads.items;
-  units = map fields_of t.units.items;
+  payloads = map fields_of t.payloads.now;
+  units = map fields_of t.units.now;
   depths = map fields_of t.depths.items;
   moves = map fields_of t.moves.items;
 }

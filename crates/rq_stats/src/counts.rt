@@ -19,7 +19,7 @@ use std::alloc::Global;
 
 /// How many records of each kind a front has, and how many units are open behind it.
 #[derive(Drop)]
-pub(crate) struct Counts {
+pub(crate) struct Tally {
     pub(crate) kinds: Kinds,
     pub(crate) cut_off: u64,
 }
@@ -42,6 +42,7 @@ fn walk(
         followed.new.machine (map kind_told kinds)) }
     ensures refused { IfErr result (λ e. e ≡ Resources) }
 {
+    rq_model::versions();
     let mut kinds = no_records();
     for placed in PlacedFrames::front_frames(log.bytes, first, log.at, used) {
         let it = followed.follow(placed)?;
@@ -63,7 +64,7 @@ fn restart(
 {
     for unit in followed.machine().open_units(alloc)? {
         followed.abort(unit)?;
-        measures.cut_off(unit, number, followed.events())?;
+        measures.take_abort(unit, number, followed.events())?;
     }
     Ok(())
 }
@@ -73,7 +74,7 @@ pub(crate) fn counted(
     alloc: Global,
     log: &ShownLog<'_>,
     end: &End,
-) -> Result<(Counts, Measures), Fault>
+) -> Result<(Tally, Measures), Fault>
     requires end { (r : Restarted) × IsRestartFrom log.now.at log.now.bytes.now r
         × IsEndOf r end.now.front }
     ensures counts { IfOk result (λ found. AreCounted log.now.at log.now.bytes.now
@@ -87,5 +88,5 @@ pub(crate) fn counted(
     let cut_off = followed.machine().open_count() as u64;
     restart(alloc, &mut followed, &mut measures, end.front.next)?;
     measures.take_depths(alloc, followed.machine())?;
-    Ok((Counts { kinds, cut_off }, measures))
+    Ok((Tally { kinds, cut_off }, measures))
 }

@@ -4,7 +4,7 @@ ghost use Rattle.std.specs.Prelude.{◌≡◌, ◌∷◌, ◌++◌, ◌+◌, ◌
 ghost use Rattle.rq_model.specs.Records.{Record};
 ghost use Rattle.rq_model.specs.Spelling.{body_of};
 ghost use Rattle.rq_record.specs.Views.{record_of};
-ghost use Rattle.rq_stats.specs.Counts.{frame_bytes, kind_counts, kind_place, kind_told};
+ghost use Rattle.rq_stats.specs.Counts.{framed_bytes, kind_counts, kind_place, kind_told};
 
 use rq_front::FRAME_LEN;
 use rq_record::KeptRecord;
@@ -73,11 +73,11 @@ fn place_of(record: &KeptRecord) -> usize
     }
 }
 
-/// Counts a record with its body.
+/// Tally a record with its body.
 pub(crate) fn count(kinds: &mut Kinds, record: &KeptRecord, body: &[u8])
     ensures { (done : List Record) → map kind_told kinds.old ≡ kind_counts done
         → body.now ≡ body_of (record_of record.now)
-        → sum (map frame_bytes (done ++ record_of record.now ∷ [])) < 18446744073709551616
+        → sum (map framed_bytes (done ++ record_of record.now ∷ [])) < 18446744073709551616
         → map kind_told kinds.new ≡ kind_counts (done ++ record_of record.now ∷ []) }
 {
     let place = place_of(record);

@@ -115,7 +115,7 @@ impl Measures {
 
     /// What a restart makes of a unit that is open behind the front, where the next record has this
     /// number.
-    pub(crate) fn cut_off(
+    pub(crate) fn take_abort(
         &mut self,
         unit: UnitNo,
         number: u64,

@@ -35,7 +35,14 @@ pub(crate) fn put_greatest<'a>(told: &mut Vec<Row<'a>>, row: &Row<'a>) -> Result
 }
 
 /// Puts the line of a row: a word before each field, and one behind the last.
-pub(crate) fn put_row(text: &mut String, row: &Row<'_>, a: &str, b: &str, c: &str, d: &str) -> Put
+pub(crate) fn put_fields(
+    text: &mut String,
+    row: &Row<'_>,
+    a: &str,
+    b: &str,
+    c: &str,
+    d: &str,
+) -> Put
     ensures { OnOk result (string_bytes text.new
         ≡ string_bytes text.old ++ row_line a.now b.now c.now d.now (fields_of row.now)) }
 {
@@ -64,7 +71,7 @@ pub(crate) fn put_rows(
         ++ flat_map (row_line a.now b.now c.now d.now) (map fields_of rows.now)) }
 {
     for row in rows {
-        put_row(text, row, a, b, c, d)?;
+        put_fields(text, row, a, b, c, d)?;
     }
     Ok(())
 }

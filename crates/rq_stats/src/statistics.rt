@@ -53,7 +53,7 @@ fn json_of(
         (why_text (why_of end.now.front.why)) (string_bytes end.now.reason)))
         (numbers_in tables.now)))) }
 {
-    let front = End::shown(alloc, at, end)?;
+    let front = End::as_object(alloc, at, end)?;
     let shown = tables_shown(alloc, front, tables)?;
     pretty_lines(alloc, &shown)
 }
@@ -87,8 +87,8 @@ fn numbers_of(alloc: Global, log: &ShownLog<'_>, end: &End, json: bool) -> Resul
         (λ text. AreNumbers log.now.at log.now.bytes.now json (string_bytes text)) }
     ensures refused { IfErr result (λ e. e ≡ Log Resources) }
 {
-    let (counts, measures) = counted(alloc, log, end)?;
-    let tables = tables_of(alloc, &counts, &measures)?;
+    let found = counted(alloc, log, end)?;
+    let tables = tables_of(alloc, &found.0, &found.1)?;
     let text = form_of(alloc, log.at, end, &tables, json)?;
     Ok(text)
 }

@@ -7,10 +7,10 @@ ghost use Rattle.rq_stats.specs.Counts.{count_at, kind_told};
 ghost use Rattle.rq_stats.specs.Rows.{Counted, fields_of, kind_rows, row_object};
 ghost use Rattle.rq_stats.specs.Statistics.{greatest_members, number_lines, number_members, numbers_in};
 
-use crate::counts::Counts;
+use crate::counts::Tally;
 use crate::kinds::{ABORTS, COMMITS, Kind};
 use crate::measures::Measures;
-use crate::rows::{Row, put_greatest, put_row, put_rows, row_shown, rows_shown};
+use crate::rows::{Row, put_fields, put_greatest, put_rows, row_shown, rows_shown};
 use rq_found::TextPiece::{Number, Word};
 use rq_found::{Members, Put, Shown, grouped, put_value};
 use rq_record::Name;
@@ -24,9 +24,9 @@ pub(crate) struct Tables<'a> {
     /// How many units committed, how many aborted, and how many were cut off.
     pub(crate) outcomes: Row<'a>,
     /// The bytes of a payload, its frame's offset and its record.
-    pub(crate) payloads: Vec<Row<'a>>,
+    pub(crate) payloads: &'a [Row<'a>],
     /// A unit, over how many records it was open, and its fate.
-    pub(crate) units: Vec<Row<'a>>,
+    pub(crate) units: &'a [Row<'a>],
     /// A queue, its name and its free elements.
     pub(crate) depths: Vec<Row<'a>>,
     /// A queue, its name and the elements that moved there.
@@ -39,7 +39,7 @@ pub(crate) fn put_lines(text: &mut String, tables: &Tables<'_>) -> Put
         ≡ string_bytes text.old ++ number_lines (numbers_in tables.now)) }
 {
     put_rows(text, &tables.kinds, "", " ", " records, ", " bytes\n")?;
-    put_row(
+    put_fields(
         text,
         &tables.outcomes,
         "units ",
@@ -49,7 +49,7 @@ pub(crate) fn put_lines(text: &mut String, tables: &Tables<'_>) -> Put
     )?;
     put_rows(
         text,
-        &tables.units,
+        tables.units,
         "unit ",
         " open for ",
         " records, ",
@@ -57,7 +57,7 @@ pub(crate) fn put_lines(text: &mut String, tables: &Tables<'_>) -> Put
     )?;
     put_rows(
         text,
-        &tables.payloads,
+        tables.payloads,
         "payload of ",
         " bytes at ",
         ", record ",
@@ -97,14 +97,8 @@ fn put_lists<'a>(alloc: Global, members: &mut Members<'a>, tables: &Tables<'a>) 
 {
     let (payload, unit) = (("bytes", "offset", "record"), ("unit", "records", "fate"));
     let queue = ("queue", "name", "elements");
-    put_list(
-        alloc,
-        members,
-        "largest_payloads",
-        &tables.payloads,
-        payload,
-    )?;
-    put_list(alloc, members, "longest_units", &tables.units, unit)?;
+    put_list(alloc, members, "largest_payloads", tables.payloads, payload)?;
+    put_list(alloc, members, "longest_units", tables.units, unit)?;
     put_list(alloc, members, "deepest_queues", &tables.depths, queue)?;
     put_list(alloc, members, "error_moves", &tables.moves, queue)
 }
@@ -185,7 +179,7 @@ fn queues_of<'a>(
 }
 
 // How units ended.
-fn outcomes_row<'a>(counts: &Counts) -> Row<'a>
+fn outcomes_row<'a>(counts: &Tally) -> Row<'a>
     ensures { fields_of result ≡ (
       Counted (count_at counts.now.kinds 6),
       Counted (count_at counts.now.kinds 7),
@@ -203,7 +197,7 @@ fn outcomes_row<'a>(counts: &Counts) -> Row<'a>
 /// The rows of what was counted.
 pub(crate) fn tables_of<'a>(
     alloc: Global,
-    counts: &Counts,
+    counts: &Tally,
     measures: &'a Measures,
 ) -> Result<Tables<'a>, AllocError>
     ensures kinds { IfOk result (λ t. map fields_of t.kinds.items
@@ -214,12 +208,15 @@ pub(crate) fn tables_of<'a>(
       Counted counts.now.cut_off,
     )) }
 {
+    let kinds = kinds_of(alloc, &counts.kinds)?;
+    let depths = queues_of(alloc, &measures.names, &measures.depths)?;
+    let moves = queues_of(alloc, &measures.names, &measures.moves)?;
     Ok(Tables {
-        kinds: kinds_of(alloc, &counts.kinds)?,
+        kinds,
         outcomes: outcomes_row(counts),
-        payloads: measures.loads.clone()?,
-        units: measures.units.clone()?,
-        depths: queues_of(alloc, &measures.names, &measures.depths)?,
-        moves: queues_of(alloc, &measures.names, &measures.moves)?,
+        payloads: &measures.loads,
+        units: &measures.units,
+        depths,
+        moves,
     })
 }
