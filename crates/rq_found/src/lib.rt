@@ -4,13 +4,14 @@
 #![tactic(auto)]
 
 mod diagnoses;
+mod end_objects;
 mod ends;
 mod escapes;
 mod events;
 mod followed;
 mod frames;
 mod hidden;
-mod json;
+
 mod misfits;
 mod numbered;
 mod objects;
