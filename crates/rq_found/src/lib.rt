@@ -11,7 +11,6 @@ mod events;
 mod followed;
 mod frames;
 mod hidden;
-
 mod misfits;
 mod numbered;
 mod objects;

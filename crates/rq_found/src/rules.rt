@@ -63,7 +63,7 @@ fn put_rule(text: &mut String, rule: &Rule) -> Put
                 Word(" already"),
             ],
         ),
-        Rule::Full => text.push_str("4096 queues are defined already"),
+        Rule::Full => TextPiece::put_all(text, &[Word("4096 queues are defined already")]),
         Rule::NoLimit(error) => TextPiece::put_all(
             text,
             &[
@@ -96,7 +96,7 @@ fn put_rule(text: &mut String, rule: &Rule) -> Put
                 Word(" has an error queue"),
             ],
         ),
-        Rule::NoKill => text.push_str("version 1 has no kill"),
+        Rule::NoKill => TextPiece::put_all(text, &[Word("version 1 has no kill")]),
     }
 }
 
