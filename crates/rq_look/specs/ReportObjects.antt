@@ -7,7 +7,7 @@ use Rattle.rq_model.specs.Reports.{IsListing, why_text}
 use Rattle.rq_model.specs.States.{Definition, Element, State}
 use Rattle.rq_found.specs.Reasons.{IsReason}
 use Rattle.rq_found.specs.Records.{registrant_entry}
-use Rattle.rq_found.specs.Objects.{Named, front_members, as_list, with_name, object_of, whole}
+use Rattle.rq_found.specs.Objects.{Named, as_list, front_members, object_of, pretty_lines, whole, with_name}
 use Rattle.rq_look.specs.Objects.{bytes_members, error_known}
 
 -- a value, or `null`

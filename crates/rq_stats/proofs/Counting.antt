@@ -1,9 +1,11 @@
 -- Counting one more record.
-use Rattle.std.proofs.Common.{◌≡◌, ◌∙◌, ℕ, ◌+◌, ◌<◌, ◌≤◌, Bool, true, false, List, [], ◌∷◌, ◌++◌, length, map, refl, sym, ap, arith}
-use Rattle.std.specs.Prelude.{cond, filter, get_or, set, sum, min, codes, if◌then◌else◌}
+use Rattle.std.proofs.Common.{◌≡◌, ◌∙◌, ℕ, zero, suc, ◌+◌, ◌<◌, ◌≤◌, Bool, true, false, List, [], ◌∷◌, ◌++◌, length, map, refl, sym, ap, arith}
+use Rattle.std.specs.Prelude.{cond, filter, get_or, set, min, codes}
 use Rattle.std.specs.Str.{bytes_eq}
-use Rattle.std.proofs.lemmas.List.{length-append, map-append, map-set}
+use Rattle.std.proofs.lemmas.List.{length-append, map-set}
+use Rattle.std.specs.List.{sum_by}
 use Rattle.std.proofs.lemmas.List.Elements.{filter-append}
+use Rattle.std.proofs.lemmas.List.Sums.{sum_by-cons, sum_by_push}
 use Rattle.rq_model.specs.Records.{Record, Define, Register, Deregister, Begin, Enqueue, Dequeue, Commit, Abort}
 use Rattle.rq_model.specs.Records.{Checkpoint, Kill}
 use Rattle.rq_model.specs.Spelling.{body_of}
@@ -15,25 +17,18 @@ use Rattle.rq_stats.specs.declared.kinds.Kind.{Kind}
 
 -- all bytes of frames
 abbrev pub total : List Record → ℕ
-total rs = sum (map framed_bytes rs)
-
-sum_more : (ns : List ℕ) (n : ℕ) → sum (ns ++ n ∷ []) ≡ sum ns + n
-sum_more [] n = omega arith
-sum_more (m ∷ ns) n = omega (arith, sum_more ns n)
+total rs = sum_by framed_bytes rs
 
 total_more : (rs : List Record) (r : Record) → total (rs ++ r ∷ []) ≡ total rs + framed_bytes r
-total_more rs r = ap sum (map-append framed_bytes rs (r ∷ [])) ∙ sum_more (map framed_bytes rs) (framed_bytes r)
+total_more rs r = sum_by_push framed_bytes rs r
 
 -- they are those of the frames
 pub total_is : (p : List ℕ) (rs : List Record) → total rs ≡ length (frames_of p rs)
 total_is p [] = refl
 total_is p (r ∷ rs) =
-    omega (
-      arith,
-      frame_long p (body_of r),
-      length-append (frame p (body_of r)) (frames_of (digest p (body_of r)) rs),
-      total_is (digest p (body_of r)) rs,
-    )
+    let next = digest p (body_of r) in
+    sum_by-cons framed_bytes r rs ∙ (λ i. sym (frame_long p (body_of r)) i + total_is next rs i)
+    ∙ sym (length-append (frame p (body_of r)) (frames_of next rs))
 
 -- one record more of a kind
 abbrev pub bump : Record → Count → Count
@@ -95,11 +90,18 @@ fits_by : (is : Bool) (word : List ℕ) (r : Record) (rs : List Record) → byte
 fits_by true word r rs e fits =
     let is : of_kind word (r ∷ rs) ≡ r ∷ of_kind word rs =
     ap (λ (b : Bool). cond b (r ∷ of_kind word rs) (of_kind word rs)) e in
-    (omega (arith, fits.0, ap length is), omega (arith, fits.1, ap total is))
+    let longer : count_of word (r ∷ rs) ≡ suc (count_of word rs) = ap length is in
+    let larger : total (of_kind word (r ∷ rs)) ≡ framed_bytes r + total (of_kind word rs) =
+    ap total is ∙ sum_by-cons framed_bytes r (of_kind word rs) in
+    let all : total (r ∷ rs) ≡ framed_bytes r + total rs = sum_by-cons framed_bytes r rs in
+    (omega (arith, fits.0, longer, all), omega (arith, fits.1, larger, all))
 fits_by false word r rs e fits =
     let is : of_kind word (r ∷ rs) ≡ of_kind word rs =
     ap (λ (b : Bool). cond b (r ∷ of_kind word rs) (of_kind word rs)) e in
-    (omega (arith, fits.0, ap length is), omega (arith, fits.1, ap total is))
+    let same : count_of word (r ∷ rs) ≡ count_of word rs = ap length is in
+    let equal : total (of_kind word (r ∷ rs)) ≡ total (of_kind word rs) = ap total is in
+    let all : total (r ∷ rs) ≡ framed_bytes r + total rs = sum_by-cons framed_bytes r rs in
+    (omega (arith, fits.0, same, all), omega (arith, fits.1, equal, all))
 
 kind_fits : (word : List ℕ) (rs : List Record)
     → (count_of word rs ≤ total rs) × (total (of_kind word rs) ≤ total rs)
@@ -120,7 +122,7 @@ at_fits done (Checkpoint bytes) = kind_fits (codes "checkpoint") done
 at_fits done (Kill queue element) = kind_fits (codes "kill") done
 
 -- the counts as they are kept, once one of them has grown
-pub grown : (done : List Record) (r : Record) (old new : List Kind) (place len : ℕ) (k : Kind)
+grown : (done : List Record) (r : Record) (old new : List Kind) (place len : ℕ) (k : Kind)
     → map kind_told old ≡ kind_counts done → total (done ++ r ∷ []) < 18446744073709551616 → place ≡ kind_place r
     → len ≡ framed_bytes r → new ≡ set old place k
     → k.word.now ≡ (get_or (map kind_told old) place none).0
@@ -141,3 +143,25 @@ grown done r old new place len k counted small here long is word records bytes =
     λ i. (named i, longer i, larger i) in
     ap (map kind_told) is ∙ map-set kind_told old place k ∙ (λ i. set (counted i) (here i) (told i))
     ∙ counted_at done r
+
+told_at : (ks : List Kind) (i : ℕ) (d : Kind) → get_or (map kind_told ks) i (kind_told d) ≡ kind_told (get_or ks i d)
+told_at [] i d = refl
+told_at (k ∷ ks) zero d = refl
+told_at (k ∷ ks) (suc i) d = told_at ks i d
+
+-- as the code has it
+pub counts_grow : (done : List Record) (r : Record) (old : List Kind) (place len n m : ℕ) (body : List ℕ) (d : Kind)
+    → map kind_told old ≡ kind_counts done → total (done ++ r ∷ []) < 18446744073709551616 → place ≡ kind_place r
+    → body ≡ body_of r → len ≡ min (length body + 36) 18446744073709551615
+    → n ≡ min ((get_or old place d).records + 1) 18446744073709551615
+    → m ≡ min ((get_or old place d).bytes + len) 18446744073709551615 → kind_told d ≡ none
+    → map kind_told (set old place (record { word = (get_or old place d).word; records = n; bytes = m }))
+    ≡ kind_counts (done ++ r ∷ [])
+counts_grow done r old place len n m body d counted small here is long records bytes nothing =
+    let told : get_or (map kind_told old) place none ≡ kind_told (get_or old place d) =
+    (λ i. get_or (map kind_told old) place (sym nothing i)) ∙ told_at old place d in
+    let k = record { word = (get_or old place d).word; records = n; bytes = m } in
+    let framed : len ≡ framed_bytes r = omega (arith, long, ap length is, total_more done r, small) in
+    grown done r old (set old place k) place len k counted small here framed refl (sym (ap (λ (x : Count). x.0) told))
+    (records ∙ ap (λ (x : Count). min (x.1 + 1) 18446744073709551615) (sym told))
+    (bytes ∙ ap (λ (x : Count). min (x.2 + len) 18446744073709551615) (sym told))

@@ -1,3 +1,4 @@
 mod Counting
+mod Puts
 mod Told
 mod Walks

@@ -4,6 +4,7 @@ use Rattle.std.proofs.Common.{refl, sym, ap, subst, append_assoc, arith}
 use Rattle.std.specs.Prelude.{cond, if◌then◌else◌}
 use Rattle.std.proofs.lemmas.Bool.{and_parts}
 use Rattle.std.proofs.lemmas.List.{length-append, length-drop, drop_at}
+use Rattle.std.proofs.lemmas.List.Sums.{sum_by-cons}
 use Rattle.rq_model.specs.Records.{Record, Version, One, Two}
 use Rattle.rq_model.specs.Spelling.{body_of, Spells}
 use Rattle.rq_model.specs.Frames.{before, digest, header, start, frames_of, stated, body_in}
@@ -21,7 +22,7 @@ use Rattle.rq_found.specs.Events.{state_behind}
 use Rattle.rq_found.specs.Fronts.{IsShownFront}
 use Rattle.rq_found.specs.Records.{front_at}
 use Rattle.rq_found.proofs.ShownFronts.{IsFirst, frames_to, longest_in, next_of, none_left}
-use Rattle.rq_stats.specs.Counts.{Count, IsWalked, kind_counts}
+use Rattle.rq_stats.specs.Counts.{Count, IsWalked, framed_bytes, kind_counts}
 use Rattle.rq_stats.proofs.Counting.{total, total_is}
 
 -- some records of the front went by, and are counted; the frames of the others are left
@@ -112,8 +113,14 @@ small at b version base done others r behind front =
   where
     no_less : (done : List Record) (r : Record) (others : List Record)
         → total (done ++ r ∷ []) ≤ total (done ++ r ∷ others)
-    no_less [] r others = omega arith
-    no_less (x ∷ done) r others = omega (arith, no_less done r others)
+    no_less [] r others = omega (arith, sum_by-cons framed_bytes r [], sum_by-cons framed_bytes r others)
+    no_less (x ∷ done) r others =
+        omega (
+          arith,
+          no_less done r others,
+          sum_by-cons framed_bytes x (done ++ r ∷ []),
+          sum_by-cons framed_bytes x (done ++ r ∷ others),
+        )
 
 -- the next one went by
 pub record IsOneMore (at : Option ℕ) (b after : List ℕ) (machine : State) (old : List Count) (r : Record) : Type 0 where

@@ -1,5 +1,6 @@
 -- What is counted of the records of a front: by kind, and how units ended.
-use Rattle.std.specs.Prelude.{◌≡◌, ℕ, ◌+◌, Option, List, [], ◌∷◌, codes, filter, get_or, length, map, sum}
+use Rattle.std.specs.Prelude.{◌≡◌, ℕ, ◌+◌, Option, List, [], ◌∷◌, codes, filter, get_or, length, map}
+use Rattle.std.specs.List.{sum_by}
 use Rattle.std.specs.Str.{bytes_eq}
 use Rattle.rq_model.specs.Records.{Record, Define, Register, Deregister, Begin, Enqueue, Dequeue, Commit, Abort}
 use Rattle.rq_model.specs.Records.{Checkpoint, Kill, Version}
@@ -8,6 +9,7 @@ use Rattle.rq_model.specs.States.{State}
 use Rattle.rq_model.specs.Machine.{run}
 use Rattle.rq_found.specs.Fronts.{IsShownFront}
 use Rattle.rq_found.specs.Records.{kind_word}
+use Rattle.rq_stats.specs.declared.counts.Tally.{Tally}
 use Rattle.rq_stats.specs.declared.kinds.Kind.{Kind}
 
 -- the words for the kinds, in order of their numbers
@@ -32,7 +34,7 @@ abbrev pub count_of : List ℕ → List Record → ℕ
 count_of word rs = length (of_kind word rs)
 
 abbrev pub kind_count : List Record → List ℕ → Count
-kind_count rs word = (word, count_of word rs, sum (map framed_bytes (of_kind word rs)))
+kind_count rs word = (word, count_of word rs, sum_by framed_bytes (of_kind word rs))
 
 -- of each kind
 abbrev pub kind_counts : List Record → List Count
@@ -62,6 +64,10 @@ kind_place (Kill queue element) = 9
 -- how many records are of the kind at a place
 abbrev pub count_at : List Kind → ℕ → ℕ
 count_at kinds place = (get_or (map kind_told kinds) place ([], 0, 0)).1
+
+-- how many units were committed, aborted and cut off, as it was counted
+abbrev pub counted_in : Tally → ℕ × ℕ × ℕ
+counted_in t = (count_at t.kinds 6, count_at t.kinds 7, t.cut_off)
 
 -- the records of the front of b that are shown lead to this state, and are so many of each kind
 abbrev pub IsWalked : Option ℕ → List ℕ → State → List Count → Type 0

@@ -42,6 +42,10 @@ row_object a b c r = object_of (row_members a b c r)
 abbrev pub kind_rows : Count → List RowFields
 kind_rows k = if k.1 == 0 then [] else (Said k.0, Counted k.1, Counted k.2) ∷ []
 
+-- that of how many units ended in which way
+abbrev pub outcome_row : ℕ × ℕ × ℕ → RowFields
+outcome_row n = (Counted n.0, Counted n.1, Counted n.2)
+
 -- what the code's values stand for
 abbrev pub field_of : TextPiece → Field
 field_of (Word word) = Said word.now

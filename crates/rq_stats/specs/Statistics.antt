@@ -12,7 +12,7 @@ use Rattle.rq_found.specs.Fronts.{IsShownFront}
 use Rattle.rq_found.specs.Objects.{Named, as_list, front_members, object_of, pretty_lines, with_name}
 use Rattle.rq_found.specs.Reasons.{IsReason}
 use Rattle.rq_stats.specs.Counts.{kind_counts, outcomes_of}
-use Rattle.rq_stats.specs.Rows.{Counted, RowFields, fields_of, kind_rows, row_line, row_members, row_object}
+use Rattle.rq_stats.specs.Rows.{RowFields, outcome_row, fields_of, kind_rows, row_line, row_members, row_object}
 use Rattle.rq_stats.specs.declared.tables.Tables.{Tables}
 
 -- rows of each sort: records by kind, how units ended, the largest payloads, the units that were open
@@ -90,7 +90,7 @@ abbrev pub AreNumbersOf : Option ℕ → List ℕ → Numbers → Type 0
 AreNumbersOf at b n = (version : Version) × (base : State) × (records : List Record)
     × (rest : List ℕ) × IsShownFront at b version base records rest
     × (n.kinds ≡ flat_map kind_rows (kind_counts records))
-    × (n.outcomes ≡ (Counted (outcomes_of base records).0, Counted (outcomes_of base records).1, Counted (outcomes_of base records).2))
+    × (n.outcomes ≡ outcome_row (outcomes_of base records))
 
 -- with where the front ends and why, as one value of JSON, or as lines, of which the first says with
 -- which checkpoint b begins, if it was carried on

@@ -1,6 +1,6 @@
 //! What one walk over the front of a log counts.
 
-ghost use Rattle.std.specs.Prelude.{◌≡◌, ℕ, List, Some, None, IfErr, IfOk, map};
+ghost use Rattle.std.specs.Prelude.{◌≡◌, ℕ, [], List, Some, None, IfErr, IfOk, OnOk, map};
 ghost use Rattle.rq_model.specs.Checkpoints.{IsCheckpointAt};
 ghost use Rattle.rq_model.specs.Fronts.{Restarted};
 ghost use Rattle.rq_model.specs.States.{empty};
@@ -8,7 +8,7 @@ ghost use Rattle.rq_judged.specs.FrontEnds.{IsEndOf};
 ghost use Rattle.rq_record.specs.declared.fault.Fault.TheVariants.{Resources};
 ghost use Rattle.rq_found.specs.Ends.{IsRestartFrom};
 ghost use Rattle.rq_found.specs.Records.{SpelledIn};
-ghost use Rattle.rq_stats.specs.Counts.{AreCounted, IsWalked, kind_told};
+ghost use Rattle.rq_stats.specs.Counts.{AreCounted, IsWalked, kind_counts, kind_told};
 
 use crate::kinds::{Kinds, count, no_records};
 use crate::measures::Measures;
@@ -31,25 +31,26 @@ fn walk(
     used: u64,
     followed: &mut Followed,
     measures: &mut Measures,
-) -> Result<Kinds, Fault>
+    kinds: &mut Kinds,
+) -> Result<(), Fault>
     requires restart { (r : Restarted) × IsRestartFrom log.now.at log.now.bytes.now r
         × (used ≡ r.used) }
     requires start { log.now.at ≡ None → first.now ≡ empty }
     requires there { (offset : ℕ) (kept : List ℕ) → log.now.at ≡ Some offset
         → IsCheckpointAt log.now.bytes.now offset kept → SpelledIn log.now.bytes.now kept first.now }
     requires state { followed.old.machine ≡ first.now }
-    ensures walked { IfOk result (λ kinds. IsWalked log.now.at log.now.bytes.now
-        followed.new.machine (map kind_told kinds)) }
+    requires none { map kind_told kinds.old ≡ kind_counts [] }
+    ensures walked { OnOk result (IsWalked log.now.at log.now.bytes.now
+        followed.new.machine (map kind_told kinds.new)) }
     ensures refused { IfErr result (λ e. e ≡ Resources) }
 {
     rq_model::versions();
-    let mut kinds = no_records();
     for placed in PlacedFrames::front_frames(log.bytes, first, log.at, used) {
         let it = followed.follow(placed)?;
-        count(&mut kinds, &it.record, placed.body);
-        measures.take(&it, followed.events())?;
+        count(kinds, &it.record, placed.body);
+        measures.take(it, followed.events())?;
     }
-    Ok(kinds)
+    Ok(())
 }
 
 // Aborts the units that are open behind the front, as a restart does, where the next record has this
@@ -84,7 +85,9 @@ pub(crate) fn counted(
     let first = ShownLog::first_state(alloc, log.bytes, log.at)?;
     let mut followed = Followed::of(alloc, &first)?;
     let mut measures = Measures::begun(alloc, &first)?;
-    let kinds = walk(log, &first, end.front.used, &mut followed, &mut measures)?;
+    let mut kinds = no_records();
+    let used = end.front.used;
+    walk(log, &first, used, &mut followed, &mut measures, &mut kinds)?;
     let cut_off = followed.machine().open_count() as u64;
     restart(alloc, &mut followed, &mut measures, end.front.next)?;
     measures.take_depths(alloc, followed.machine())?;

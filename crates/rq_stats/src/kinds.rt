@@ -1,6 +1,7 @@
 //! Records and the bytes of their frames, by kind.
 
-ghost use Rattle.std.specs.Prelude.{◌≡◌, ◌∷◌, ◌++◌, ◌+◌, ◌<◌, [], length, List, map, sum};
+ghost use Rattle.std.specs.Prelude.{◌≡◌, ◌∷◌, ◌++◌, ◌+◌, ◌<◌, [], length, List, map};
+ghost use Rattle.std.specs.List.{sum_by};
 ghost use Rattle.rq_model.specs.Records.{Record};
 ghost use Rattle.rq_model.specs.Spelling.{body_of};
 ghost use Rattle.rq_record.specs.Views.{record_of};
@@ -55,11 +56,11 @@ pub(crate) fn no_records() -> Kinds
 }
 
 // The place of the kind of a record.
-fn place_of(record: &KeptRecord) -> usize
-    ensures place { result ≡ kind_place (record_of record.now) }
+fn place_of(it: &KeptRecord) -> usize
+    ensures place { result ≡ kind_place (record_of it.now) }
     ensures few { result < 10 }
 {
-    match record {
+    match it {
         KeptRecord::Define { .. } => 0,
         KeptRecord::Register { .. } => 1,
         KeptRecord::Deregister { .. } => 2,
@@ -73,14 +74,14 @@ fn place_of(record: &KeptRecord) -> usize
     }
 }
 
-/// Tally a record with its body.
-pub(crate) fn count(kinds: &mut Kinds, record: &KeptRecord, body: &[u8])
+/// Counts a record with its body.
+pub(crate) fn count(kinds: &mut Kinds, it: &KeptRecord, body: &[u8])
     ensures { (done : List Record) → map kind_told kinds.old ≡ kind_counts done
-        → body.now ≡ body_of (record_of record.now)
-        → sum (map framed_bytes (done ++ record_of record.now ∷ [])) < 18446744073709551616
-        → map kind_told kinds.new ≡ kind_counts (done ++ record_of record.now ∷ []) }
+        → body.now ≡ body_of (record_of it.now)
+        → sum_by framed_bytes (done ++ record_of it.now ∷ []) < 18446744073709551616
+        → map kind_told kinds.new ≡ kind_counts (done ++ record_of it.now ∷ []) }
 {
-    let place = place_of(record);
+    let place = place_of(it);
     let kind = kinds[place];
     let bytes = body.len().saturating_add(FRAME_LEN) as u64;
     kinds[place] = Kind {

@@ -108,9 +108,9 @@ impl Measures {
     }
 
     /// A record, and what happens at it.
-    pub(crate) fn take(&mut self, it: &Numbered, events: &[Event]) -> Result<(), AllocError> {
+    pub(crate) fn take(&mut self, it: Numbered, events: &[Event]) -> Result<(), AllocError> {
         self.take_events(events);
-        self.take_record(it)
+        self.take_record(&it)
     }
 
     /// What a restart makes of a unit that is open behind the front, where the next record has this

@@ -77,7 +77,7 @@ pub(crate) fn put_rows(
 }
 
 fn field_shown<'a>(field: TextPiece<'a>) -> Shown<'a>
-    ensures { value_shown result ≡ field_value (field_of field) }
+    ensures { value_shown result ≡ field_value (field_of field.entry) }
 {
     match field {
         Number(number) => Shown::Number(number),

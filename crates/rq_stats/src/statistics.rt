@@ -41,11 +41,11 @@ fn text_of(
 }
 
 // The same as one value of JSON.
-fn json_of(
+fn json_of<'a>(
     alloc: Global,
     at: Option<u64>,
-    end: &End,
-    tables: &Tables<'_>,
+    end: &'a End,
+    tables: &Tables<'a>,
 ) -> Result<String, AllocError>
     ensures { IfOk result (λ text. string_bytes text
         ≡ pretty_lines (object_of (number_members (object_of (front_members at
@@ -59,11 +59,11 @@ fn json_of(
 }
 
 // Rows of numbers, in the form that is wanted.
-fn form_of(
+fn form_of<'a>(
     alloc: Global,
     at: Option<u64>,
-    end: &End,
-    tables: &Tables<'_>,
+    end: &'a End,
+    tables: &Tables<'a>,
     json: bool,
 ) -> Result<String, AllocError>
     ensures { IfOk result (λ text. (r : fronts.Restarted) → IsEndOf r end.now.front

@@ -3,8 +3,8 @@
 ghost use Rattle.std.specs.Prelude.{◌≡◌, ◌++◌, IfOk, OnOk, map, string_bytes};
 ghost use Rattle.std.specs.List.{flat_map};
 ghost use Rattle.rq_found.specs.Objects.{as_list, members_shown, object_of, value_shown, with_name};
-ghost use Rattle.rq_stats.specs.Counts.{count_at, kind_told};
-ghost use Rattle.rq_stats.specs.Rows.{Counted, fields_of, kind_rows, row_object};
+ghost use Rattle.rq_stats.specs.Counts.{counted_in, kind_told};
+ghost use Rattle.rq_stats.specs.Rows.{fields_of, kind_rows, outcome_row, row_object};
 ghost use Rattle.rq_stats.specs.Statistics.{greatest_members, number_lines, number_members, numbers_in};
 
 use crate::counts::Tally;
@@ -83,7 +83,8 @@ fn put_list<'a>(
     fields: (&'a str, &'a str, &'a str),
 ) -> Put
     ensures { OnOk result (members_shown members.new.items ≡ members_shown members.old.items
-        ++ with_name name.now (as_list (map (row_object fields.0.now fields.1.now fields.2.now)
+        ++ with_name name.now (as_list (map (row_object fields.entry.0.now fields.entry.1.now
+        fields.entry.2.now)
         (map fields_of rows.now)))) }
 {
     let list = rows_shown(alloc, rows, fields.0, fields.1, fields.2)?;
@@ -180,11 +181,7 @@ fn queues_of<'a>(
 
 // How units ended.
 fn outcomes_row<'a>(counts: &Tally) -> Row<'a>
-    ensures { fields_of result ≡ (
-      Counted (count_at counts.now.kinds 6),
-      Counted (count_at counts.now.kinds 7),
-      Counted counts.now.cut_off,
-    ) }
+    ensures { fields_of result ≡ outcome_row (counted_in counts.now) }
 {
     Row {
         first: Number(counts.kinds[COMMITS].records),
@@ -202,11 +199,8 @@ pub(crate) fn tables_of<'a>(
 ) -> Result<Tables<'a>, AllocError>
     ensures kinds { IfOk result (λ t. map fields_of t.kinds.items
         ≡ flat_map kind_rows (map kind_told counts.now.kinds)) }
-    ensures outcomes { IfOk result (λ t. fields_of t.outcomes ≡ (
-      Counted (count_at counts.now.kinds 6),
-      Counted (count_at counts.now.kinds 7),
-      Counted counts.now.cut_off,
-    )) }
+    ensures outcomes { IfOk result
+        (λ t. fields_of t.outcomes ≡ outcome_row (counted_in counts.now)) }
 {
     let kinds = kinds_of(alloc, &counts.kinds)?;
     let depths = queues_of(alloc, &measures.names, &measures.depths)?;

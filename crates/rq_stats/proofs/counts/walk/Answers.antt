@@ -20,7 +20,7 @@ loop-placed-init c =
     begun at b _ _ _ restart.0 s restart.1 (first_is at b s c.requires.start c.requires.there)
     (ap (λ (w : PlacedFrames). w.rest.now) same ∙ walk.0 (omega (arith, fits.1, used))
     ∙ ap (λ (n : ℕ). drop (front_at at) (take n b)) used)
-    c.requires.state c.no_records-kinds.ensures
+    c.requires.state c.requires.none
 
 pub loop-placed-preserved : goal.loop-placed-preserved
 loop-placed-preserved c =

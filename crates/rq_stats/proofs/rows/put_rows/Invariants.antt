@@ -7,4 +7,4 @@ use Rattle.rq_stats.proofs.rows.put_rows.Given as goal
 abbrev pub invariant-loop-row : goal.invariant-loop-row
 invariant-loop-row l =
     string_bytes l.text ≡ string_bytes l.fn.text
-    ++ flat_map (row_line l.a.now l.b.now l.c.now l.d.now) (map fields_of (take l.row-index l.rows))
+    ++ flat_map (row_line l.a l.b l.c l.d) (map fields_of (take l.row-index l.rows))

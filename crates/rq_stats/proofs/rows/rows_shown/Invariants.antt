@@ -6,5 +6,5 @@ use Rattle.rq_stats.proofs.rows.rows_shown.Given as goal
 -- the rows so far are shown
 abbrev pub invariant-loop-row : goal.invariant-loop-row
 invariant-loop-row l =
-    map value_shown l.shown.items ≡ map (row_object l.a.now l.b.now l.c.now)
+    map value_shown l.shown.items ≡ map (row_object l.a l.b l.c)
     (map fields_of (take l.row-index l.rows))
