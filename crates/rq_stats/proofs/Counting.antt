@@ -160,7 +160,7 @@ pub counts_grow : (done : List Record) (r : Record) (old : List Kind) (place len
 counts_grow done r old place len n m body d counted small here is long records bytes nothing =
     let told : get_or (map kind_told old) place none ≡ kind_told (get_or old place d) =
     (λ i. get_or (map kind_told old) place (sym nothing i)) ∙ told_at old place d in
-    let k = record { word = (get_or old place d).word; records = n; bytes = m } in
+    let k : Kind = record { word = (get_or old place d).word; records = n; bytes = m } in
     let framed : len ≡ framed_bytes r = omega (arith, long, ap length is, total_more done r, small) in
     grown done r old (set old place k) place len k counted small here framed refl (sym (ap (λ (x : Count). x.0) told))
     (records ∙ ap (λ (x : Count). min (x.1 + 1) 18446744073709551615) (sym told))
