@@ -3,3 +3,5 @@ pub mod Lines
 pub mod Adding
 pub mod Cutting
 pub mod Pairs
+pub mod Named
+pub mod Turning

@@ -8,6 +8,8 @@ use Rattle.rq_live.specs.declared.carries.NotCarried.{NotCarried}
 use Rattle.rq_live.specs.declared.carries.NotCarried.TheVariants as uncarried
 use Rattle.rq_serve.specs.declared.refusals.Refused.{Refused}
 use Rattle.rq_serve.specs.declared.refusals.Refused.TheVariants as refusals
+use Rattle.rq_serve.specs.declared.refusals.Undone.{Undone}
+use Rattle.rq_serve.specs.declared.refusals.Undone.TheVariants as undone
 
 -- the refusal of a record that breaks a rule
 abbrev pub refused_by : Rule → Refused
@@ -43,3 +45,8 @@ refused_carry uncarried.Ended = Some refusals.Ended
 refused_carry uncarried.Unmade = Some refusals.Carry
 refused_carry uncarried.Resources = Some refusals.Carry
 refused_carry uncarried.Spent = None
+
+-- why a request is not done: it is refused so, or the manager is spent
+abbrev pub undone_by : Option Refused → Undone
+undone_by (Some refused) = undone.Refused refused
+undone_by None = undone.Spent

@@ -1,6 +1,6 @@
 //! What is told of queues.
 
-ghost use Rattle.std.specs.Prelude.{◌≡◌, ◌++◌, OnOk, IfOk, map, string_bytes};
+ghost use Rattle.std.specs.Prelude.{◌≡◌, ◌++◌, OnOk, IfErr, IfOk, map, string_bytes};
 ghost use Rattle.std.specs.List.{flat_map};
 ghost use Rattle.rq_model.specs.Reports.{element_line, registrant_line};
 ghost use Rattle.rq_serve.specs.Answers.{counted_line};
@@ -46,7 +46,9 @@ pub(crate) fn queue_at(place: usize) -> Result<QueueNo, Undone>
 pub(crate) fn queues_told<D: Device + Drop>(
     alloc: Global,
     m: &Manager<D>,
-) -> Result<Answer, Undone> {
+) -> Result<Answer, Undone>
+    ensures refused { IfErr result (λ why. why ≡ Undone.Spent) }
+{
     let mut text = String::new(alloc);
     let definitions = m.definitions()?;
     for (place, d) in definitions.iter().enumerate() {
@@ -96,7 +98,9 @@ pub(crate) fn listed<D: Device + Drop>(
     m: &Manager<D>,
     queue: QueueNo,
     count: usize,
-) -> Result<Answer, Undone> {
+) -> Result<Answer, Undone>
+    ensures refused { IfErr result (λ why. why ≡ Undone.Spent) }
+{
     let mut text = String::new(alloc);
     let elements = m.first_elements(alloc, queue, count)?;
     put_elements(&mut text, &elements)?;

@@ -1,5 +1,9 @@
 //! The numbers of queues, by their names.
 
+ghost use Rattle.std.specs.Prelude.{◌≡◌, ◌<◌, ◌≤◌, ◌+◌, List, length, IfOk, IfErr, OnOk, option_map};
+ghost use Rattle.rq_model.specs.States.{Definition, definition_at};
+ghost use Rattle.rq_serve.specs.Queues.{IsQueueIfAny, Knows};
+
 use crate::listings::queue_at;
 use crate::refusals::Undone;
 use rq_record::{Name, QueueNo};
@@ -12,27 +16,43 @@ use std::collections::BTreeMap;
 #[derive(Drop)]
 pub(crate) struct QueueNames {
     numbers: BTreeMap<Name, QueueNo>,
+    // So many.
+    looked: usize,
 }
 
 impl QueueNames {
     /// None was looked at yet.
-    pub(crate) fn none(alloc: Global) -> QueueNames {
+    pub(crate) fn none(alloc: Global) -> QueueNames
+        ensures { (definitions : List Definition) → Knows result definitions }
+    {
         QueueNames {
             numbers: BTreeMap::new(alloc),
+            looked: 0,
         }
     }
 
-    // Keeps the number of a queue.
-    fn keep(&mut self, name: Name, number: QueueNo) -> Result<(), Undone> {
+    // Keeps the number of the next queue.
+    fn keep(&mut self, name: Name, number: QueueNo) -> Result<(), Undone>
+        ensures looked { OnOk result (self.new.looked ≡ number.0 + 1) }
+        ensures knows { OnOk result ((definitions : List Definition) → Knows self.old definitions
+            → number.0 ≡ self.old.looked → number.0 < length definitions
+            → (definition_at definitions number.0).name ≡ name → Knows self.new definitions) }
+    {
         match self.numbers.insert(name, number) {
-            Ok(_) => Ok(()),
+            Ok(_) => {
+                self.looked = number.0 as usize + 1;
+                Ok(())
+            }
             Err(_) => Err(Undone::Spent),
         }
     }
 
     // Looks at the queues that were defined since.
-    fn look_at(&mut self, definitions: &[Definition]) -> Result<(), Undone> {
-        for place in self.numbers.len()..definitions.len() {
+    fn look_at(&mut self, definitions: &[Definition]) -> Result<(), Undone>
+        ensures { OnOk result (Knows self.old definitions.now
+            → Knows self.new definitions.now × (length definitions.now ≤ self.new.looked)) }
+    {
+        for place in self.looked..definitions.len() {
             let number = queue_at(place)?;
             let definition = &definitions[place];
             self.keep(definition.name, number)?;
@@ -45,7 +65,10 @@ impl QueueNames {
         &mut self,
         definitions: &[Definition],
         name: &Name,
-    ) -> Result<Option<QueueNo>, Undone> {
+    ) -> Result<Option<QueueNo>, Undone>
+        ensures { IfOk result (λ number. Knows self.old definitions.now → Knows self.new definitions.now
+            × IsQueueIfAny definitions.now name.now (option_map (λ n. n.0) number)) }
+    {
         self.look_at(definitions)?;
         Ok(self.numbers.get(name).copied())
     }

@@ -3,6 +3,7 @@
 ghost use Rattle.std.specs.Prelude.{◌≡◌};
 ghost use Rattle.rq_serve.specs.Answers.{refused_text, refused_word};
 ghost use Rattle.rq_serve.specs.Refusals.{refused_by, refused_carry, refused_checkpoint, refused_for};
+ghost use Rattle.rq_serve.specs.Refusals.{undone_by};
 
 use rq_lawful::Rule;
 use rq_live::{NotCarried, NotDone};
@@ -147,6 +148,8 @@ pub(crate) enum Undone {
 }
 
 impl From<Option<Refused>> for Undone {
+    ghost from_gives = { λ refused why. why ≡ undone_by refused };
+
     fn from(refused: Option<Refused>) -> Undone {
         match refused {
             Some(refused) => Undone::Refused(refused),
@@ -156,18 +159,24 @@ impl From<Option<Refused>> for Undone {
 }
 
 impl From<NotDone> for Undone {
+    ghost from_gives = { λ cause why. why ≡ undone_by (refused_for cause) };
+
     fn from(why: NotDone) -> Undone {
         Undone::from(Refused::of(why))
     }
 }
 
 impl From<Fault> for Undone {
+    ghost from_gives = { λ _ why. why ≡ Undone.Spent };
+
     fn from(_fault: Fault) -> Undone {
         Undone::Spent
     }
 }
 
 impl From<AllocError> for Undone {
+    ghost from_gives = { λ _ why. why ≡ Undone.Spent };
+
     fn from(_error: AllocError) -> Undone {
         Undone::Spent
     }
