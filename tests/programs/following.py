@@ -244,15 +244,19 @@ def killed() -> None:
 
 # --- a copy that is served -------------------------------------------------------------------------------------------
 
-REQUESTS = b"queues\ndefine more 0 -\nbegin\nenqueue 9 more 5 - 0 6869\ndequeue 9 jobs - 0\ncommit 9\nqueue more 3\nclose\n"
+REQUESTS = b"queues\ndefine more 0 -\nbegin 500\nenqueue 500 more 5 - 0 6869\ndequeue 500 jobs - 0\ncommit 500\nqueue more 3\nclose\n"
 
 
 def taken_over() -> None:
-    """What serves a copy says what serves a log says of the same bytes, and leaves the same log."""
+    """What serves a copy says what serves a log says of the same bytes, and leaves the same log; of a carried file too."""
     log = content(plain("one", START + MORE, "make2"))
     half = log + framed(log, begin(8))[len(log):][:-3]
     opened = framed(log, begin(8))
-    for name, came in (("whole", log), ("cut", half), ("an open unit", opened), ("no record", header_of(2))):
+    logs = small_logs()
+    carried = logs["carried and more"]
+    for name, came in (("whole", log), ("cut", half), ("an open unit", opened), ("no record", header_of(2)), ("carried", logs["carried"]),
+                       ("carried and more", carried), ("carried and cut", carried[:-3]), ("carried and an open unit", framed(carried, begin(199))),
+                       ("carried far", logs["carried far"])):
         put("source.log", came)
         put("served.log", came)
         want = done(trying.RQLOG, "serve", "served.log", input=REQUESTS)
@@ -290,14 +294,15 @@ def fifos() -> None:
 
 
 def refusals() -> None:
-    """Words that are no command, a carried file that is to be served, and streams that fail."""
+    """Words that are no command, what is to be served and is no log, and streams that fail."""
     log = content(plain("one"))
     check("serve without a copy", rqlog("follow", "--serve", script=log), (2, b"", b"rqlog: --serve needs a COPY, which it serves\n"))
     for words in (("a", "b"), ("--serves",), ("--from",), ("--workers", "65"), ("--workers", "no")):
         check(f"follow {words}", rqlog("follow", *words, script=log)[0], 2)
     carried_log = small_logs()["carried"]
-    check("a carried file is not served", rqlog("follow", "carried.copy", "--serve", script=carried_log),
-          (1, b"", b"rqlog: standard input: not a log: rq make makes one\n"))
+    for name, bad in (("a header", carried_log[:HEADER]), ("a link", carried_log[:CARRIED_AT]), ("half a checkpoint", carried_log[:-1]),
+                      ("a bad state", framed(carried_log[:CARRIED_AT], checkpoint(b"none"))), ("no header", log[:HEADER - 1])):
+        check(f"{name} is not served", rqlog("follow", f"{name}.copy", "--serve", script=bad), restarted(bad))
     status, printed, said = rqlog("follow", "--from", "nowhere")
     check("no such file", (status, printed, said[:15]), (3, b"", b"rqlog: nowhere:"))
     os.mkdir("folder")

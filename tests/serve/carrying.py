@@ -9,7 +9,7 @@ from frames import (CARRIED_AT, HEADER, abort, begin, carried_bytes, carried_hea
                     framed, header_of, spelled)
 from model import LONGEST_LOG, Model, Start, new_model
 from ordering import calls_of, unsynced
-from serve import CUT_OFF, is_program, left_behind, start
+from serve import CUT_OFF, is_program, left_behind, refused_whole, start
 from served import Gone, Served, first_words, session_of
 from trying import check, content, has_shim, put, rqlog, run_told
 
@@ -365,12 +365,7 @@ def no_crash() -> None:
             "version 3": carried_header_of(3) + log[HEADER:], "a record that is not lawful": framed(log, commit(99)),
             "no records, only zeros": log[:CARRIED_AT] + bytes(100)}
     check("the model of it", model is not None, True)
-    for name, bytes_ in none.items():
-        put("none.log", bytes_)
-        it = Served("none.log")
-        status, rest, said = it.end()
-        check(f"{name}: refused", (it.greeting, status, rest, said.startswith("rqlog: ")), ("", 1, [], True))
-        check(f"{name}: what is left", (content("none.log"), os.listdir(".")), (bytes_, ["none.log"]))
+    refused_whole(none)
 
 
 def numbered(next_record: int) -> bytes:

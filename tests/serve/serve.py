@@ -229,6 +229,16 @@ def long_starts() -> None:
     start("3 MiB of records", framed(framed(log, checkpoint(bytes(3 * WINDOW))), abort(2)))
 
 
+def refused_whole(none: dict[str, bytes]) -> None:
+    """A start refuses each of these files with status 1, and leaves it as it is."""
+    for name, bytes_ in none.items():
+        put("none.log", bytes_)
+        it = Served("none.log")
+        status, rest, said = it.end()
+        check(f"{name}: refused", (it.greeting, status, rest, said.startswith("rqlog: ")), ("", 1, [], True))
+        check(f"{name}: what is left", (content("none.log"), os.listdir(".")), (bytes_, ["none.log"]))
+
+
 def no_crash() -> None:
     """What no crash leaves is refused with status 1, and stays as it is."""
     log = CUT_OFF[2]
@@ -239,12 +249,7 @@ def no_crash() -> None:
             "zeros, and one byte more than a crash leaves": log + bytes(WINDOW + 1), "garbage of more": log + b"\xa5" * (WINDOW + 1),
             "a change in an early record": flipped(framed(log, checkpoint(bytes(WINDOW))), 60),
             "a change in an early length": longer(framed(log, checkpoint(bytes(WINDOW))))}
-    for name, bytes_ in none.items():
-        put("none.log", bytes_)
-        it = Served("none.log")
-        status, rest, said = it.end()
-        check(f"{name}: refused", (it.greeting, status, rest, said.startswith("rqlog: ")), ("", 1, [], True))
-        check(f"{name}: what is left", (content("none.log"), os.listdir(".")), (bytes_, ["none.log"]))
+    refused_whole(none)
 
 
 def kept_before() -> None:

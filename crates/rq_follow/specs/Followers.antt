@@ -9,12 +9,12 @@ use Rattle.rq_model.specs.Checkpoints.{IsCheckpointAt}
 use Rattle.rq_model.specs.Carrying.{HasCarriedHeader, as_log, carried_at, carried_file}
 use Rattle.rq_record.specs.declared.fault.Fault.{Fault}
 use Rattle.rq_record.specs.declared.fault.Fault.TheVariants.{NotALog, TooLong, NoCheckpoint, BadCheckpoint, Resources}
-use Rattle.rq_front.specs.Chains.{IsCarried, IsHeaded, Refused}
+use Rattle.rq_front.specs.Chains.{IsCarried, IsHeaded}
 use Rattle.rq_judged.specs.declared.ends.Edge.{Edge}
 use Rattle.rq_judged.specs.Refusals.{HasBadCheckpoint, HasNoCheckpoint}
 use Rattle.rq_judged.specs.Windows.{Origin, log_origin}
 use Rattle.rq_restart.specs.declared.redone.RedoneFront.{RedoneFront}
-use Rattle.rq_restart.specs.RedoneFronts.{IsRedoneFront, RedoesFront, RedoesFrontAt}
+use Rattle.rq_restart.specs.RedoneFronts.{RedoesFront, RedoesFrontAt}
 use Rattle.rq_follow.specs.declared.beginning.Coming.{Coming}
 use Rattle.rq_follow.specs.declared.beginning.Coming.TheVariants.{Header, Linked, Plain, Carried}
 use Rattle.rq_follow.specs.declared.follower.Follower.{Follower}
@@ -91,10 +91,10 @@ abbrev pub RedoesBytes : List ℕ → Result RedoneFront Fault → Type 0
 RedoesBytes b r = ((IsCarried b → ⊥) × RedoesFront b r)
     ⊎ ((version : Version) × HasCarriedHeader version b × RedoesFrontAt (as_log version b) carried_at r)
 
--- The front of b and the machine behind it, or why there is none: a carried file is no log
+-- the same, with the machine behind the front
 abbrev pub StandsBytes : List ℕ → Result Standing Fault → Type 0
-StandsBytes b (Ok s) = IsRedoneFront b (front_of s)
-StandsBytes b (Err e) = Refused b e
+StandsBytes b (Ok s) = RedoesBytes b (Ok (front_of s))
+StandsBytes b (Err e) = RedoesBytes b (Err e)
 
 -- some front of b ends there; or none begins
 abbrev pub EndsBytes : List ℕ → Option Edge → Type 0

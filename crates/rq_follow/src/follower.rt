@@ -154,7 +154,9 @@ impl Follower {
     }
 
     /// The front of the bytes that came, and the machine that stands behind it: what a manager goes on
-    /// from. Refused with `NotALog` if no log's header came, or a carried file's. Takes no memory.
+    /// from. A carried file's are those of the log as which it is read. Refused with `NotALog` if no
+    /// header came, and with `NoCheckpoint` if a carried file's first frame is not whole yet. Takes no
+    /// memory.
     pub fn into_standing(self) -> Result<Standing, Fault>
         requires { (b : List ℕ) × IsFollowing b self }
         ensures { (b : List ℕ) → IsFollowing b self → StandsBytes b result }
@@ -163,9 +165,9 @@ impl Follower {
         rq_model::one_front();
         match self.stage {
             Coming::Plain(pass) => Ok(pass.handed_over()),
-            Coming::Carried(_) => Err(Fault::NotALog),
+            Coming::Carried(pass) => Ok(pass.handed_over()),
             Coming::Header(_) => Err(Fault::NotALog),
-            Coming::Linked(_) => Err(Fault::NotALog),
+            Coming::Linked(_) => Err(Fault::NoCheckpoint),
         }
     }
 }

@@ -5,7 +5,8 @@ ghost use Rattle.rq_model.specs.Carrying.{carried_at};
 ghost use Rattle.rq_record.specs.declared.fault.Fault.TheVariants.{Resources};
 ghost use Rattle.rq_restart.specs.RedoneFronts.{IsRedoneAt, IsRedoneFront};
 ghost use Rattle.rq_live.specs.Kernels.{StandsWithin};
-ghost use Rattle.rq_reopen.specs.Files.{FindsFrom, IsCarriedFound};
+ghost use Rattle.rq_reopen.specs.Files.{FindsFrom, GoesOnAnywhere, IsCarriedFound, IsExactlyIn};
+ghost use Rattle.rq_reopen.specs.Files.{IsFoundIn};
 ghost use Rattle.rq_reopen.specs.Openings.{Finds, IsFound, GoesOnAt, IsExactlyFound, front_with};
 ghost use Rattle.rq_reopen.specs.Reopenings.{IsNoMishap};
 
@@ -43,6 +44,7 @@ fn found_of(
         → IsFound c result }
     ensures from { (b : List ℕ) → IsRedoneAt b carried_at (front_with version machine last end)
         → IsCarriedFound b result }
+    ensures within { StandsWithin result.kernel result.end.used }
     ensures end { result.end ≡ end }
     ensures version { result.version ≡ version }
 {
@@ -90,8 +92,8 @@ impl FoundLog {
         behind(alloc, &front)
     }
 
-    /// The queues behind the front of what a crash left of a log, of which a machine stands there. They
-    /// are those that `of` finds. Takes no memory.
+    /// The queues behind the front of what a crash left of a log, or of a carried file that is read as
+    /// one, of which a machine stands there. They are those that an opening finds. Takes no memory.
     pub fn of_machine(
         alloc: Global,
         version: Version,
@@ -99,19 +101,23 @@ impl FoundLog {
         last: [u8; 32],
         end: Edge,
     ) -> FoundLog
-        requires { (c : List ℕ) × IsRedoneFront c (front_with version machine last end) }
         ensures found { (c : List ℕ) → IsRedoneFront c (front_with version machine last end)
             → IsFound c result }
+        ensures from { (b : List ℕ) → IsRedoneAt b carried_at (front_with version machine last end)
+            → IsCarriedFound b result }
         ensures within { StandsWithin result.kernel result.end.used }
         ensures end { result.end ≡ end }
         ensures version { result.version ≡ version }
-        ensures survives { (c : List ℕ) → IsRedoneFront c (front_with version machine last end)
-            → GoesOnAt c result }
-        ensures exact { (c : List ℕ) → IsRedoneFront c (front_with version machine last end)
-            → IsExactlyFound c result }
+        ensures survives { (c : List ℕ) → IsFoundIn c result → GoesOnAnywhere c result }
+        ensures exact { (c : List ℕ) → IsFoundIn c result → IsExactlyIn c result }
     {
         rq_left::crash_leaves();
         rq_model::one_front();
+        rq_model::one_spelling();
+        rq_model::carried_headers();
+        rq_model::appended_logs();
+        rq_model::numbers_after();
+        rq_model::runs_are_well_formed();
         found_of(alloc, version, machine, last, end)
     }
 

@@ -5,3 +5,4 @@ pub mod Cutting
 pub mod Pairs
 pub mod Named
 pub mod Turning
+pub mod Talking

@@ -6,3 +6,4 @@ pub mod Carrying
 pub mod Queues
 pub mod Deeds
 pub mod Serving
+pub mod Talks

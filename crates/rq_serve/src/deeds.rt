@@ -1,6 +1,6 @@
 //! What is done for each request.
 
-ghost use Rattle.std.specs.Prelude.{◌≡◌, ◌⊎◌, ℕ, Bool, true, Some, IsErr, IfErr, IfOk, option_map};
+ghost use Rattle.std.specs.Prelude.{◌≡◌, ◌⊎◌, ℕ, Bool, true, Some, IfErr, IfOk, option_map};
 ghost use Rattle.rq_model.specs.Records as model;
 ghost use Rattle.rq_live.specs.Carries.{GoesOver};
 ghost use Rattle.rq_live.specs.Managers.{IsInOrder, stand_of};
@@ -12,8 +12,8 @@ ghost use Rattle.rq_serve.specs.Deeds.{LacksQueue, RefusesAt, RefusesBegin, Refu
 ghost use Rattle.rq_serve.specs.Deeds.{RefusesCheckpoint, RefusesCommit, RefusesDefine, RefusesLast};
 ghost use Rattle.rq_serve.specs.Deeds.{RefusesName, RefusesNew, RefusesRecord, StaysRefused, Turns, TurnsAlone, is_defined_so};
 ghost use Rattle.rq_serve.specs.Deeds.{Mismatches, Opens};
-ghost use Rattle.rq_serve.specs.Serving.{DoomsIfRefused, DoomsUnit, KeepsBut, NeverCommits};
-ghost use Rattle.rq_serve.specs.Units.{is_doomed, KeepsDoomed, KeepsOthers};
+ghost use Rattle.rq_serve.specs.Serving.{DoomsBy, DoomsUnit};
+ghost use Rattle.rq_serve.specs.Units.{is_doomed, KeepsOthers};
 
 use crate::answers::Answer;
 use crate::doomed::Doomed;
@@ -310,8 +310,7 @@ fn doomed_by<D: Device + Drop>(
     why: Undone,
 ) -> Undone
     ensures dooms { DoomsUnit (stand_of D.written D.synced D.doubted D.failed m.now)
-        unit.0 result doomed.new }
-    ensures keeps { KeepsDoomed doomed.old doomed.new }
+        unit.0 result doomed.old doomed.new }
     ensures same { (result ≡ why) ⊎ (result ≡ Undone.Spent) }
 {
     match (why, m.is_open(unit)) {
@@ -345,8 +344,6 @@ fn commit<D: Device + Drop>(
 ) -> Result<Answer, Undone>
     requires { IsInOrder (stand_of D.written D.synced D.doubted D.failed m.old) }
     ensures order { IsInOrder (stand_of D.written D.synced D.doubted D.failed m.new) }
-    ensures doomed { is_doomed doomed.now unit.0 ≡ true
-        → (m.new ≡ m.old) × IsErr result }
     ensures turns { TurnsAlone (stand_of D.written D.synced D.doubted D.failed m.old)
         (stand_of D.written D.synced D.doubted D.failed m.new)
         (Commits (is_doomed doomed.now) unit.0 is_later)
@@ -543,10 +540,8 @@ where
     S: Successor<D> + Operator,
     requires { IsInOrder (stand_of D.written D.synced D.doubted D.failed m.old) }
     ensures order { IsInOrder (stand_of D.written D.synced D.doubted D.failed m.new) }
-    ensures keeps { KeepsBut request doomed.old doomed.new }
-    ensures dooms { IfErr result (λ why. DoomsIfRefused request
-        (stand_of D.written D.synced D.doubted D.failed m.new) why doomed.new) }
-    ensures never { NeverCommits request doomed.old m.old m.new result }
+    ensures dooms { DoomsBy request (stand_of D.written D.synced D.doubted D.failed m.new) result
+        doomed.old doomed.new }
     ensures turns { Turns (stand_of D.written D.synced D.doubted D.failed m.old)
         (stand_of D.written D.synced D.doubted D.failed m.new) names.old names.new
         (Fulfils (is_doomed doomed.old) request) (Refuses (is_doomed doomed.old) request) result }

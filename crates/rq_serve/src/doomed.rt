@@ -1,8 +1,8 @@
 //! The units that can only be aborted.
 
-ghost use Rattle.std.specs.Prelude.{◌≡◌, ◌≤◌, ℕ, OnOk, IfErr, true};
+ghost use Rattle.std.specs.Prelude.{◌≡◌, ◌<◌, ◌==◌, ◌||◌, nat_le, false, ℕ, OnOk, IfErr};
 ghost use Rattle.rq_record.specs.declared.fault.Fault.TheVariants.{Resources};
-ghost use Rattle.rq_serve.specs.Units.{is_doomed, KeepsDoomed, KeepsOthers};
+ghost use Rattle.rq_serve.specs.Units.{is_doomed, KeepsOthers};
 
 use rq_record::{Fault, UnitNo};
 use std::alloc::Global;
@@ -17,7 +17,9 @@ pub(crate) struct Doomed {
 
 impl Doomed {
     /// None yet.
-    pub(crate) fn none(alloc: Global) -> Doomed {
+    pub(crate) fn none(alloc: Global) -> Doomed
+        ensures { (unit : ℕ) → 0 < unit → is_doomed result unit ≡ false }
+    {
         Doomed {
             through: UnitNo(0),
             others: BTreeSet::new(alloc),
@@ -33,8 +35,8 @@ impl Doomed {
 
     /// Dooms a unit. Refused with `Resources`.
     pub(crate) fn add(&mut self, unit: UnitNo) -> Result<(), Fault>
-        ensures doomed { OnOk result (is_doomed self.new unit.0 ≡ true) }
-        ensures keeps { KeepsDoomed self.old self.new }
+        ensures doomed { OnOk result ((other : ℕ) → is_doomed self.new other
+            ≡ (is_doomed self.old other || (other == unit.0))) }
         ensures refused { IfErr result (λ e. e ≡ Resources) }
     {
         match self.others.insert(unit.0) {
@@ -45,8 +47,8 @@ impl Doomed {
 
     /// Dooms all units up to this one.
     pub(crate) fn add_all(&mut self, greatest: UnitNo)
-        ensures doomed { (unit : ℕ) → unit ≤ greatest.0 → is_doomed self.new unit ≡ true }
-        ensures keeps { KeepsDoomed self.old self.new }
+        ensures { (unit : ℕ) → is_doomed self.new unit
+            ≡ (is_doomed self.old unit || nat_le unit greatest.0) }
     {
         if self.through.0 < greatest.0 {
             self.through = greatest;

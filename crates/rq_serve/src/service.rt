@@ -3,9 +3,10 @@
 ghost use Rattle.std.specs.Prelude.{◌≡◌, ◌<◌, ◌≤◌, [], length, Err, OnOk, IfOk, IfSome, true, false};
 ghost use Rattle.std.specs.Prelude.{string_bytes};
 ghost use Rattle.std.specs.Io.KnownBytes.{Appends};
-ghost use Rattle.rq_live.specs.Managers.{AllIsSafe, IsInOrder, Settles, stand_of};
+ghost use Rattle.rq_live.specs.Managers.{AllIsSafe, IsInOrder, Settles, StandsStill, stand_of};
 ghost use Rattle.rq_writer.specs.Reading.{cut_at};
 ghost use Rattle.rq_serve.specs.Serving.{EndsLine};
+ghost use Rattle.rq_serve.specs.Talks.{GoesOn, Serves};
 
 use crate::deeds::carry_state;
 use crate::operators::{CarryPoint, Operator};
@@ -51,6 +52,9 @@ fn make_ready<D: Device + Drop>(m: &mut Manager<D>, asks_sync: bool) -> Result<(
     ensures safe { OnOk result (asks_sync ≡ true
         → Settles (stand_of D.written D.synced D.doubted D.failed m.old)
         (stand_of D.written D.synced D.doubted D.failed m.new)) }
+    ensures stays { OnOk result (StandsStill
+        (stand_of D.written D.synced D.doubted D.failed m.old)
+        (stand_of D.written D.synced D.doubted D.failed m.new)) }
 {
     if asks_sync { m.settle() } else { m.preview() }
 }
@@ -70,6 +74,10 @@ where
         (stand_of D.written D.synced D.doubted D.failed m.new)) }
     ensures none { OnOk result ((string_bytes session.new.answers ≡ [])
         × (session.new.asks_sync ≡ false)) }
+    ensures goes { OnOk result (GoesOn
+        (stand_of D.written D.synced D.doubted D.failed m.old)
+        (stand_of D.written D.synced D.doubted D.failed m.new)
+        session.old session.new (O.contents output.old) (O.contents output.new)) }
     ensures works { OnOk result (O.faults output.new ≡ O.faults output.old) }
     ensures spent { result ≡ Err Unserved.Spent → output.new ≡ output.old }
 {
@@ -109,6 +117,10 @@ where
     requires order { IsInOrder (stand_of D.written D.synced D.doubted D.failed m.old) }
     requires faults { O.faults output.old < 18446744073709551615 }
     ensures order { IsInOrder (stand_of D.written D.synced D.doubted D.failed m.new) }
+    ensures goes { OnOk result (GoesOn
+        (stand_of D.written D.synced D.doubted D.failed m.old)
+        (stand_of D.written D.synced D.doubted D.failed m.new)
+        session.old session.new (O.contents output.old) (O.contents output.new)) }
     ensures works { OnOk result (O.faults output.new ≡ O.faults output.old) }
     ensures spent { result ≡ Err Unserved.Spent → O.faults output.new ≡ O.faults output.old }
 {
@@ -143,6 +155,10 @@ where
     requires order { IsInOrder (stand_of D.written D.synced D.doubted D.failed m.old) }
     requires faults { O.faults output.old < 18446744073709551615 }
     ensures order { IsInOrder (stand_of D.written D.synced D.doubted D.failed m.new) }
+    ensures goes { OnOk result (GoesOn
+        (stand_of D.written D.synced D.doubted D.failed m.old)
+        (stand_of D.written D.synced D.doubted D.failed m.new)
+        session.old session.new (O.contents output.old) (O.contents output.new)) }
     ensures works { OnOk result (O.faults output.new ≡ O.faults output.old) }
     ensures spent { result ≡ Err Unserved.Spent → O.faults output.new ≡ O.faults output.old }
 {
@@ -173,6 +189,10 @@ where
     requires faults { O.faults output.old < 18446744073709551615 }
     ensures order { IsInOrder (stand_of D.written D.synced D.doubted D.failed m.new) }
     ensures lines { IfOk result (EndsLine bytes.now) }
+    ensures goes { OnOk result (GoesOn
+        (stand_of D.written D.synced D.doubted D.failed m.old)
+        (stand_of D.written D.synced D.doubted D.failed m.new)
+        session.old session.new (O.contents output.old) (O.contents output.new)) }
     ensures works { OnOk result (O.faults output.new ≡ O.faults output.old) }
     ensures spent { result ≡ Err Unserved.Spent → O.faults output.new ≡ O.faults output.old }
 {
@@ -210,6 +230,11 @@ where
     requires reads { I.faults input.old < 18446744073709551615 }
     requires writes { O.faults output.old < 18446744073709551615 }
     ensures order { IsInOrder (stand_of D.written D.synced D.doubted D.failed m.new) }
+    ensures goes { OnOk result (GoesOn
+        (stand_of D.written D.synced D.doubted D.failed m.old)
+        (stand_of D.written D.synced D.doubted D.failed m.new)
+        session.old session.new (O.contents output.old) (O.contents output.new)) }
+    ensures all { OnOk result (string_bytes session.new.answers ≡ []) }
     ensures spent { result ≡ Err Unserved.Spent → O.faults output.new ≡ O.faults output.old }
 {
     let mut held = Vec::new(alloc);
@@ -259,6 +284,10 @@ where
     ensures order { IsInOrder (stand_of D.written D.synced D.doubted D.failed m.new) }
     ensures safe { OnOk result (AllIsSafe
         (stand_of D.written D.synced D.doubted D.failed m.new)) }
+    ensures serves { OnOk result (Serves
+        (stand_of D.written D.synced D.doubted D.failed m.old)
+        (stand_of D.written D.synced D.doubted D.failed m.new)
+        (O.contents output.old) (O.contents output.new)) }
 {
     let mut session = Session::new(alloc, point);
     match serve_lines(alloc, m, next, &mut session, input, output) {

@@ -1,10 +1,14 @@
 //! The lines of a client, and their answers.
 
-ghost use Rattle.std.specs.Prelude.{◌≡◌, ◌++◌, ◌||◌, OnOk, Some, None, string_bytes};
+ghost use Rattle.std.specs.Prelude.{◌≡◌, ◌<◌, ◌++◌, ◌||◌, ℕ, List, [], OnOk, Some, None, false};
+ghost use Rattle.std.specs.Prelude.{string_bytes};
+ghost use Rattle.rq_model.specs.States.{Definition};
 ghost use Rattle.rq_live.specs.Managers.{IsInOrder, stand_of};
 ghost use Rattle.rq_serve.specs.Answers.{answer_lines};
+ghost use Rattle.rq_serve.specs.Queues.{Knows};
 ghost use Rattle.rq_serve.specs.Requests.{request_of};
-ghost use Rattle.rq_serve.specs.Serving.{AddsAnswer};
+ghost use Rattle.rq_serve.specs.Serving.{AddsAnswer, IsHeard};
+ghost use Rattle.rq_serve.specs.Units.{is_doomed};
 
 use crate::answers::Answer;
 use crate::deeds::done;
@@ -39,7 +43,11 @@ pub(crate) struct Spent;
 
 impl Session {
     /// Nothing was asked yet.
-    pub(crate) fn new(alloc: Global, point: CarryPoint) -> Session {
+    pub(crate) fn new(alloc: Global, point: CarryPoint) -> Session
+        ensures answers { string_bytes result.answers ≡ [] }
+        ensures doomed { (unit : ℕ) → 0 < unit → is_doomed result.doomed unit ≡ false }
+        ensures names { (definitions : List Definition) → Knows result.names definitions }
+    {
         Session {
             doomed: Doomed::none(alloc),
             names: QueueNames::none(alloc),
@@ -55,6 +63,7 @@ impl Session {
         ensures lines { OnOk result (string_bytes self.new.answers
             ≡ string_bytes self.old.answers ++ answer_lines answer.now) }
         ensures safe { OnOk result (self.new.asks_sync ≡ (self.old.asks_sync || is_safe)) }
+        ensures keeps { (self.new.names ≡ self.old.names) × (self.new.doomed ≡ self.old.doomed) }
     {
         match answer.put(&mut self.answers) {
             Ok(()) => {
@@ -67,7 +76,9 @@ impl Session {
 
     // A line that is no request dooms all units that are open.
     fn doom_all<D: Device + Drop>(&mut self, m: &Manager<D>) -> Result<(), Spent>
-        ensures { OnOk result (AddsAnswer None self.old self.new) }
+        ensures { OnOk result (AddsAnswer None self.old self.new
+            (stand_of D.written D.synced D.doubted D.failed m.now)
+            (stand_of D.written D.synced D.doubted D.failed m.now)) }
     {
         match m.greatest() {
             Ok(greatest) => {
@@ -84,7 +95,9 @@ impl Session {
         m: &Manager<D>,
         done: Result<Answer, Undone>,
     ) -> Result<Answer, Spent>
-        ensures { (self.new.answers ≡ self.old.answers) × (self.new.asks_sync ≡ self.old.asks_sync) }
+        ensures heard { IsHeard done result }
+        ensures answers { (self.new.answers ≡ self.old.answers) × (self.new.asks_sync ≡ self.old.asks_sync) }
+        ensures keeps { (self.new.names ≡ self.old.names) × (self.new.doomed ≡ self.old.doomed) }
     {
         match done {
             Ok(answer) => {
@@ -111,7 +124,9 @@ impl Session {
         S: Successor<D> + Operator,
         requires { IsInOrder (stand_of D.written D.synced D.doubted D.failed m.old) }
         ensures order { IsInOrder (stand_of D.written D.synced D.doubted D.failed m.new) }
-        ensures adds { OnOk result (AddsAnswer (Some request) self.old self.new) }
+        ensures adds { OnOk result (AddsAnswer (Some request) self.old self.new
+            (stand_of D.written D.synced D.doubted D.failed m.old)
+            (stand_of D.written D.synced D.doubted D.failed m.new)) }
     {
         let asks = request.asks_safety();
         self.is_closed = matches!(request, Request::Close);
@@ -133,7 +148,9 @@ impl Session {
         S: Successor<D> + Operator,
         requires { IsInOrder (stand_of D.written D.synced D.doubted D.failed m.old) }
         ensures order { IsInOrder (stand_of D.written D.synced D.doubted D.failed m.new) }
-        ensures adds { OnOk result (AddsAnswer (request_of line.now) self.old self.new) }
+        ensures adds { OnOk result (AddsAnswer (request_of line.now) self.old self.new
+            (stand_of D.written D.synced D.doubted D.failed m.old)
+            (stand_of D.written D.synced D.doubted D.failed m.new)) }
     {
         match Request::of(alloc, line) {
             Ok(request) => self.answer(alloc, m, next, request),

@@ -21,9 +21,9 @@ pub(crate) struct LogCopy {
     synced: usize,
 }
 
-// Room for bytes that are read again. (A function of its own, since the check of one that knows its
-// bytes would look at each.)
-fn room_for(alloc: Global, len: usize) -> Result<Vec<u8>, AllocError> {
+/// Room for so many bytes that are read. (A function of its own, since the check of one that knows its
+/// bytes would look at each.)
+pub(crate) fn room_for(alloc: Global, len: usize) -> Result<Vec<u8>, AllocError> {
     vec![in alloc; 0u8; len]
 }
 

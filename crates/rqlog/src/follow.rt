@@ -4,15 +4,15 @@ ghost use Rattle.std.specs.Prelude.{◌≡◌, ◌≤◌, ℕ, IfOk, List, OnOk,
 ghost use Rattle.rq_follow.specs.Followers.{IsFollowing};
 ghost use Rattle.rq_live.specs.Kernels.{StandsWithin};
 
-use crate::copies::LogCopy;
+use crate::copies::{LogCopy, room_for};
 use crate::damage::{BadEnd, LINK_LEN, moved};
 use crate::inputs::{opened, read_piece};
-use crate::refusal::{Refusal, Stream};
-use crate::serve::{CARRY_AT, Greeting, is_left_by_crash, keep_cut, serve_on};
+use crate::refusal::{Refusal, Stream, failed};
+use crate::serve::{CARRY_AT, Greeting, begun_with, is_left_by_crash, keep_cut, serve_on};
 use clap::ArgMatches;
 use rq_file::Patient;
 use rq_follow::{Follower, Standing};
-use rq_front::HEADER_LEN;
+use rq_front::{CARRIED_AT, HEADER_LEN};
 use rq_journal::{Damage, Fault, Plan, Why};
 use rq_judged::Edge;
 use rq_log_file::{HeldLog, LogFile};
@@ -24,6 +24,7 @@ use rq_tool::Open;
 use std::alloc::{AllocError, Global};
 use std::fs::{File, Files};
 use std::io::{self, Read};
+use std::os::unix::fs::FileExt;
 use std::rt::Clock;
 use std::thread::Threads;
 
@@ -36,12 +37,6 @@ struct Standby {
     follower: Follower,
     copy: Option<LogCopy>,
     serves: bool,
-}
-
-// Room for what is read at a time. (A function of its own, since the check of one that knows its bytes
-// would look at each.)
-fn room_for_piece(alloc: Global) -> Result<Vec<u8>, AllocError> {
-    vec![in alloc; 0u8; PIECE]
 }
 
 // What is told of a fault of the log that comes.
@@ -73,20 +68,17 @@ impl Standby {
         }
     }
 
-    // Refuses a front that ends whatever comes, and a carried file that is to be served.
+    // Refuses a front that ends whatever comes.
     fn expect_open(&self) -> Result<(), Refusal>
         requires { (b : List ℕ) × IsFollowing b self.now.follower }
     {
-        if self.serves && self.follower.is_carried() {
-            return Err(of_source(Fault::NotALog));
-        }
         match self.follower.end() {
             Some(end) if !matches!(end.why, Why::Whole | Why::Cut) => Err(Refusal::FrontEnds(end)),
             _ => Ok(()),
         }
     }
 
-    // Goes along with a piece. Ends where the front does, and at a carried file that is to be served.
+    // Goes along with a piece. Ends where the front does.
     fn take<R>(&mut self, rt: &R, piece: &[u8], plan: &Plan) -> Result<(), Refusal>
     where
         R: AllocGlobal + Threads + Sync,
@@ -125,7 +117,7 @@ impl Standby {
         requires { (b : List ℕ) × IsFollowing b self.old.follower }
         ensures { OnOk result ((b : List ℕ) × IsFollowing b self.new.follower) }
     {
-        let mut piece = room_for_piece(rt.alloc())?;
+        let mut piece = room_for(rt.alloc(), PIECE)?;
         for _ in 0..u64::MAX {
             let count = read_piece(from, &mut piece, Stream::Source)?;
             if count == 0 {
@@ -241,6 +233,7 @@ where
     R: Files<File = File> + Input + Print + Eprint + Clock + AllocGlobal,
     requires { (b : List ℕ) × IsFollowing b follower }
 {
+    let begins = begun_by(rt.alloc(), &held, follower.is_carried())?;
     let last = behind(rt.alloc(), &follower)?;
     let found = found_in(rt.alloc(), follower)?;
     if last.len() < LINK_LEN {
@@ -256,9 +249,21 @@ where
     let stands = found.end.used.saturating_add(cut.len());
     let (file, point) = (
         LogFile::of_synced(held, stands),
-        CarryPoint::new(CARRY_AT, HEADER_LEN),
+        CarryPoint::new(CARRY_AT, begins),
     );
     serve_on(rt, path, file, stands, found.kernel, greeting, point)
+}
+
+// How many bytes a copy began with.
+fn begun_by(alloc: Global, held: &HeldLog, is_carried: bool) -> Result<usize, Refusal> {
+    if !is_carried {
+        return Ok(HEADER_LEN);
+    }
+    let mut first = room_for(alloc, CARRIED_AT + 4)?;
+    match held.file().read_exact_at(&mut first, 0) {
+        Ok(()) => Ok(begun_with(&first)),
+        Err(error) => Err(failed(Stream::Log, error)),
+    }
 }
 
 // What is done where the log ends: the copy is served, or the report printed.
