@@ -95,7 +95,7 @@ dooms_refused requests.Close n refused a b p is h = λ unit spared. same_doomed 
 
 -- What a line leads to.
 
-abbrev LineLeads : Option Request → Answer → Stand → Stand → Session → Session → Type 0
+abbrev pub LineLeads : Option Request → Answer → Stand → Stand → Session → Session → Type 0
 LineLeads asked answer m n a b = Leads m n a.names b.names (λ p q. Answers (is_doomed a.doomed) asked p answer q
     × DoomsNext p asked answer (is_doomed a.doomed) (is_doomed b.doomed))
 

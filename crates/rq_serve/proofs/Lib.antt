@@ -5,4 +5,5 @@ pub mod Cutting
 pub mod Pairs
 pub mod Named
 pub mod Turning
+pub mod Doing
 pub mod Talking

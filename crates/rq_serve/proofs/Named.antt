@@ -79,6 +79,6 @@ pub found_or_none : (names : QueueNames) (definitions : List Definition) (name :
 found_or_none names definitions name (Some queue) is knows all = knows.right name queue (sym is)
 found_or_none names definitions name None is knows all = λ queue here.
     let there = knows.whole queue (omega (arith, here.0, all)) in
-    let none : IsSome None
+    let none : IsSome {T = QueueNo} None
     = subst (λ (r : Option QueueNo). IsSome r) (ap (λ (n : List ℕ). number_kept names n) here.1 ∙ sym is) there in
     cc

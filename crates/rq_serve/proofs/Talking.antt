@@ -1,17 +1,19 @@
 -- What is done one after the other, and what is told of it.
-use Rattle.std.proofs.Common.{◌≡◌, ℕ, List, [], ◌∷◌, ◌++◌, Option, Some, None, ◌∙◌, ap, sym, subst, refl, append_assoc}
+use Rattle.std.proofs.Common.{◌≡◌, ◌<◌, ℕ, false, List, [], ◌∷◌, ◌++◌, Option, Some, None, ◌∙◌, ap, sym, subst, refl, append_assoc}
 use Rattle.std.specs.Prelude.{string_bytes}
 use Rattle.std.specs.List.{flat_map}
 use Rattle.std.specs.Io.KnownBytes.{Appends}
 use Rattle.std.proofs.lemmas.List.{append-nil}
 use Rattle.std.proofs.lemmas.Grind.{flat_map-append}
-use Rattle.rq_live.specs.Managers.{Stand, StandsStill}
+use Rattle.rq_model.specs.States.{Definition}
+use Rattle.rq_model.specs.Machine.{aborts}
+use Rattle.rq_live.specs.Managers.{Stand, StandsStill, AbortsAll, Settles}
 use Rattle.rq_live.specs.Carries.{GoesOver}
 use Rattle.rq_serve.specs.Answers.{answer_lines}
-use Rattle.rq_serve.specs.Deeds.{Log, queues_of, carried_log, StandsAt}
+use Rattle.rq_serve.specs.Deeds.{Log, state_of, queues_of, behind, carried_log, StandsAt}
 use Rattle.rq_serve.specs.Queues.{Knows}
 use Rattle.rq_serve.specs.Serving.{AddsAnswer}
-use Rattle.rq_serve.specs.Talks.{Event, Line, CarriedOn, Pause, Follows, LeadTo, LeadsOn, GoesOn, pause_of, lines_told}
+use Rattle.rq_serve.specs.Talks.{Event, Line, CarriedOn, Pause, Follows, LeadTo, LeadsOn, GoesOn, Serves, pause_of, lines_told}
 use Rattle.rq_serve.specs.Units.{is_doomed}
 use Rattle.rq_serve.specs.declared.doomed.Doomed.{Doomed}
 use Rattle.rq_serve.specs.declared.queue_names.QueueNames.{QueueNames}
@@ -105,4 +107,21 @@ goes_carried a b count s t o over names doomed answers = record {
   told = [];
   appended = appends_none o;
   lines = ap (λ x. string_bytes x) answers ∙ sym (append-nil (string_bytes s.answers));
+}
+
+-- a service that ends
+pub serves_so : (a b c d : Stand) (s t : Session) (old new : Option (List ℕ)) → GoesOn a b s t old new
+    → string_bytes s.answers ≡ [] → string_bytes t.answers ≡ []
+    → ((unit : ℕ) → 0 < unit → is_doomed s.doomed unit ≡ false)
+    → ((definitions : List Definition) → Knows s.names definitions) → AbortsAll b c → Settles c d → Serves a d old new
+serves_so a b c d s t old new goes none after fresh knows ends settles = record {
+  events = goes.events;
+  told = subst (λ (x : List ℕ). Appends old new x) (sym (append-nil goes.told)
+      ∙ ap (λ (l : List ℕ). goes.told ++ l) (sym after) ∙ goes.lines
+      ∙ ap (λ (l : List ℕ). l ++ flat_map lines_told goes.events) none) goes.appended;
+  led = λ p is.
+      let l = goes.leads p is (knows (queues_of p)) in
+      let ended = ends l.0.from l.0.done l.2 in
+      let last = behind l.0 (aborts (state_of l.0)) in
+      (is_doomed s.doomed, fresh, pause_of l.0 t, l.1, (settles last.from last.done ended).0);
 }

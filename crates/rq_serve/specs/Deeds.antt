@@ -69,11 +69,10 @@ abbrev pub is_defined_so : Definition → ℕ → Option ℕ → Bool
 is_defined_so d limit None = false
 is_defined_so d limit (Some error) = (d.limit == limit) && (d.error == error)
 
--- no queue has the name, and it is defined
+-- a queue that is not there is defined: it is the next
 abbrev pub DefinesNew : List ℕ → ℕ → Option ℕ → ℕ → Log → Log → Type 0
 DefinesNew name limit None queue p q = ⊥
-DefinesNew name limit (Some error) queue p q = IsQueueIfAny (queues_of p) name None × (queue ≡ length (queues_of p))
-    × Adds p (Define limit error name) q
+DefinesNew name limit (Some error) queue p q = (queue ≡ length (queues_of p)) × Adds p (Define limit error name) q
 
 abbrev pub Opens : List ℕ → ℕ → Option ℕ → Log → Answer → Log → Type 0
 Opens name limit error p answer q = (queue : QueueNo) × (answer ≡ answers.Queue queue)
@@ -85,7 +84,7 @@ Defines name limit error p answer q = (e : Option ℕ) × (queue : QueueNo) × I
     × (answer ≡ answers.Queue queue)
     × (((q ≡ p) × IsQueue (queues_of p) name queue.0
     × (is_defined_so (definition_at (queues_of p) queue.0) limit e ≡ true))
-    ⊎ DefinesNew name limit e queue.0 p q)
+    ⊎ (IsQueueIfAny (queues_of p) name None × DefinesNew name limit e queue.0 p q))
 
 -- the last operation of who is registered with the queue by the name
 abbrev pub last_operation : Log → ℕ → List ℕ → Option (Option Last)
@@ -321,6 +320,12 @@ FindsError m known knows error e = (p : Log) → StandsAt p m → Knows known (q
 abbrev pub IsDefinedThere : Stand → ℕ → ℕ → Option ℕ → Bool → Type 0
 IsDefinedThere m queue limit error is = (p : Log) → StandsAt p m
     → is ≡ is_defined_so (definition_at (queues_of p) queue) limit error
+
+-- it is defined otherwise, or the manager is spent
+abbrev pub Mismatches : Stand → ℕ → ℕ → Option ℕ → Undone → Type 0
+Mismatches m queue limit error (undone.Refused refused) = (refused ≡ refusals.Defined)
+    × IsDefinedThere m queue limit error false
+Mismatches m queue limit error undone.Spent = ⊤
 
 -- the name of a queue there
 abbrev pub IsNameThere : Stand → ℕ → List ℕ → Type 0

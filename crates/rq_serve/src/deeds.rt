@@ -353,11 +353,11 @@ fn commit<D: Device + Drop>(
         return Err(why_doomed(m, unit));
     }
     m.commit_later(alloc, unit)?;
-    Ok(if is_later {
-        Answer::Later
+    if is_later {
+        Ok(Answer::Later)
     } else {
-        Answer::Done
-    })
+        Ok(Answer::Done)
+    }
 }
 
 fn abort<D: Device + Drop>(

@@ -43,10 +43,7 @@ pub(crate) fn queue_at(place: usize) -> Result<QueueNo, Undone>
 }
 
 /// The queues, by number.
-pub(crate) fn queues_told<D: Device + Drop>(
-    alloc: Global,
-    m: &Manager<D>,
-) -> Result<Answer, Undone>
+pub(crate) fn queues_told<D: Device + Drop>(alloc: Global, m: &Manager<D>) -> Result<Answer, Undone>
     ensures refused { IfErr result (λ why. why ≡ Undone.Spent) }
 {
     let mut text = String::new(alloc);

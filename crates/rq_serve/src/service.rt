@@ -229,12 +229,13 @@ where
     requires order { IsInOrder (stand_of D.written D.synced D.doubted D.failed m.old) }
     requires reads { I.faults input.old < 18446744073709551615 }
     requires writes { O.faults output.old < 18446744073709551615 }
+    requires none { string_bytes session.old.answers ≡ [] }
     ensures order { IsInOrder (stand_of D.written D.synced D.doubted D.failed m.new) }
     ensures goes { OnOk result (GoesOn
         (stand_of D.written D.synced D.doubted D.failed m.old)
         (stand_of D.written D.synced D.doubted D.failed m.new)
         session.old session.new (O.contents output.old) (O.contents output.new)) }
-    ensures all { OnOk result (string_bytes session.new.answers ≡ []) }
+    ensures none { OnOk result (string_bytes session.new.answers ≡ []) }
     ensures spent { result ≡ Err Unserved.Spent → O.faults output.new ≡ O.faults output.old }
 {
     let mut held = Vec::new(alloc);
