@@ -87,10 +87,6 @@ plain_redone stops b f r is of =
       state = of.state ∙ at.machine;
     }
 
-pub standing_redone : FrontStops → (b : List ℕ) (f : MachinePass) (r : RedoneFront) → IsRedoneOf f r → IsPlain b f
-    → IsRedoneFront b r
-standing_redone stops b f r of is = plain_redone stops b f r is of
-
 -- Of a carried file: the first record is its checkpoint, since that is lawful in each state.
 ends_not : (version : Version) (s : State) (p bytes kept : List ℕ) (why : Why) → HasRightFrame p bytes
     → body_in bytes ≡ 9 ∷ kept → length kept ≤ 268435455 → IsWhy version s p bytes why → ⊥

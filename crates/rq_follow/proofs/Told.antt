@@ -1,15 +1,13 @@
 -- What is told of the bytes that came, and on what a manager goes on.
-use Rattle.std.proofs.Common.{◌≡◌, ℕ, ◌+◌, ◌-◌, ◌<◌, ◌≤◌, List, ◌++◌, length, take, drop, refl, sym, ap, ◌∙◌}
+use Rattle.std.proofs.Common.{◌≡◌, ℕ, ◌+◌, ◌-◌, ◌<◌, List, ◌++◌, length, take, drop, refl, sym, ap, ◌∙◌}
 use Rattle.std.proofs.Common.{append_assoc, arith, inl, inr}
 use Rattle.std.specs.Prelude.{Ok, Some, None}
 use Rattle.std.proofs.lemmas.List.{drop-drop, drop_at, length-append, length-take, take-append-drop}
 use Rattle.rq_model.specs.Records.{Record}
-use Rattle.rq_model.specs.Frames.{before, frames_of, header, log_limit, start}
+use Rattle.rq_model.specs.Frames.{before, frames_of, header, start}
 use Rattle.rq_model.specs.LogLaws.{FrontStops}
 use Rattle.rq_model.specs.Carrying.{IsNoLog, ReadsAsLog, carried_header}
-use Rattle.rq_model.proofs.Restarts.{header_long}
-use Rattle.rq_record.specs.declared.fault.Fault.TheVariants as faults
-use Rattle.rq_front.specs.Chains.{IsCarried, IsHeaded, Refused}
+use Rattle.rq_front.specs.Chains.{IsCarried}
 use Rattle.rq_judged.specs.declared.ends.Edge.{Edge}
 use Rattle.rq_judged.specs.Windows.{Origin, log_origin}
 use Rattle.rq_restart.specs.declared.redone.RedoneFront.{RedoneFront}
@@ -32,19 +30,6 @@ linked_carried b w it = (it.is.version, it.is.header)
 
 pub carried_carried : ReadsAsLog → (b : List ℕ) (f : MachinePass) → IsCarriedAlong b f → IsCarried b
 carried_carried reads b f is = (is.version, (read_so reads b is.version is.link is.bytes is.whole is.long).carried)
-
--- no carried file is a log
-pub carried_refused : IsNoLog → (b : List ℕ) → length b ≤ log_limit → IsCarried b → Refused b faults.NotALog
-carried_refused apart b short it = (short, λ (log : IsHeaded b). apart.headed it.0 log.0 b it.1 log.1)
-
-pub short_refused : (b : List ℕ) → length b < 40 → Refused b faults.NotALog
-short_refused b few =
-    (omega (arith, few), λ (log : IsHeaded b). omega (arith, few, ap length log.1, length-take 40 b, header_long log.0))
-
-pub carried_short : (b : List ℕ) (f : MachinePass) → IsCarriedAlong b f → length b ≤ log_limit
-carried_short b f is =
-    let (rs, rest, at, ends) = is.fed in
-    omega (arith, carried_total b f is, at.short)
 
 -- The front that a pass came behind.
 module _ (f : MachinePass) (e : Edge) (used : e.used ≡ f.total - (length f.window.items - f.place))

@@ -6,9 +6,9 @@ use Rattle.rq_model.specs.Records.{By}
 use Rattle.rq_model.specs.States.{Element}
 use Rattle.rq_model.specs.Machine.{best}
 use Rattle.rq_serve.specs.Answers.{answer_lines}
-use Rattle.rq_serve.specs.Deeds.{Log, state_of, queues_of, StandsAt, Fulfils, Refuses, Takes, Leads, Turns}
-use Rattle.rq_serve.specs.Queues.{Knows}
-use Rattle.rq_serve.specs.Serving.{AddsAnswer, Answers, DoomsBy, DoomsNext, answer_of, is_refused, says_safe}
+use Rattle.rq_serve.specs.Deeds.{Log, state_there, queues_in, StandsInLog, AnswersRequest, RefusesRequest, AnswersTaken, Leads, Turns}
+use Rattle.rq_serve.specs.Queues.{KnowsQueues}
+use Rattle.rq_serve.specs.Serving.{AddsAnswer, AnswersLine, DoomsBy, DoomsNext, answer_of, is_refused, says_safe}
 use Rattle.rq_serve.specs.Units.{is_doomed}
 use Rattle.rq_serve.specs.declared.answers.Answer.{Answer}
 use Rattle.rq_serve.specs.declared.answers.Answer.TheVariants as answers
@@ -42,19 +42,19 @@ same_but a b unit r y e none = ap (λ (d : Doomed). is_doomed d unit) e ∙ sym 
 
 -- an element that is taken, or none, is no refusal
 taken_unrefused : (unit queue : ℕ) (by : Option By) (e : Option Element) (p : Log) (answer : Answer) (q : Log)
-    → Takes unit queue by e p answer q → is_refused answer ≡ false
+    → AnswersTaken unit queue by e p answer q → is_refused answer ≡ false
 taken_unrefused unit queue by (Some e) p answer q t = ap is_refused t.0
 taken_unrefused unit queue by None p answer q t = ap is_refused t.0
 
 -- by what was done
 dooms_done : (request : Request) (n : Stand) (doomed : ℕ → Bool) (answer : Answer) (a b : Doomed) (p q : Log)
-    → Fulfils doomed request p answer q → DoomsBy request n (Ok answer) a b
+    → AnswersRequest doomed request p answer q → DoomsBy request n (Ok answer) a b
     → DoomsNext p (Some request) answer (is_doomed a) (is_doomed b)
 dooms_done (requests.Enqueue u queue priority by payload) n doomed answer a b p q f h = λ unit spared.
     same_but a b unit (is_refused answer) _ h (ap is_refused f.2)
 dooms_done (requests.Dequeue u queue by) n doomed answer a b p q f h = λ unit spared.
     same_but a b unit (is_refused answer) _ h
-    (taken_unrefused u.0 f.0 by (best f.0 (state_of p).elements) p answer q f.2)
+    (taken_unrefused u.0 f.0 by (best f.0 (state_there p).elements) p answer q f.2)
 dooms_done (requests.Abort u) n doomed answer a b p q f h = λ unit spared.
     h unit spared ∙ sym (or_false (is_doomed a unit))
 dooms_done (requests.Define queue limit error) n doomed answer a b p q f h = λ unit spared. same_doomed a b unit h
@@ -72,7 +72,7 @@ dooms_done (requests.Queue queue count) n doomed answer a b p q f h = λ unit sp
 dooms_done requests.Close n doomed answer a b p q f h = λ unit spared. same_doomed a b unit h
 
 -- and by what was refused
-dooms_refused : (request : Request) (n : Stand) (refused : Refused) (a b : Doomed) (p : Log) → StandsAt p n
+dooms_refused : (request : Request) (n : Stand) (refused : Refused) (a b : Doomed) (p : Log) → StandsInLog p n
     → DoomsBy request n (Err (undone.Refused refused)) a b
     → DoomsNext p (Some request) (answers.Refused refused) (is_doomed a) (is_doomed b)
 dooms_refused (requests.Enqueue u queue priority by payload) n refused a b p is h = λ unit spared. h p is unit
@@ -96,11 +96,11 @@ dooms_refused requests.Close n refused a b p is h = λ unit spared. same_doomed 
 -- What a line leads to.
 
 abbrev pub LineLeads : Option Request → Answer → Stand → Stand → Session → Session → Type 0
-LineLeads asked answer m n a b = Leads m n a.names b.names (λ p q. Answers (is_doomed a.doomed) asked p answer q
+LineLeads asked answer m n a b = Leads m n a.names b.names (λ p q. AnswersLine (is_doomed a.doomed) asked p answer q
     × DoomsNext p asked answer (is_doomed a.doomed) (is_doomed b.doomed))
 
-knows_same : (x y : QueueNames) (p : Log) → y ≡ x → Knows x (queues_of p) → Knows y (queues_of p)
-knows_same x y p e k = subst (λ (n : QueueNames). Knows n (queues_of p)) (sym e) k
+knows_same : (x y : QueueNames) (p : Log) → y ≡ x → KnowsQueues x (queues_in p) → KnowsQueues y (queues_in p)
+knows_same x y p e k = subst (λ (n : QueueNames). KnowsQueues n (queues_in p)) (sym e) k
 
 -- a line that is no request
 pub none_leads : (a b : Session) (m : Stand) (d : Doomed) (greatest : ℕ) → b.names ≡ a.names → b.doomed ≡ d
@@ -120,7 +120,7 @@ none_leads a b m d greatest names doomed is_greatest dooms p is k = (
 -- a request that is done
 ok_leads : (request : Request) (answer : Answer) (a b : Session) (m n : Stand) (names : QueueNames) (d : Doomed)
     → b.names ≡ names → b.doomed ≡ d
-    → Turns m n a.names names (Fulfils (is_doomed a.doomed) request) (Refuses (is_doomed a.doomed) request) (Ok answer)
+    → Turns m n a.names names (AnswersRequest (is_doomed a.doomed) request) (RefusesRequest (is_doomed a.doomed) request) (Ok answer)
     → DoomsBy request n (Ok answer) a.doomed d → LineLeads (Some request) answer m n a b
 ok_leads request answer a b m n names d same doomed turns dooms p is k =
     let t = turns p is k in (
@@ -137,7 +137,7 @@ ok_leads request answer a b m n names d same doomed turns dooms p is k =
 -- and one that is refused
 refused_leads : (request : Request) (refused : Refused) (a b : Session) (m n : Stand) (names : QueueNames)
     (d : Doomed) → b.names ≡ names → b.doomed ≡ d
-    → Turns m n a.names names (Fulfils (is_doomed a.doomed) request) (Refuses (is_doomed a.doomed) request)
+    → Turns m n a.names names (AnswersRequest (is_doomed a.doomed) request) (RefusesRequest (is_doomed a.doomed) request)
     (Err (undone.Refused refused))
     → DoomsBy request n (Err (undone.Refused refused)) a.doomed d
     → LineLeads (Some request) (answers.Refused refused) m n a b
@@ -148,7 +148,7 @@ refused_leads request refused a b m n names d same doomed turns dooms p is k =
         inr (refused, refl, t.1.0, t.1.1),
         subst (λ (x : Doomed). DoomsNext p (Some request) (answers.Refused refused) (is_doomed a.doomed) (is_doomed x))
             (sym doomed) (dooms_refused request n refused a.doomed d p
-            (subst (λ (x : Log). StandsAt x n) t.1.0 t.2) dooms),
+            (subst (λ (x : Log). StandsInLog x n) t.1.0 t.2) dooms),
       ),
       t.2,
       knows_same names b.names t.0 same t.3,
@@ -156,7 +156,7 @@ refused_leads request refused a b m n names d same doomed turns dooms p is k =
 
 pub request_leads : (request : Request) (done : Result Answer Undone) (answer : Answer) (a b : Session)
     (m n : Stand) (names : QueueNames) (d : Doomed) → b.names ≡ names → b.doomed ≡ d
-    → Turns m n a.names names (Fulfils (is_doomed a.doomed) request) (Refuses (is_doomed a.doomed) request) done
+    → Turns m n a.names names (AnswersRequest (is_doomed a.doomed) request) (RefusesRequest (is_doomed a.doomed) request) done
     → DoomsBy request n done a.doomed d → answer_of done ≡ Some answer → LineLeads (Some request) answer m n a b
 request_leads request (Ok x) answer a b m n names d same doomed turns dooms is =
     let e : x ≡ answer = cc in

@@ -17,8 +17,8 @@ use Rattle.rq_live.specs.declared.kernel.NotDone.TheVariants.{Unlawful, Full, La
 use Rattle.rq_live.specs.declared.carries.NotCarried.{NotCarried}
 use Rattle.rq_live.specs.declared.carries.NotCarried.TheVariants as uncarried
 use Rattle.rq_live.proofs.Begun.{state_joins}
-use Rattle.rq_serve.specs.Deeds.{Log, state_of, queues_of, behind, carried_log, StandsAt, Adds, KeepsQueues, Moves, Leads, Turns, TurnsAlone, StaysRefused, Finds, FindsError, RefusesRecord, Registers, RegistersWith, last_operation, IsLast, IsLastIfAny, IsLastThere, Begins, unit_begun, RefusesBegin, Enqueues, Dequeues, Takes, IsNameThere, Commits, RefusesCommit, IsDoomedThere, Aborts, Kills, KillsIf, TakesCheckpoint, RefusesCheckpoint, Carries, RefusesCarry, TellsLast, RefusesLast, Closes, Opens, DefinesNew, RefusesNew, Deregisters, Defines, RefusesDefine, IsDefinedThere, Mismatches}
-use Rattle.rq_serve.specs.Queues.{IsQueue, Knows}
+use Rattle.rq_serve.specs.Deeds.{Log, state_there, queues_in, log_with, carried_log, StandsInLog, AddsRecord, KeepsQueues, Moves, Leads, Turns, TurnsAlone, StaysRefused, FindsQueue, FindsError, RefusesRecord, AnswersRegister, AnswersRegistered, last_operation, IsLastTold, IsLastIfAny, IsLastThere, AnswersBegin, unit_begun, RefusesBegin, AnswersEnqueue, AnswersDequeue, AnswersTaken, IsNameThere, AnswersCommit, RefusesCommit, IsDoomedThere, AnswersAbort, AnswersKill, AnswersKilled, AnswersCheckpoint, RefusesCheckpoint, AnswersCarry, RefusesCarry, AnswersLast, RefusesLast, AnswersClose, AnswersNew, DefinesNew, RefusesNew, AnswersDeregister, AnswersDefine, RefusesDefine, IsDefinedThere, Mismatches}
+use Rattle.rq_serve.specs.Queues.{IsQueue, KnowsQueues}
 use Rattle.rq_serve.specs.Refusals.{refused_for, refused_checkpoint, refused_carry, undone_by}
 use Rattle.rq_serve.specs.declared.answers.Answer.{Answer}
 use Rattle.rq_serve.specs.declared.answers.Answer.TheVariants as answers
@@ -32,30 +32,30 @@ use Rattle.rq_serve.proofs.Turning.{does_adds, found_leads, keeps_behind, keeps_
 -- Registrations.
 
 pub deregisters : (a b : Stand) (known knows : QueueNames) (name who : List ℕ) (queue : ℕ)
-    → Finds a known knows name (Some queue) → manager.Does a b (Deregister queue who)
-    → Leads a b known knows (λ p q. Deregisters name who p answers.Done q)
+    → FindsQueue a known knows name (Some queue) → manager.Does a b (Deregister queue who)
+    → Leads a b known knows (λ p q. AnswersDeregister name who p answers.Done q)
 deregisters a b known knows name who queue finds does =
-    found_leads a b known knows name queue (λ p q. Adds p (Deregister queue who) q)
-    (λ p q. Deregisters name who p answers.Done q) finds (does_adds a b (Deregister queue who) does)
+    found_leads a b known knows name queue (λ p q. AddsRecord p (Deregister queue who) q)
+    (λ p q. AnswersDeregister name who p answers.Done q) finds (does_adds a b (Deregister queue who) does)
     (λ p q is x. (queue, is, refl, x))
 
 is_registered_with : (queue : ℕ) (who : List ℕ) (last : Option (Option Last)) (p : Log) (answer : Answer)
-    → IsLast last answer → RegistersWith queue who last p answer p
+    → IsLastTold last answer → AnswersRegistered queue who last p answer p
 is_registered_with queue who None p answer is = absurd is
 is_registered_with queue who (Some None) p answer is = (is, refl)
 is_registered_with queue who (Some (Some last)) p answer is = (is, refl)
 
 -- somebody is registered already
 pub registered_before : (a : Stand) (known knows : QueueNames) (name who : List ℕ) (queue : ℕ) (answer : Answer)
-    → Finds a known knows name (Some queue) → IsLastThere a queue who (Some answer)
-    → Leads a a known knows (λ p q. Registers name who p answer q)
+    → FindsQueue a known knows name (Some queue) → IsLastThere a queue who (Some answer)
+    → Leads a a known knows (λ p q. AnswersRegister name who p answer q)
 registered_before a known knows name who queue answer finds last p is k =
     let f = finds p is k in
     (p, (queue, f.1, is_registered_with queue who (last_operation p queue who) p answer (last p is)), is, f.0)
 
 pub registers_now : (a b : Stand) (known knows : QueueNames) (name who : List ℕ) (queue : ℕ)
-    → Finds a known knows name (Some queue) → IsLastThere a queue who None → manager.Does a b (Register queue who)
-    → Leads a b known knows (λ p q. Registers name who p answers.NoLast q)
+    → FindsQueue a known knows name (Some queue) → IsLastThere a queue who None → manager.Does a b (Register queue who)
+    → Leads a b known knows (λ p q. AnswersRegister name who p answers.NoLast q)
 registers_now a b known knows name who queue finds last does p is k =
     let f = finds p is k in
     let m = does_adds a b (Register queue who) does p is in (
@@ -63,7 +63,7 @@ registers_now a b known knows name who queue finds last does p is k =
       (
         queue,
         f.1,
-        subst (λ (l : Option (Option Last)). RegistersWith queue who l p answers.NoLast m.0) (sym (last p is))
+        subst (λ (l : Option (Option Last)). AnswersRegistered queue who l p answers.NoLast m.0) (sym (last p is))
             (refl, m.1),
       ),
       m.2,
@@ -71,14 +71,14 @@ registers_now a b known knows name who queue finds last does p is k =
     )
 
 pub tells_last : (a : Stand) (known knows : QueueNames) (name who : List ℕ) (queue : ℕ) (answer : Answer)
-    → Finds a known knows name (Some queue) → IsLastThere a queue who (Some answer)
-    → Leads a a known knows (λ p q. TellsLast name who p answer q)
+    → FindsQueue a known knows name (Some queue) → IsLastThere a queue who (Some answer)
+    → Leads a a known knows (λ p q. AnswersLast name who p answer q)
 tells_last a known knows name who queue answer finds last p is k =
     let f = finds p is k in
     (p, (queue, f.1, refl, last p is), is, f.0)
 
 pub tells_nobody : (a : Stand) (known knows : QueueNames) (name who : List ℕ) (queue : ℕ)
-    → Finds a known knows name (Some queue) → IsLastThere a queue who None
+    → FindsQueue a known knows name (Some queue) → IsLastThere a queue who None
     → Leads a a known knows (λ p q. (q ≡ p) × RefusesLast name who p refusals.NoRegistrant)
 tells_nobody a known knows name who queue finds last p is k =
     let f = finds p is k in
@@ -87,21 +87,21 @@ tells_nobody a known knows name who queue finds last p is k =
 -- Units.
 
 pub begins_so : (a b : Stand) (unit : UnitNo) (id : Option ElemId) → DoesTaking a b (Begin unit.0) id
-    → Moves a b (λ p q. Begins (Some unit) p (answers.Unit unit) q)
+    → Moves a b (λ p q. AnswersBegin (Some unit) p (answers.Unit unit) q)
 begins_so a b unit id does p is =
     let d = does p.from p.done is in
-    (behind p (Begin unit.0 ∷ []), (refl, (d.1, refl)), d.0, keeps_behind p (Begin unit.0 ∷ []))
+    (log_with p (Begin unit.0 ∷ []), (refl, (d.1, refl)), d.0, keeps_behind p (Begin unit.0 ∷ []))
 
 pub begins_next : (a b : Stand) (unit : UnitNo) → BeginsUnit a b unit.0
-    → Moves a b (λ p q. Begins None p (answers.Unit unit) q)
+    → Moves a b (λ p q. AnswersBegin None p (answers.Unit unit) q)
 begins_next a b unit begins p is =
     let d = begins p.from p.done is in
-    let greatest = (state_of p).greatest in
+    let greatest = (state_there p).greatest in
     let next : ℕ = greatest + 1 in
     let above : nat_lt greatest (greatest + 1) ≡ true = lt-ltb greatest (greatest + 1) (omega arith) in (
-      behind p (Begin next ∷ []),
+      log_with p (Begin next ∷ []),
       (ap (λ (n : ℕ). answers.Unit (record { 0 = n })) d.1, (above, refl)),
-      subst (λ (n : ℕ). StandsAt (behind p (Begin n ∷ [])) b) d.1 d.0,
+      subst (λ (n : ℕ). StandsInLog (log_with p (Begin n ∷ [])) b) d.1 d.0,
       keeps_behind p (Begin next ∷ []),
     )
 
@@ -117,7 +117,7 @@ begin_refused a b Spent stops = tt
 
 pub commits_so : (a b : Stand) (doomed : ℕ → Bool) (unit : ℕ) (is_later : Bool) (answer : Answer)
     → doomed unit ≡ false → answer ≡ (if is_later then answers.Later else answers.Done)
-    → manager.Does a b (Commit unit) → Moves a b (λ p q. Commits doomed unit is_later p answer q)
+    → manager.Does a b (Commit unit) → Moves a b (λ p q. AnswersCommit doomed unit is_later p answer q)
 commits_so a b doomed unit is_later answer isnt told does p is =
     let m = does_adds a b (Commit unit) does p is in (m.0, (isnt, told, m.1), m.2, m.3)
 
@@ -148,47 +148,47 @@ doomed_refused a doomed unit (undone.Refused refused) is there = λ p stands.
 doomed_refused a doomed unit undone.Spent is there = tt
 
 pub aborts_so : (a b : Stand) (unit : ℕ) → manager.Does a b (Abort unit)
-    → Moves a b (λ p q. Aborts unit p answers.Done q)
+    → Moves a b (λ p q. AnswersAbort unit p answers.Done q)
 aborts_so a b unit does p is =
     let m = does_adds a b (Abort unit) does p is in (m.0, (refl, m.1), m.2, m.3)
 
 -- Elements.
 
 pub enqueues : (a b : Stand) (known knows : QueueNames) (name : List ℕ) (unit queue priority : ℕ) (by : Option By)
-    (payload : List ℕ) (id : ElemId) → Finds a known knows name (Some queue)
+    (payload : List ℕ) (id : ElemId) → FindsQueue a known knows name (Some queue)
     → manager.Enqueues a b (Enqueue unit queue priority by payload) id.0
-    → Leads a b known knows (λ p q. Enqueues unit name priority by payload p (answers.Element id) q)
+    → Leads a b known knows (λ p q. AnswersEnqueue unit name priority by payload p (answers.Element id) q)
 enqueues a b known knows name unit queue priority by payload id finds does p is k =
     let f = finds p is k in
     let d = does p.from p.done is in
     let r = Enqueue unit queue priority by payload in (
-      behind p (r ∷ []),
+      log_with p (r ∷ []),
       (queue, f.1, ap (λ (n : ℕ). answers.Element (record { 0 = n })) d.2, (d.1, refl)),
       d.0,
-      knows_kept knows p (behind p (r ∷ [])) f.0 (keeps_behind p (r ∷ [])),
+      knows_kept knows p (log_with p (r ∷ [])) f.0 (keeps_behind p (r ∷ [])),
     )
 
 -- a DEQUEUE defines nothing
-queues_stay : (p : Log) (unit queue : ℕ) (by : Option By) → queues_of (behind p (Dequeue unit queue by ∷ [])) ≡ queues_of p
+queues_stay : (p : Log) (unit queue : ℕ) (by : Option By) → queues_in (log_with p (Dequeue unit queue by ∷ [])) ≡ queues_in p
 queues_stay p unit queue by =
     ap (λ (s : State). s.definitions) (state_joins p.from p.done (Dequeue unit queue by ∷ []))
 
 pub dequeues : (a b : Stand) (known knows : QueueNames) (name from : List ℕ) (unit queue : ℕ) (by : Option By)
-    (e : Element) → Finds a known knows name (Some queue) → DequeuesIfFree a b unit queue by (Some e)
+    (e : Element) → FindsQueue a known knows name (Some queue) → DequeuesIfFree a b unit queue by (Some e)
     → IsNameThere b e.origin from
-    → Leads a b known knows (λ p q. Dequeues unit name by p (answers.Taken from e) q)
+    → Leads a b known knows (λ p q. AnswersDequeue unit name by p (answers.Taken from e) q)
 dequeues a b known knows name from unit queue by e finds does named p is k =
     let f = finds p is k in
     let d = does p.from p.done is in
     let r = Dequeue unit queue by in
-    let q = behind p (r ∷ []) in
-    let told : from ≡ (definition_at (queues_of p) e.origin).name
+    let q = log_with p (r ∷ []) in
+    let told : from ≡ (definition_at (queues_in p) e.origin).name
     = named q d.0 ∙ ap (λ (ds : List Definition). (definition_at ds e.origin).name) (queues_stay p unit queue by) in (
       q,
       (
         queue,
         f.1,
-        subst (λ (o : Option Element). Takes unit queue by o p (answers.Taken from e) q) d.2
+        subst (λ (o : Option Element). AnswersTaken unit queue by o p (answers.Taken from e) q) d.2
             (ap (λ (n : List ℕ). answers.Taken n e) told, (d.1, refl)),
       ),
       d.0,
@@ -196,8 +196,8 @@ dequeues a b known knows name from unit queue by e finds does named p is k =
     )
 
 pub dequeues_none : (a b : Stand) (known knows : QueueNames) (name : List ℕ) (unit queue : ℕ) (by : Option By)
-    → Finds a known knows name (Some queue) → DequeuesIfFree a b unit queue by None
-    → Leads a b known knows (λ p q. Dequeues unit name by p answers.Nothing q)
+    → FindsQueue a known knows name (Some queue) → DequeuesIfFree a b unit queue by None
+    → Leads a b known knows (λ p q. AnswersDequeue unit name by p answers.Nothing q)
 dequeues_none a b known knows name unit queue by finds does p is k =
     let f = finds p is k in
     let d = does.0 p.from p.done is in (
@@ -205,7 +205,7 @@ dequeues_none a b known knows name unit queue by finds does p is k =
       (
         queue,
         f.1,
-        subst (λ (o : Option Element). Takes unit queue by o p answers.Nothing p) (sym (does.1 p.from p.done is))
+        subst (λ (o : Option Element). AnswersTaken unit queue by o p answers.Nothing p) (sym (does.1 p.from p.done is))
             (refl, (d.1, refl)),
       ),
       d.0,
@@ -213,8 +213,8 @@ dequeues_none a b known knows name unit queue by finds does p is k =
     )
 
 pub kills : (a b : Stand) (known knows : QueueNames) (name : List ℕ) (queue element : ℕ)
-    → Finds a known knows name (Some queue) → KillsIfFree a b queue element true
-    → Leads a b known knows (λ p q. Kills name element p answers.Done q)
+    → FindsQueue a known knows name (Some queue) → KillsIfFree a b queue element true
+    → Leads a b known knows (λ p q. AnswersKill name element p answers.Done q)
 kills a b known knows name queue element finds does p is k =
     let f = finds p is k in
     let m = does_adds a b (Kill queue element) does.0 p is in (
@@ -222,15 +222,15 @@ kills a b known knows name queue element finds does p is k =
       (
         queue,
         f.1,
-        subst (λ (x : Bool). KillsIf queue element x p answers.Done m.0) (sym (does.1 p.from p.done is)) (refl, m.1),
+        subst (λ (x : Bool). AnswersKilled queue element x p answers.Done m.0) (sym (does.1 p.from p.done is)) (refl, m.1),
       ),
       m.2,
       knows_kept knows p m.0 f.0 m.3,
     )
 
 pub kills_none : (a b : Stand) (known knows : QueueNames) (name : List ℕ) (queue element : ℕ)
-    → Finds a known knows name (Some queue) → KillsIfFree a b queue element false
-    → Leads a b known knows (λ p q. Kills name element p answers.Nothing q)
+    → FindsQueue a known knows name (Some queue) → KillsIfFree a b queue element false
+    → Leads a b known knows (λ p q. AnswersKill name element p answers.Nothing q)
 kills_none a b known knows name queue element finds does p is k =
     let f = finds p is k in
     let d = does.0 p.from p.done is in (
@@ -238,7 +238,7 @@ kills_none a b known knows name queue element finds does p is k =
       (
         queue,
         f.1,
-        subst (λ (x : Bool). KillsIf queue element x p answers.Nothing p) (sym (does.1 p.from p.done is))
+        subst (λ (x : Bool). AnswersKilled queue element x p answers.Nothing p) (sym (does.1 p.from p.done is))
             (refl, (d.1, refl)),
       ),
       d.0,
@@ -248,11 +248,11 @@ kills_none a b known knows name queue element finds does p is k =
 -- The log as a whole.
 
 pub marks : (a b : Stand) (offset : ℕ) → MarksSafely a b offset
-    → Moves a b (λ p q. TakesCheckpoint p (answers.Checkpoint offset) q)
+    → Moves a b (λ p q. AnswersCheckpoint p (answers.Checkpoint offset) q)
 marks a b offset does p is =
     let d = does p.from p.done is in
-    let r = checkpoint_in (state_of p) in (
-      behind p (r ∷ []),
+    let r = checkpoint_in (state_there p) in (
+      log_with p (r ∷ []),
       (ap (λ (n : ℕ). answers.Checkpoint n) d.2, refl, subst (λ (n : ℕ). manager.IsTrueIn p.from p.done n) d.2 d.3),
       d.0,
       keeps_behind p (r ∷ []),
@@ -270,7 +270,7 @@ mark_refused a b Ended stops = λ p is.
 mark_refused a b Spent stops = tt
 
 pub carries_so : (a b : Stand) (count : ℕ) → GoesOver a b count
-    → Moves a b (λ p q. Carries p (answers.Carried count) q)
+    → Moves a b (λ p q. AnswersCarry p (answers.Carried count) q)
 carries_so a b count over p is =
     let c = over p.from p.done is in
     (carried_log p, (ap (λ (n : ℕ). answers.Carried n) c.3, refl), c.0, keeps_same p)
@@ -288,27 +288,27 @@ carry_refused a b uncarried.Resources refused told stops = λ p is.
 carry_refused a b uncarried.Spent refused told stops = absurd cc
 
 pub closes : (a b c : Stand) (len : ℕ) → AbortsAll a b → Settles b c → IsLength c len
-    → Moves a c (λ p q. Closes p (answers.Closed len) q)
+    → Moves a c (λ p q. AnswersClose p (answers.Closed len) q)
 closes a b c len does settles long p is =
-    let q = behind p (aborts (state_of p)) in
+    let q = log_with p (aborts (state_there p)) in
     let there = (settles q.from q.done (does p.from p.done is)).0 in
-    (q, (refl, ap (λ (n : ℕ). answers.Closed n) (long q.from q.done there)), there, keeps_behind p (aborts (state_of p)))
+    (q, (refl, ap (λ (n : ℕ). answers.Closed n) (long q.from q.done there)), there, keeps_behind p (aborts (state_there p)))
 
 -- Definitions.
 
 pub opens_so : (a b : Stand) (name : List ℕ) (limit error : ℕ) (queue : QueueNo)
-    → ((p : Log) → StandsAt p a → queue.0 ≡ length (queues_of p)) → manager.Does a b (Define limit error name)
-    → Moves a b (λ p q. (queue.0 ≡ length (queues_of p)) × Adds p (Define limit error name) q)
+    → ((p : Log) → StandsInLog p a → queue.0 ≡ length (queues_in p)) → manager.Does a b (Define limit error name)
+    → Moves a b (λ p q. (queue.0 ≡ length (queues_in p)) × AddsRecord p (Define limit error name) q)
 opens_so a b name limit error queue last does p is =
     let m = does_adds a b (Define limit error name) does p is in (m.0, (last p is, m.1), m.2, m.3)
 
 -- a queue that is there
 pub defined_turns : (a : Stand) (n0 n1 n2 : QueueNames) (name : List ℕ) (limit : ℕ) (error : Option (List ℕ))
     (e : Option ℕ) (queue : QueueNo) (result : Result Answer Undone) → FindsError a n0 n1 error e
-    → Finds a n1 n2 name (Some queue.0)
+    → FindsQueue a n1 n2 name (Some queue.0)
     → IfOk result (λ answer. (answer ≡ answers.Queue queue) × IsDefinedThere a queue.0 limit e true)
     → IfErr result (Mismatches a queue.0 limit e)
-    → Turns a a n0 n2 (Defines name limit error) (RefusesDefine name limit error) result
+    → Turns a a n0 n2 (AnswersDefine name limit error) (RefusesDefine name limit error) result
 defined_turns a n0 n1 n2 name limit error e queue (Ok answer) errors finds same other = λ p is k.
     let x = errors p is k in
     let f = finds p is x.0 in
@@ -321,9 +321,9 @@ defined_turns a n0 n1 n2 name limit error e queue (Err undone.Spent) errors find
 
 -- and one that is not
 pub opened_turns : (a b : Stand) (n0 n1 n2 : QueueNames) (name : List ℕ) (limit : ℕ) (error : Option (List ℕ))
-    (e : Option ℕ) (result : Result Answer Undone) → FindsError a n0 n1 error e → Finds a n1 n2 name None
-    → TurnsAlone a b (Opens name limit e) (RefusesNew name limit e) result
-    → Turns a b n0 n2 (Defines name limit error) (RefusesDefine name limit error) result
+    (e : Option ℕ) (result : Result Answer Undone) → FindsError a n0 n1 error e → FindsQueue a n1 n2 name None
+    → TurnsAlone a b (AnswersNew name limit e) (RefusesNew name limit e) result
+    → Turns a b n0 n2 (AnswersDefine name limit error) (RefusesDefine name limit error) result
 opened_turns a b n0 n1 n2 name limit error e (Ok answer) errors finds turns = λ p is k.
     let x = errors p is k in
     let f = finds p is x.0 in

@@ -16,21 +16,21 @@ behind_none bytes = ([], refl, inl refl)
 -- one line more
 pub behind_more : (bytes rest line after : List ℕ) → StandsBehind bytes rest
     → cut_at 10 rest ≡ Some (line, after) → StandsBehind bytes after
-behind_more bytes rest line after behind cut =
-    let lines = behind.0 in
+behind_more bytes rest line after log_with cut =
+    let lines = log_with.0 in
     let more : List ℕ = lines ++ (line ++ 10 ∷ []) in (
       more,
-      behind.1 ∙ ap (λ (x : List ℕ). lines ++ x) (cut_takes 10 rest (line, after) cut
+      log_with.1 ∙ ap (λ (x : List ℕ). lines ++ x) (cut_takes 10 rest (line, after) cut
           ∙ sym (append_assoc line (10 ∷ []) after)) ∙ sym (append_assoc lines (line ++ 10 ∷ []) after),
       inr (lines ++ line, sym (append_assoc lines line (10 ∷ []))),
     )
 
 -- what stands behind whole lines
 pub ends_line : (bytes rest : List ℕ) → StandsBehind bytes rest → EndsLine bytes (length bytes - length rest)
-ends_line bytes rest behind = (
-  behind.0,
+ends_line bytes rest log_with = (
+  log_with.0,
   rest,
-  behind.1,
-  omega (arith, ap length behind.1, length-append behind.0 rest),
-  behind.2,
+  log_with.1,
+  omega (arith, ap length log_with.1, length-append log_with.0 rest),
+  log_with.2,
 )

@@ -10,7 +10,7 @@ use Rattle.std.proofs.lemmas.Bool.{cases_eq}
 use Rattle.std.proofs.lemmas.List.{length-append, get_or_append_left}
 use Rattle.rq_model.specs.States.{Definition, definition_at, no_definition}
 use Rattle.rq_record.specs.declared.record.QueueNo.{QueueNo}
-use Rattle.rq_serve.specs.Queues.{IsQueue, IsQueueIfAny, Knows, number_kept}
+use Rattle.rq_serve.specs.Queues.{IsQueue, IsQueueIfAny, KnowsQueues, number_kept}
 use Rattle.rq_serve.specs.declared.queue_names.QueueNames.{QueueNames}
 
 -- what is found at a name after another was kept
@@ -37,8 +37,8 @@ kept_there Greater number old (inr e) = absurd cc
 pub knows_next : (a b : QueueNames) (name : List ℕ) (number : QueueNo) (definitions : List Definition)
     → ((other : List ℕ) → number_kept b other
     ≡ cond (is_eq (slice_cmp nat_cmp name other)) (Some number) (number_kept a other))
-    → b.looked ≡ number.0 + 1 → Knows a definitions → number.0 ≡ a.looked → number.0 < length definitions
-    → (definition_at definitions number.0).name ≡ name → Knows b definitions
+    → b.looked ≡ number.0 + 1 → KnowsQueues a definitions → number.0 ≡ a.looked → number.0 < length definitions
+    → (definition_at definitions number.0).name ≡ name → KnowsQueues b definitions
 knows_next a b name number definitions kept looked knows is inside named = record {
   seen = omega arith;
   right = λ other queue found.
@@ -62,8 +62,8 @@ queue_more definitions more name queue is = (
   ap (λ (d : Definition). d.name) (get_or_append_left definitions more no_definition queue is.0) ∙ is.1,
 )
 
-pub knows_more : (names : QueueNames) (definitions more : List Definition) → Knows names definitions
-    → Knows names (definitions ++ more)
+pub knows_more : (names : QueueNames) (definitions more : List Definition) → KnowsQueues names definitions
+    → KnowsQueues names (definitions ++ more)
 knows_more names definitions more knows = record {
   seen = omega (arith, knows.seen, length-append definitions more);
   right = λ name queue found. queue_more definitions more name queue.0 (knows.right name queue found);
@@ -74,7 +74,7 @@ knows_more names definitions more knows = record {
 
 -- what is found where all are kept
 pub found_or_none : (names : QueueNames) (definitions : List Definition) (name : List ℕ) (r : Option QueueNo)
-    → r ≡ number_kept names name → Knows names definitions → length definitions ≤ names.looked
+    → r ≡ number_kept names name → KnowsQueues names definitions → length definitions ≤ names.looked
     → IsQueueIfAny definitions name (option_map (λ n. n.0) r)
 found_or_none names definitions name (Some queue) is knows all = knows.right name queue (sym is)
 found_or_none names definitions name None is knows all = λ queue here.

@@ -10,10 +10,10 @@ use Rattle.rq_model.specs.Machine.{aborts}
 use Rattle.rq_live.specs.Managers.{Stand, StandsStill, AbortsAll, Settles}
 use Rattle.rq_live.specs.Carries.{GoesOver}
 use Rattle.rq_serve.specs.Answers.{answer_lines}
-use Rattle.rq_serve.specs.Deeds.{Log, state_of, queues_of, behind, carried_log, StandsAt}
-use Rattle.rq_serve.specs.Queues.{Knows}
+use Rattle.rq_serve.specs.Deeds.{Log, state_there, queues_in, log_with, carried_log, StandsInLog}
+use Rattle.rq_serve.specs.Queues.{KnowsQueues}
 use Rattle.rq_serve.specs.Serving.{AddsAnswer}
-use Rattle.rq_serve.specs.Talks.{Event, Line, CarriedOn, Pause, Follows, LeadTo, LeadsOn, GoesOn, Serves, pause_of, lines_told}
+use Rattle.rq_serve.specs.Talks.{Event, Line, CarriedOn, Pause, ComesNext, LeadTo, LeadsOn, GoesOnTelling, ServesProgram, pause_of, lines_told}
 use Rattle.rq_serve.specs.Units.{is_doomed}
 use Rattle.rq_serve.specs.declared.doomed.Doomed.{Doomed}
 use Rattle.rq_serve.specs.declared.queue_names.QueueNames.{QueueNames}
@@ -37,8 +37,8 @@ appends_none None = tt
 appends_none (Some a) = sym (append-nil a)
 
 -- one after the other
-pub goes_join : (a b c : Stand) (s t u : Session) (o1 o2 o3 : Option (List ℕ)) → GoesOn a b s t o1 o2
-    → GoesOn b c t u o2 o3 → GoesOn a c s u o1 o3
+pub goes_join : (a b c : Stand) (s t u : Session) (o1 o2 o3 : Option (List ℕ)) → GoesOnTelling a b s t o1 o2
+    → GoesOnTelling b c t u o2 o3 → GoesOnTelling a c s u o1 o3
 goes_join a b c s t u o1 o2 o3 x y = record {
   events = x.events ++ y.events;
   leads = λ p is k.
@@ -57,14 +57,14 @@ goes_join a b c s t u o1 o2 o3 x y = record {
 -- nothing is done, and what was answered is told
 pub goes_told : (a b : Stand) (s t : Session) (old new : Option (List ℕ)) → StandsStill a b → t.names ≡ s.names
     → t.doomed ≡ s.doomed → string_bytes t.answers ≡ [] → Appends old new (string_bytes s.answers)
-    → GoesOn a b s t old new
+    → GoesOnTelling a b s t old new
 goes_told a b s t old new still names doomed none told = record {
   events = [];
   leads = λ p is k. (
     p,
     ap (λ (d : Doomed). record { log = p; doomed = is_doomed d }) doomed,
     still p.from p.done is,
-    subst (λ (n : QueueNames). Knows n (queues_of p)) (sym names) k,
+    subst (λ (n : QueueNames). KnowsQueues n (queues_in p)) (sym names) k,
   );
   told = string_bytes s.answers;
   appended = told;
@@ -72,7 +72,7 @@ goes_told a b s t old new still names doomed none told = record {
 }
 
 -- nothing at all
-pub goes_nowhere : (a : Stand) (s : Session) (o : Option (List ℕ)) → GoesOn a a s s o o
+pub goes_nowhere : (a : Stand) (s : Session) (o : Option (List ℕ)) → GoesOnTelling a a s s o o
 goes_nowhere a s o = record {
   events = [];
   leads = λ p is k. (p, refl, is, k);
@@ -83,7 +83,7 @@ goes_nowhere a s o = record {
 
 -- a line is answered
 pub goes_line : (asked : Option Request) (a b : Stand) (s t : Session) (o : Option (List ℕ))
-    → AddsAnswer asked s t a b → GoesOn a b s t o o
+    → AddsAnswer asked s t a b → GoesOnTelling a b s t o o
 goes_line asked a b s t o adds = record {
   events = Line asked adds.answer ∷ [];
   leads = λ p is k. let l = adds.turn p is k in (l.0, (pause_of l.0 t, l.1, refl), l.2, l.3);
@@ -94,7 +94,7 @@ goes_line asked a b s t o adds = record {
 
 -- the log is carried on
 pub goes_carried : (a b : Stand) (count : ℕ) (s t : Session) (o : Option (List ℕ)) → GoesOver a b count
-    → t.names ≡ s.names → t.doomed ≡ s.doomed → t.answers ≡ s.answers → GoesOn a b s t o o
+    → t.names ≡ s.names → t.doomed ≡ s.doomed → t.answers ≡ s.answers → GoesOnTelling a b s t o o
 goes_carried a b count s t o over names doomed answers = record {
   events = CarriedOn ∷ [];
   leads = λ p is k.
@@ -102,7 +102,7 @@ goes_carried a b count s t o over names doomed answers = record {
         carried_log p,
         (pause_of (carried_log p) t, (refl, ap is_doomed doomed), refl),
         c.0,
-        subst (λ (n : QueueNames). Knows n (queues_of p)) (sym names) k,
+        subst (λ (n : QueueNames). KnowsQueues n (queues_in p)) (sym names) k,
       );
   told = [];
   appended = appends_none o;
@@ -110,18 +110,18 @@ goes_carried a b count s t o over names doomed answers = record {
 }
 
 -- a service that ends
-pub serves_so : (a b c d : Stand) (s t : Session) (old new : Option (List ℕ)) → GoesOn a b s t old new
+pub serves_so : (a b c d : Stand) (s t : Session) (old new : Option (List ℕ)) → GoesOnTelling a b s t old new
     → string_bytes s.answers ≡ [] → string_bytes t.answers ≡ []
     → ((unit : ℕ) → 0 < unit → is_doomed s.doomed unit ≡ false)
-    → ((definitions : List Definition) → Knows s.names definitions) → AbortsAll b c → Settles c d → Serves a d old new
+    → ((definitions : List Definition) → KnowsQueues s.names definitions) → AbortsAll b c → Settles c d → ServesProgram a d old new
 serves_so a b c d s t old new goes none after fresh knows ends settles = record {
   events = goes.events;
   told = subst (λ (x : List ℕ). Appends old new x) (sym (append-nil goes.told)
       ∙ ap (λ (l : List ℕ). goes.told ++ l) (sym after) ∙ goes.lines
       ∙ ap (λ (l : List ℕ). l ++ flat_map lines_told goes.events) none) goes.appended;
   led = λ p is.
-      let l = goes.leads p is (knows (queues_of p)) in
+      let l = goes.leads p is (knows (queues_in p)) in
       let ended = ends l.0.from l.0.done l.2 in
-      let last = behind l.0 (aborts (state_of l.0)) in
+      let last = log_with l.0 (aborts (state_there l.0)) in
       (is_doomed s.doomed, fresh, pause_of l.0 t, l.1, (settles last.from last.done ended).0);
 }

@@ -9,8 +9,8 @@ use Rattle.rq_live.specs.Managers.{Stand, Does, ManagerStops}
 use Rattle.rq_live.specs.declared.kernel.NotDone.{NotDone}
 use Rattle.rq_live.specs.declared.kernel.NotDone.TheVariants.{Unlawful, Full, Large, Ended, Spent}
 use Rattle.rq_live.proofs.Begun.{state_joins}
-use Rattle.rq_serve.specs.Deeds.{Log, state_of, queues_of, behind, StandsAt, Adds, KeepsQueues, Moves, Leads, Turns, TurnsAlone, StaysRefused, Finds, LacksQueue, RefusesRecord, RefusesAt, RefusesName}
-use Rattle.rq_serve.specs.Queues.{IsQueue, IsQueueIfAny, Knows}
+use Rattle.rq_serve.specs.Deeds.{Log, state_there, queues_in, log_with, StandsInLog, AddsRecord, KeepsQueues, Moves, Leads, Turns, TurnsAlone, StaysRefused, FindsQueue, LacksQueue, RefusesRecord, RefusesAt, RefusesName}
+use Rattle.rq_serve.specs.Queues.{IsQueue, IsQueueIfAny, KnowsQueues}
 use Rattle.rq_serve.specs.Refusals.{refused_for, undone_by}
 use Rattle.rq_serve.specs.declared.answers.Answer.{Answer}
 use Rattle.rq_serve.specs.declared.queue_names.QueueNames.{QueueNames}
@@ -47,30 +47,30 @@ run_extends s (r ∷ rs) =
     let b = run_extends (step s r) rs in
     (a.0 ++ b.0, b.1 ∙ ap (λ (ds : List Definition). ds ++ b.0) a.1 ∙ append_assoc s.definitions a.0 b.0)
 
-pub keeps_behind : (p : Log) (rs : List Record) → KeepsQueues p (behind p rs)
+pub keeps_behind : (p : Log) (rs : List Record) → KeepsQueues p (log_with p rs)
 keeps_behind p rs =
-    let k = run_extends (state_of p) rs in
+    let k = run_extends (state_there p) rs in
     (k.0, ap (λ (s : State). s.definitions) (state_joins p.from p.done rs) ∙ k.1)
 
 pub keeps_same : (p : Log) → KeepsQueues p p
-keeps_same p = ([], sym (append-nil (queues_of p)))
+keeps_same p = ([], sym (append-nil (queues_in p)))
 
-pub knows_kept : (names : QueueNames) (p q : Log) → Knows names (queues_of p) → KeepsQueues p q
-    → Knows names (queues_of q)
+pub knows_kept : (names : QueueNames) (p q : Log) → KnowsQueues names (queues_in p) → KeepsQueues p q
+    → KnowsQueues names (queues_in q)
 knows_kept names p q knows keeps =
-    subst (λ (ds : List Definition). Knows names ds) (sym keeps.1) (knows_more names (queues_of p) keeps.0 knows)
+    subst (λ (ds : List Definition). KnowsQueues names ds) (sym keeps.1) (knows_more names (queues_in p) keeps.0 knows)
 
 -- What is done.
 
-pub does_adds : (a b : Stand) (r : Record) → Does a b r → Moves a b (λ p q. Adds p r q)
+pub does_adds : (a b : Stand) (r : Record) → Does a b r → Moves a b (λ p q. AddsRecord p r q)
 does_adds a b r does p is =
     let d = does p.from p.done is in
-    (behind p (r ∷ []), (d.1, refl), d.0, keeps_behind p (r ∷ []))
+    (log_with p (r ∷ []), (d.1, refl), d.0, keeps_behind p (r ∷ []))
 
 -- of a queue that was found
 pub found_leads : (a b : Stand) (known knows : QueueNames) (name : List ℕ) (queue : ℕ)
-    (P Q : Log → Log → Type 0) → Finds a known knows name (Some queue) → Moves a b P
-    → ((p q : Log) → IsQueue (queues_of p) name queue → P p q → Q p q) → Leads a b known knows Q
+    (P Q : Log → Log → Type 0) → FindsQueue a known knows name (Some queue) → Moves a b P
+    → ((p q : Log) → IsQueue (queues_in p) name queue → P p q → Q p q) → Leads a b known knows Q
 found_leads a b known knows name queue P Q finds moves so p is k =
     let f = finds p is k in
     let m = moves p is in
@@ -91,8 +91,8 @@ stops_refuses a b r Spent stops = tt
 -- of a queue that was found
 pub found_refuses : (a b : Stand) (known knows : QueueNames) (name : List ℕ) (queue : ℕ)
     (P : Log → Answer → Log → Type 0) (R S : Log → Refused → Type 0) (why : Undone)
-    → Finds a known knows name (Some queue) → StaysRefused a b R why
-    → ((p : Log) (refused : Refused) → IsQueue (queues_of p) name queue → R p refused → S p refused)
+    → FindsQueue a known knows name (Some queue) → StaysRefused a b R why
+    → ((p : Log) (refused : Refused) → IsQueue (queues_in p) name queue → R p refused → S p refused)
     → Turns a b known knows P S (Err why)
 found_refuses a b known knows name queue P R S (undone.Refused refused) finds stays so = λ p is k.
     let f = finds p is k in
@@ -101,7 +101,7 @@ found_refuses a b known knows name queue P R S (undone.Refused refused) finds st
 found_refuses a b known knows name queue P R S undone.Spent finds stays so = tt
 
 pub stops_at : (a b : Stand) (known knows : QueueNames) (name : List ℕ) (queue : ℕ) (r : ℕ → Record)
-    (P : Log → Answer → Log → Type 0) (why : NotDone) → Finds a known knows name (Some queue)
+    (P : Log → Answer → Log → Type 0) (why : NotDone) → FindsQueue a known knows name (Some queue)
     → ManagerStops a b (r queue) why → Turns a b known knows P (RefusesAt name r) (Err (undone_by (refused_for why)))
 stops_at a b known knows name queue r P why finds stops =
     found_refuses a b known knows name queue P (RefusesRecord (r queue)) (RefusesAt name r)

@@ -1,6 +1,6 @@
 pub mod Requests
 pub mod Refusals
-pub mod Answers
+pub mod AnswersLine
 pub mod Units
 pub mod Carrying
 pub mod Queues

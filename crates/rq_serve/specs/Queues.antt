@@ -21,7 +21,7 @@ abbrev pub number_kept : QueueNames → List ℕ → Option QueueNo
 number_kept names name = tree.get (slice_cmp nat_cmp) names.numbers name
 
 -- The first queues, so many as were looked at, are kept by their names, and no other
-pub record Knows (names : QueueNames) (definitions : List Definition) : Type 0 where
+pub record KnowsQueues (names : QueueNames) (definitions : List Definition) : Type 0 where
   pub seen : names.looked ≤ length definitions
   pub right : (name : List ℕ) (queue : QueueNo) → number_kept names name ≡ Some queue
       → IsQueue definitions name queue.0

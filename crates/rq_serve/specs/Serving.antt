@@ -4,7 +4,7 @@ use Rattle.std.specs.Prelude.{Some, None, [], ◌∷◌, length, string_bytes, R
 use Rattle.rq_live.specs.Managers.{Stand}
 use Rattle.rq_model.specs.Machine.{is_open}
 use Rattle.rq_serve.specs.Answers.{answer_lines}
-use Rattle.rq_serve.specs.Deeds.{Log, state_of, StandsAt, Fulfils, Refuses, Leads}
+use Rattle.rq_serve.specs.Deeds.{Log, state_there, StandsInLog, AnswersRequest, RefusesRequest, Leads}
 use Rattle.rq_serve.specs.Units.{is_doomed, KeepsOthers}
 use Rattle.rq_serve.specs.declared.answers.Answer.{Answer}
 use Rattle.rq_serve.specs.declared.answers.Answer.TheVariants as answers
@@ -40,19 +40,19 @@ says_safe None answer = false
 says_safe (Some request) answer = asks_safety request && not (is_refused answer)
 
 -- A line that is no request is told so. A request is fulfilled; or it is refused, and the log stays.
-abbrev pub Answers : (ℕ → Bool) → Option Request → Log → Answer → Log → Type 0
-Answers doomed None p answer q = (answer ≡ answers.NoRequest) × (q ≡ p)
-Answers doomed (Some request) p answer q = Fulfils doomed request p answer q
-    ⊎ ((refused : Refused) × (answer ≡ answers.Refused refused) × (q ≡ p) × Refuses doomed request p refused)
+abbrev pub AnswersLine : (ℕ → Bool) → Option Request → Log → Answer → Log → Type 0
+AnswersLine doomed None p answer q = (answer ≡ answers.NoRequest) × (q ≡ p)
+AnswersLine doomed (Some request) p answer q = AnswersRequest doomed request p answer q
+    ⊎ ((refused : Refused) × (answer ≡ answers.Refused refused) × (q ≡ p) × RefusesRequest doomed request p refused)
 
 -- what it dooms there: an operation that is refused its unit, if that is open; a line that is no request all
 -- units so far
 abbrev pub dooms : Log → Option Request → Answer → ℕ → Bool
-dooms p None answer unit = nat_le unit (state_of p).greatest
+dooms p None answer unit = nat_le unit (state_there p).greatest
 dooms p (Some (requests.Enqueue u queue priority by payload)) answer unit =
-    is_refused answer && ((unit == u.0) && is_open (state_of p) u.0)
+    is_refused answer && ((unit == u.0) && is_open (state_there p) u.0)
 dooms p (Some (requests.Dequeue u queue by)) answer unit =
-    is_refused answer && ((unit == u.0) && is_open (state_of p) u.0)
+    is_refused answer && ((unit == u.0) && is_open (state_there p) u.0)
 dooms p asked answer unit = false
 
 -- the unit that a request aborts
@@ -71,7 +71,7 @@ pub record AddsAnswer (asked : Option Request) (a b : Session) (m n : Stand) : T
   pub answer : Answer
   pub lines : string_bytes b.answers ≡ string_bytes a.answers ++ answer_lines answer
   pub safe : b.asks_sync ≡ (a.asks_sync || says_safe asked answer)
-  pub turn : Leads m n a.names b.names (λ p q. Answers (is_doomed a.doomed) asked p answer q
+  pub turn : Leads m n a.names b.names (λ p q. AnswersLine (is_doomed a.doomed) asked p answer q
       × DoomsNext p asked answer (is_doomed a.doomed) (is_doomed b.doomed))
 
 -- what is answered to a request that was done or refused
@@ -86,8 +86,8 @@ IsHeard done (Err e) = ⊤
 
 -- an operation of the unit that is refused dooms it, if it is open there, and nothing else
 abbrev pub DoomsUnit : Stand → ℕ → Undone → Doomed → Doomed → Type 0
-DoomsUnit m unit (undone.Refused refused) a b = (p : Log) → StandsAt p m → (other : ℕ)
-    → is_doomed b other ≡ (is_doomed a other || ((other == unit) && is_open (state_of p) unit))
+DoomsUnit m unit (undone.Refused refused) a b = (p : Log) → StandsInLog p m → (other : ℕ)
+    → is_doomed b other ≡ (is_doomed a other || ((other == unit) && is_open (state_there p) unit))
 DoomsUnit m unit undone.Spent a b = ⊤
 
 -- no unit is doomed by what is done

@@ -4,15 +4,19 @@
 
 mod answers;
 mod deeds;
+mod definitions;
 mod doomed;
 mod listings;
+mod logs;
 mod operators;
 mod payloads;
 mod queue_names;
 mod refusals;
+mod registrations;
 mod requests;
 mod service;
 mod session;
+mod units;
 mod words;
 
 pub use answers::Answer;

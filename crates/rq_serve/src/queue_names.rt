@@ -2,7 +2,7 @@
 
 ghost use Rattle.std.specs.Prelude.{◌≡◌, ◌<◌, ◌≤◌, ◌+◌, List, length, IfOk, IfErr, OnOk, option_map};
 ghost use Rattle.rq_model.specs.States.{Definition, definition_at};
-ghost use Rattle.rq_serve.specs.Queues.{IsQueueIfAny, Knows};
+ghost use Rattle.rq_serve.specs.Queues.{IsQueueIfAny, KnowsQueues};
 
 use crate::listings::queue_at;
 use crate::refusals::Undone;
@@ -23,7 +23,7 @@ pub(crate) struct QueueNames {
 impl QueueNames {
     /// None was looked at yet.
     pub(crate) fn none(alloc: Global) -> QueueNames
-        ensures { (definitions : List Definition) → Knows result definitions }
+        ensures { (definitions : List Definition) → KnowsQueues result definitions }
     {
         QueueNames {
             numbers: BTreeMap::new(alloc),
@@ -34,9 +34,9 @@ impl QueueNames {
     // Keeps the number of the next queue.
     fn keep(&mut self, name: Name, number: QueueNo) -> Result<(), Undone>
         ensures looked { OnOk result (self.new.looked ≡ number.0 + 1) }
-        ensures knows { OnOk result ((definitions : List Definition) → Knows self.old definitions
+        ensures knows { OnOk result ((definitions : List Definition) → KnowsQueues self.old definitions
             → number.0 ≡ self.old.looked → number.0 < length definitions
-            → (definition_at definitions number.0).name ≡ name → Knows self.new definitions) }
+            → (definition_at definitions number.0).name ≡ name → KnowsQueues self.new definitions) }
     {
         match self.numbers.insert(name, number) {
             Ok(_) => {
@@ -49,8 +49,8 @@ impl QueueNames {
 
     // Looks at the queues that were defined since.
     fn look_at(&mut self, definitions: &[Definition]) -> Result<(), Undone>
-        ensures { OnOk result (Knows self.old definitions.now
-            → Knows self.new definitions.now × (length definitions.now ≤ self.new.looked)) }
+        ensures { OnOk result (KnowsQueues self.old definitions.now
+            → KnowsQueues self.new definitions.now × (length definitions.now ≤ self.new.looked)) }
     {
         for place in self.looked..definitions.len() {
             let number = queue_at(place)?;
@@ -66,7 +66,7 @@ impl QueueNames {
         definitions: &[Definition],
         name: &Name,
     ) -> Result<Option<QueueNo>, Undone>
-        ensures { IfOk result (λ number. Knows self.old definitions.now → Knows self.new definitions.now
+        ensures { IfOk result (λ number. KnowsQueues self.old definitions.now → KnowsQueues self.new definitions.now
             × IsQueueIfAny definitions.now name.now (option_map (λ n. n.0) number)) }
     {
         self.look_at(definitions)?;

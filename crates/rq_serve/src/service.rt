@@ -6,9 +6,9 @@ ghost use Rattle.std.specs.Io.KnownBytes.{Appends};
 ghost use Rattle.rq_live.specs.Managers.{AllIsSafe, IsInOrder, Settles, StandsStill, stand_of};
 ghost use Rattle.rq_writer.specs.Reading.{cut_at};
 ghost use Rattle.rq_serve.specs.Serving.{EndsLine};
-ghost use Rattle.rq_serve.specs.Talks.{GoesOn, Serves};
+ghost use Rattle.rq_serve.specs.Talks.{GoesOnTelling, ServesProgram};
 
-use crate::deeds::carry_state;
+use crate::logs::carry_state;
 use crate::operators::{CarryPoint, Operator};
 use crate::refusals::Undone;
 use crate::requests::LONGEST;
@@ -74,7 +74,7 @@ where
         (stand_of D.written D.synced D.doubted D.failed m.new)) }
     ensures none { OnOk result ((string_bytes session.new.answers ≡ [])
         × (session.new.asks_sync ≡ false)) }
-    ensures goes { OnOk result (GoesOn
+    ensures goes { OnOk result (GoesOnTelling
         (stand_of D.written D.synced D.doubted D.failed m.old)
         (stand_of D.written D.synced D.doubted D.failed m.new)
         session.old session.new (O.contents output.old) (O.contents output.new)) }
@@ -117,7 +117,7 @@ where
     requires order { IsInOrder (stand_of D.written D.synced D.doubted D.failed m.old) }
     requires faults { O.faults output.old < 18446744073709551615 }
     ensures order { IsInOrder (stand_of D.written D.synced D.doubted D.failed m.new) }
-    ensures goes { OnOk result (GoesOn
+    ensures goes { OnOk result (GoesOnTelling
         (stand_of D.written D.synced D.doubted D.failed m.old)
         (stand_of D.written D.synced D.doubted D.failed m.new)
         session.old session.new (O.contents output.old) (O.contents output.new)) }
@@ -155,7 +155,7 @@ where
     requires order { IsInOrder (stand_of D.written D.synced D.doubted D.failed m.old) }
     requires faults { O.faults output.old < 18446744073709551615 }
     ensures order { IsInOrder (stand_of D.written D.synced D.doubted D.failed m.new) }
-    ensures goes { OnOk result (GoesOn
+    ensures goes { OnOk result (GoesOnTelling
         (stand_of D.written D.synced D.doubted D.failed m.old)
         (stand_of D.written D.synced D.doubted D.failed m.new)
         session.old session.new (O.contents output.old) (O.contents output.new)) }
@@ -189,7 +189,7 @@ where
     requires faults { O.faults output.old < 18446744073709551615 }
     ensures order { IsInOrder (stand_of D.written D.synced D.doubted D.failed m.new) }
     ensures lines { IfOk result (EndsLine bytes.now) }
-    ensures goes { OnOk result (GoesOn
+    ensures goes { OnOk result (GoesOnTelling
         (stand_of D.written D.synced D.doubted D.failed m.old)
         (stand_of D.written D.synced D.doubted D.failed m.new)
         session.old session.new (O.contents output.old) (O.contents output.new)) }
@@ -231,7 +231,7 @@ where
     requires writes { O.faults output.old < 18446744073709551615 }
     requires none { string_bytes session.old.answers ≡ [] }
     ensures order { IsInOrder (stand_of D.written D.synced D.doubted D.failed m.new) }
-    ensures goes { OnOk result (GoesOn
+    ensures goes { OnOk result (GoesOnTelling
         (stand_of D.written D.synced D.doubted D.failed m.old)
         (stand_of D.written D.synced D.doubted D.failed m.new)
         session.old session.new (O.contents output.old) (O.contents output.new)) }
@@ -285,7 +285,7 @@ where
     ensures order { IsInOrder (stand_of D.written D.synced D.doubted D.failed m.new) }
     ensures safe { OnOk result (AllIsSafe
         (stand_of D.written D.synced D.doubted D.failed m.new)) }
-    ensures serves { OnOk result (Serves
+    ensures serves { OnOk result (ServesProgram
         (stand_of D.written D.synced D.doubted D.failed m.old)
         (stand_of D.written D.synced D.doubted D.failed m.new)
         (O.contents output.old) (O.contents output.new)) }

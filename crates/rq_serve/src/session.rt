@@ -5,7 +5,7 @@ ghost use Rattle.std.specs.Prelude.{string_bytes};
 ghost use Rattle.rq_model.specs.States.{Definition};
 ghost use Rattle.rq_live.specs.Managers.{IsInOrder, stand_of};
 ghost use Rattle.rq_serve.specs.Answers.{answer_lines};
-ghost use Rattle.rq_serve.specs.Queues.{Knows};
+ghost use Rattle.rq_serve.specs.Queues.{KnowsQueues};
 ghost use Rattle.rq_serve.specs.Requests.{request_of};
 ghost use Rattle.rq_serve.specs.Serving.{AddsAnswer, IsHeard};
 ghost use Rattle.rq_serve.specs.Units.{is_doomed};
@@ -46,7 +46,7 @@ impl Session {
     pub(crate) fn new(alloc: Global, point: CarryPoint) -> Session
         ensures answers { string_bytes result.answers ≡ [] }
         ensures doomed { (unit : ℕ) → 0 < unit → is_doomed result.doomed unit ≡ false }
-        ensures names { (definitions : List Definition) → Knows result.names definitions }
+        ensures names { (definitions : List Definition) → KnowsQueues result.names definitions }
     {
         Session {
             doomed: Doomed::none(alloc),

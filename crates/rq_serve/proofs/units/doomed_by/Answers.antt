@@ -1,4 +1,4 @@
-use Rattle.rq_serve.proofs.deeds.doomed_by.Goals as goal
+use Rattle.rq_serve.proofs.units.doomed_by.Goals as goal
 
 -- a unit that is not open is not open
 pub returns-in-Refused-Ok-false-clause-dooms : goal.returns-in-Refused-Ok-false-clause-dooms
