@@ -5,11 +5,11 @@ use Rattle.std.specs.Prelude.{Result, Ok, Err}
 use Rattle.rq_model.specs.Records.{Record, Define, Register, Deregister, Begin, Enqueue, Dequeue, Commit, Abort, Checkpoint, Kill}
 use Rattle.rq_model.specs.States.{State, Definition}
 use Rattle.rq_model.specs.Machine.{run, step}
-use Rattle.rq_live.specs.Managers.{Stand, Does, ManagerStops}
+use Rattle.rq_live.specs.Managers.{Stand, AreDefined, Does, ManagerStops}
 use Rattle.rq_live.specs.declared.kernel.NotDone.{NotDone}
 use Rattle.rq_live.specs.declared.kernel.NotDone.TheVariants.{Unlawful, Full, Large, Ended, Spent}
 use Rattle.rq_live.proofs.Begun.{state_joins}
-use Rattle.rq_serve.specs.Deeds.{Log, state_there, queues_in, log_with, StandsInLog, AddsRecord, KeepsQueues, Moves, Leads, Turns, TurnsAlone, StaysRefused, FindsQueue, LacksQueue, RefusesRecord, RefusesAt, RefusesName}
+use Rattle.rq_serve.specs.Deeds.{Log, state_there, queues_in, log_with, StandsInLog, AddsRecord, KeepsQueues, Moves, Leads, Turns, TurnsAlone, StaysRefused, FindsQueue, LacksQueue, LeadsRefused, RefusesRecord, RefusesAt, RefusesName}
 use Rattle.rq_serve.specs.Queues.{IsQueue, IsQueueIfAny, KnowsQueues}
 use Rattle.rq_serve.specs.Refusals.{refused_for, undone_by}
 use Rattle.rq_serve.specs.declared.answers.Answer.{Answer}
@@ -60,6 +60,19 @@ pub knows_kept : (names : QueueNames) (p q : Log) → KnowsQueues names (queues_
 knows_kept names p q knows keeps =
     subst (λ (ds : List Definition). KnowsQueues names ds) (sym keeps.1) (knows_more names (queues_in p) keeps.0 knows)
 
+-- What is found.
+
+pub finds_there : (m : Stand) (known knows : QueueNames) (definitions : List Definition) (name : List ℕ)
+    (queue : Option ℕ) → AreDefined m definitions
+    → (KnowsQueues known definitions → KnowsQueues knows definitions × IsQueueIfAny definitions name queue)
+    → FindsQueue m known knows name queue
+finds_there m known knows definitions name queue defined found p is k =
+    let same = defined p.from p.done is in
+    let so = found (subst (λ (ds : List Definition). KnowsQueues known ds) (sym same) k) in (
+      subst (λ (ds : List Definition). KnowsQueues knows ds) same so.0,
+      subst (λ (ds : List Definition). IsQueueIfAny ds name queue) same so.1,
+    )
+
 -- What is done.
 
 pub does_adds : (a b : Stand) (r : Record) → Does a b r → Moves a b (λ p q. AddsRecord p r q)
@@ -89,34 +102,33 @@ stops_refuses a b r Ended stops = absurd stops
 stops_refuses a b r Spent stops = tt
 
 -- of a queue that was found
-pub found_refuses : (a b : Stand) (known knows : QueueNames) (name : List ℕ) (queue : ℕ)
-    (P : Log → Answer → Log → Type 0) (R S : Log → Refused → Type 0) (why : Undone)
-    → FindsQueue a known knows name (Some queue) → StaysRefused a b R why
+found_refuses : (a b : Stand) (known knows : QueueNames) (name : List ℕ) (queue : ℕ) (R S : Log → Refused → Type 0)
+    (why : Undone) → FindsQueue a known knows name (Some queue) → StaysRefused a b R why
     → ((p : Log) (refused : Refused) → IsQueue (queues_in p) name queue → R p refused → S p refused)
-    → Turns a b known knows P S (Err why)
-found_refuses a b known knows name queue P R S (undone.Refused refused) finds stays so = λ p is k.
+    → LeadsRefused a b known knows S why
+found_refuses a b known knows name queue R S (undone.Refused refused) finds stays so = λ p is k.
     let f = finds p is k in
     let m = stays p is in
     (m.0, (m.1.0, so p refused f.1 m.1.1), m.2, knows_kept knows p m.0 f.0 m.3)
-found_refuses a b known knows name queue P R S undone.Spent finds stays so = tt
+found_refuses a b known knows name queue R S undone.Spent finds stays so = tt
 
-pub stops_at : (a b : Stand) (known knows : QueueNames) (name : List ℕ) (queue : ℕ) (r : ℕ → Record)
-    (P : Log → Answer → Log → Type 0) (why : NotDone) → FindsQueue a known knows name (Some queue)
-    → ManagerStops a b (r queue) why → Turns a b known knows P (RefusesAt name r) (Err (undone_by (refused_for why)))
-stops_at a b known knows name queue r P why finds stops =
-    found_refuses a b known knows name queue P (RefusesRecord (r queue)) (RefusesAt name r)
+pub stops_at : (a b : Stand) (known knows : QueueNames) (name : List ℕ) (queue : ℕ) (r : ℕ → Record) (why : NotDone)
+    → FindsQueue a known knows name (Some queue) → ManagerStops a b (r queue) why
+    → LeadsRefused a b known knows (RefusesAt name r) (undone_by (refused_for why))
+stops_at a b known knows name queue r why finds stops =
+    found_refuses a b known knows name queue (RefusesRecord (r queue)) (RefusesAt name r)
     (undone_by (refused_for why)) finds (stops_refuses a b (r queue) why stops)
     (λ p refused is x. inr (queue, is, x))
 
 -- no queue was found
-pub lacks_turns : (a : Stand) (known knows : QueueNames) (name : List ℕ) (P : Log → Answer → Log → Type 0)
-    (R : Log → Refused → Type 0) (why : Undone) → LacksQueue a known knows name why
+pub lacks_refuses : (a : Stand) (known knows : QueueNames) (name : List ℕ) (R : Log → Refused → Type 0)
+    (why : Undone) → LacksQueue a known knows name why
     → ((p : Log) (refused : Refused) → RefusesName name p refused → R p refused)
-    → Turns a a known knows P R (Err why)
-lacks_turns a known knows name P R (undone.Refused refused) lacks so = λ p is k.
+    → LeadsRefused a a known knows R why
+lacks_refuses a known knows name R (undone.Refused refused) lacks so = λ p is k.
     let f = lacks.1 p is k in
     (p, (refl, so p refused (f.1, lacks.0)), is, f.0)
-lacks_turns a known knows name P R undone.Spent lacks so = tt
+lacks_refuses a known knows name R undone.Spent lacks so = tt
 
 -- no queue is looked up
 pub alone_turns : (a b : Stand) (names : QueueNames) (P : Log → Answer → Log → Type 0)

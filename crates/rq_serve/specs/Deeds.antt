@@ -282,13 +282,17 @@ abbrev pub Leads : Stand → Stand → QueueNames → QueueNames → (Log → Lo
 Leads a b known knows P = (p : Log) → StandsInLog p a → KnowsQueues known (queues_in p)
     → (q : Log) × P p q × StandsInLog q b × KnowsQueues knows (queues_in q)
 
--- a result of a call that fulfils or refuses
+-- a call that refuses, or is spent
+abbrev pub LeadsRefused : Stand → Stand → QueueNames → QueueNames → (Log → Refused → Type 0) → Undone → Type 0
+LeadsRefused a b known knows refuses (undone.Refused refused) =
+    Leads a b known knows (λ p q. (q ≡ p) × refuses p refused)
+LeadsRefused a b known knows refuses undone.Spent = ⊤
+
+-- a result of a call that answers or refuses
 abbrev pub Turns : Stand → Stand → QueueNames → QueueNames → (Log → Answer → Log → Type 0)
     → (Log → Refused → Type 0) → Result Answer Undone → Type 0
 Turns a b known knows fulfils refuses (Ok answer) = Leads a b known knows (λ p q. fulfils p answer q)
-Turns a b known knows fulfils refuses (Err (undone.Refused refused)) =
-    Leads a b known knows (λ p q. (q ≡ p) × refuses p refused)
-Turns a b known knows fulfils refuses (Err undone.Spent) = ⊤
+Turns a b known knows fulfils refuses (Err why) = LeadsRefused a b known knows refuses why
 
 -- a call that refuses, or is spent
 abbrev pub StaysRefused : Stand → Stand → (Log → Refused → Type 0) → Undone → Type 0

@@ -34,7 +34,8 @@ fn put_counted_line(
 
 /// The queue that is defined at a place: no log has so many that its number ends.
 pub(crate) fn queue_at(place: usize) -> Result<QueueNo, Undone>
-    ensures { IfOk result (λ queue. queue.0 ≡ place) }
+    ensures place { IfOk result (λ queue. queue.0 ≡ place) }
+    ensures refused { IfErr result (λ why. why ≡ Undone.Spent) }
 {
     match u32::try_from(place) {
         Ok(number) => Ok(QueueNo(number)),

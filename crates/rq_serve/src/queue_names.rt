@@ -37,6 +37,7 @@ impl QueueNames {
         ensures knows { OnOk result ((definitions : List Definition) → KnowsQueues self.old definitions
             → number.0 ≡ self.old.looked → number.0 < length definitions
             → (definition_at definitions number.0).name ≡ name → KnowsQueues self.new definitions) }
+        ensures refused { IfErr result (λ why. why ≡ Undone.Spent) }
     {
         match self.numbers.insert(name, number) {
             Ok(_) => {
@@ -49,8 +50,9 @@ impl QueueNames {
 
     // Looks at the queues that were defined since.
     fn look_at(&mut self, definitions: &[Definition]) -> Result<(), Undone>
-        ensures { OnOk result (KnowsQueues self.old definitions.now
+        ensures knows { OnOk result (KnowsQueues self.old definitions.now
             → KnowsQueues self.new definitions.now × (length definitions.now ≤ self.new.looked)) }
+        ensures refused { IfErr result (λ why. why ≡ Undone.Spent) }
     {
         for place in self.looked..definitions.len() {
             let number = queue_at(place)?;
@@ -66,8 +68,9 @@ impl QueueNames {
         definitions: &[Definition],
         name: &Name,
     ) -> Result<Option<QueueNo>, Undone>
-        ensures { IfOk result (λ number. KnowsQueues self.old definitions.now → KnowsQueues self.new definitions.now
+        ensures found { IfOk result (λ number. KnowsQueues self.old definitions.now → KnowsQueues self.new definitions.now
             × IsQueueIfAny definitions.now name.now (option_map (λ n. n.0) number)) }
+        ensures refused { IfErr result (λ why. why ≡ Undone.Spent) }
     {
         self.look_at(definitions)?;
         Ok(self.numbers.get(name).copied())
