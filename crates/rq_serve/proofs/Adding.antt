@@ -1,6 +1,6 @@
 -- An answer that is added to those that are to be told.
-use Rattle.std.proofs.Common.{◌≡◌, ℕ, Bool, true, false, ◌++◌, Option, Some, None, List, ◌∙◌, ap, sym, subst, refl, inl, inr}
-use Rattle.std.specs.Prelude.{Result, Ok, Err, OnOk, string_bytes, ◌||◌, ◌&&◌, ◌==◌, nat_le}
+use Rattle.std.proofs.Common.{◌≡◌, ℕ, Bool, true, false, ◌++◌, Option, Some, None, ◌∙◌, ap, sym, subst, refl, inl, inr}
+use Rattle.std.specs.Prelude.{Result, Ok, Err, OnOk, string_bytes, ◌||◌, ◌&&◌, nat_le}
 use Rattle.rq_live.specs.Managers.{Stand, IsGreatest}
 use Rattle.rq_model.specs.Records.{By}
 use Rattle.rq_model.specs.States.{Element}

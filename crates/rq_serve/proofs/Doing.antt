@@ -1,24 +1,23 @@
 -- What each deed is, of the logs where a manager stood.
-use Rattle.std.proofs.Common.{◌≡◌, ℕ, ◌+◌, ◌<◌, Bool, true, false, List, [], ◌∷◌, ◌++◌, length, Option, Some, None, sym, ap, subst, ◌∙◌, inl, inr, refl, arith}
+use Rattle.std.proofs.Common.{◌≡◌, ℕ, ◌+◌, Bool, true, false, List, [], ◌∷◌, length, Option, Some, None, sym, ap, subst, ◌∙◌, inl, inr, refl, arith}
 use Rattle.std.specs.Prelude.{Result, Ok, Err, IfOk, IfErr, if◌then◌else◌, nat_lt}
 use Rattle.std.proofs.lemmas.Bool.{lt-ltb}
 use Rattle.rq_model.specs.Records.{By, Record, Define, Register, Deregister, Begin, Enqueue, Dequeue, Commit, Abort, Kill}
 use Rattle.rq_model.specs.States.{State, Element, Last, Definition, definition_at}
-use Rattle.rq_model.specs.Machine.{aborts, best}
+use Rattle.rq_model.specs.Machine.{aborts}
 use Rattle.rq_record.specs.declared.record.QueueNo.{QueueNo}
 use Rattle.rq_record.specs.declared.record.UnitNo.{UnitNo}
 use Rattle.rq_record.specs.declared.record.ElemId.{ElemId}
-use Rattle.rq_live.specs.Starts.{file_of, checkpoint_in}
+use Rattle.rq_live.specs.Starts.{checkpoint_in}
 use Rattle.rq_live.specs.Carries.{GoesOver, StopsCarry}
-use Rattle.rq_live.specs.Managers.{Stand, DoesTaking, BeginsUnit, StopsBegin, StopsEnd, MarksSafely, StopsMark, AbortsAll, Settles, IsLength, DequeuesIfFree, KillsIfFree, is_free_in}
+use Rattle.rq_live.specs.Managers.{Stand, DoesTaking, BeginsUnit, StopsBegin, StopsEnd, MarksSafely, StopsMark, AbortsAll, Settles, IsLength, DequeuesIfFree, KillsIfFree}
 use Rattle.rq_live.specs.Managers as manager
 use Rattle.rq_live.specs.declared.kernel.NotDone.{NotDone}
 use Rattle.rq_live.specs.declared.kernel.NotDone.TheVariants.{Unlawful, Full, Large, Ended, Spent}
 use Rattle.rq_live.specs.declared.carries.NotCarried.{NotCarried}
 use Rattle.rq_live.specs.declared.carries.NotCarried.TheVariants as uncarried
 use Rattle.rq_live.proofs.Begun.{state_joins}
-use Rattle.rq_serve.specs.Deeds.{Log, state_there, queues_in, log_with, carried_log, StandsInLog, AddsRecord, KeepsQueues, Moves, Leads, Turns, TurnsAlone, StaysRefused, FindsQueue, FindsError, RefusesRecord, AnswersRegister, AnswersRegistered, last_operation, IsLastTold, IsLastIfAny, IsLastThere, AnswersBegin, unit_begun, RefusesBegin, AnswersEnqueue, AnswersDequeue, AnswersTaken, IsNameThere, AnswersCommit, RefusesCommit, IsDoomedThere, AnswersAbort, AnswersKill, AnswersKilled, AnswersCheckpoint, RefusesCheckpoint, AnswersCarry, RefusesCarry, AnswersLast, RefusesLast, AnswersClose, AnswersNew, DefinesNew, RefusesNew, AnswersDeregister, AnswersDefine, RefusesDefine, IsDefinedThere, Mismatches}
-use Rattle.rq_serve.specs.Queues.{IsQueue, KnowsQueues}
+use Rattle.rq_serve.specs.Deeds.{Log, state_there, queues_in, log_with, carried_log, StandsInLog, AddsRecord, Moves, Leads, Turns, TurnsAlone, StaysRefused, FindsQueue, FindsError, RefusesRecord, AnswersRegister, AnswersRegistered, last_operation, IsLastTold, IsLastThere, AnswersBegin, RefusesBegin, AnswersEnqueue, AnswersDequeue, AnswersTaken, IsNameThere, AnswersCommit, RefusesCommit, IsDoomedThere, AnswersAbort, AnswersKill, AnswersKilled, AnswersCheckpoint, RefusesCheckpoint, AnswersCarry, RefusesCarry, AnswersLast, RefusesLast, AnswersClose, AnswersNew, RefusesNew, AnswersDeregister, AnswersDefine, RefusesDefine, IsDefinedThere, Mismatches}
 use Rattle.rq_serve.specs.Refusals.{refused_for, refused_checkpoint, refused_carry, undone_by}
 use Rattle.rq_serve.specs.declared.answers.Answer.{Answer}
 use Rattle.rq_serve.specs.declared.answers.Answer.TheVariants as answers

@@ -1,5 +1,5 @@
 -- Queues that are kept by their names.
-use Rattle.std.proofs.Common.{◌≡◌, ◌≢◌, ◌<◌, ◌≤◌, ◌+◌, ◌++◌, ℕ, List, length, Option, Some, None, cond, sym, ap, subst, ◌∙◌, inl, inr, ◌⊎◌, ⊎_elim, refl, arith}
+use Rattle.std.proofs.Common.{◌≡◌, ◌<◌, ◌≤◌, ◌+◌, ◌++◌, ℕ, List, length, Option, Some, None, cond, sym, ap, subst, ◌∙◌, inl, inr, ◌⊎◌, ⊎_elim, refl, arith}
 use Rattle.std.specs.Prelude.{IsSome, option_map}
 use Rattle.std.specs.Ordering.{is_eq, nat_cmp}
 use Rattle.std.proofs.Common.{Ordering, Less, Equal, Greater}

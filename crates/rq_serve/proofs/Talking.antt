@@ -10,10 +10,10 @@ use Rattle.rq_model.specs.Machine.{aborts}
 use Rattle.rq_live.specs.Managers.{Stand, StandsStill, AbortsAll, Settles}
 use Rattle.rq_live.specs.Carries.{GoesOver}
 use Rattle.rq_serve.specs.Answers.{answer_lines}
-use Rattle.rq_serve.specs.Deeds.{Log, state_there, queues_in, log_with, carried_log, StandsInLog}
+use Rattle.rq_serve.specs.Deeds.{state_there, queues_in, log_with, carried_log}
 use Rattle.rq_serve.specs.Queues.{KnowsQueues}
 use Rattle.rq_serve.specs.Serving.{AddsAnswer}
-use Rattle.rq_serve.specs.Talks.{Event, Line, CarriedOn, Pause, ComesNext, LeadTo, LeadsOn, GoesOnTelling, ServesProgram, pause_of, lines_told}
+use Rattle.rq_serve.specs.Talks.{Event, Line, CarriedOn, Pause, LeadTo, GoesOnTelling, ServesProgram, pause_of, lines_told}
 use Rattle.rq_serve.specs.Units.{is_doomed}
 use Rattle.rq_serve.specs.declared.doomed.Doomed.{Doomed}
 use Rattle.rq_serve.specs.declared.queue_names.QueueNames.{QueueNames}

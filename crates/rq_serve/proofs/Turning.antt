@@ -1,5 +1,5 @@
 -- What a manager did, of the logs where it stood.
-use Rattle.std.proofs.Common.{◌≡◌, ◌≢◌, ℕ, ◌+◌, ◌<◌, ◌≤◌, Bool, true, false, List, [], ◌∷◌, ◌++◌, length, Option, Some, None, sym, ap, subst, ◌∙◌, inl, inr, ◌⊎◌, refl, arith, append_assoc}
+use Rattle.std.proofs.Common.{◌≡◌, ℕ, ◌+◌, List, [], ◌∷◌, ◌++◌, Option, Some, sym, ap, subst, ◌∙◌, inr, refl, append_assoc}
 use Rattle.std.proofs.lemmas.List.{append-nil}
 use Rattle.std.specs.Prelude.{Result, Ok, Err}
 use Rattle.rq_model.specs.Records.{Record, Define, Register, Deregister, Begin, Enqueue, Dequeue, Commit, Abort, Checkpoint, Kill}
@@ -9,7 +9,7 @@ use Rattle.rq_live.specs.Managers.{Stand, AreDefined, Does, ManagerStops}
 use Rattle.rq_live.specs.declared.kernel.NotDone.{NotDone}
 use Rattle.rq_live.specs.declared.kernel.NotDone.TheVariants.{Unlawful, Full, Large, Ended, Spent}
 use Rattle.rq_live.proofs.Begun.{state_joins}
-use Rattle.rq_serve.specs.Deeds.{Log, state_there, queues_in, log_with, StandsInLog, AddsRecord, KeepsQueues, Moves, Leads, Turns, TurnsAlone, StaysRefused, FindsQueue, LacksQueue, LeadsRefused, RefusesRecord, RefusesAt, RefusesName}
+use Rattle.rq_serve.specs.Deeds.{Log, state_there, queues_in, log_with, AddsRecord, KeepsQueues, Moves, Leads, Turns, TurnsAlone, StaysRefused, FindsQueue, LacksQueue, LeadsRefused, RefusesRecord, RefusesAt, RefusesName}
 use Rattle.rq_serve.specs.Queues.{IsQueue, IsQueueIfAny, KnowsQueues}
 use Rattle.rq_serve.specs.Refusals.{refused_for, undone_by}
 use Rattle.rq_serve.specs.declared.answers.Answer.{Answer}

@@ -8,7 +8,6 @@ use Rattle.rq_model.specs.States.{State, Element, Last, Definition, definition_a
 use Rattle.rq_model.specs.Machine.{is_lawful, is_open, best, aborts}
 use Rattle.rq_record.specs.declared.record.QueueNo.{QueueNo}
 use Rattle.rq_record.specs.declared.record.UnitNo.{UnitNo}
-use Rattle.rq_record.specs.declared.record.ElemId.{ElemId}
 use Rattle.rq_live.specs.Starts.{Start, rules_of, state_reached, file_of, checkpoint_in, carried_behind, begun_behind}
 use Rattle.rq_live.specs.Kernels.{BreaksThere, HasNoRoom, IsWhyNotTaken}
 use Rattle.rq_live.specs.Managers.{Stand, IsManaged, is_free_in, IsTrueIn}

@@ -1,6 +1,6 @@
 pub mod Requests
 pub mod Refusals
-pub mod AnswersLine
+pub mod Answers
 pub mod Units
 pub mod Carrying
 pub mod Queues

@@ -1,6 +1,6 @@
 //! What is done of the log as a whole, and of elements outside of units.
 
-ghost use Rattle.std.specs.Prelude.{◌≡◌, Some, IfErr, IfOk};
+ghost use Rattle.std.specs.Prelude.{◌≡◌, IfErr, IfOk};
 ghost use Rattle.rq_model.specs.Records as model;
 ghost use Rattle.rq_live.specs.Carries.{GoesOver};
 ghost use Rattle.rq_live.specs.Managers.{IsInOrder, stand_of};
@@ -65,7 +65,7 @@ pub(crate) fn answer_close<D: Device + Drop>(
     ensures order { IsInOrder (stand_of D.written D.synced D.doubted D.failed m.new) }
     ensures turns { TurnsAlone (stand_of D.written D.synced D.doubted D.failed m.old)
         (stand_of D.written D.synced D.doubted D.failed m.new)
-        Closes
+        AnswersClose
         (λ p refused. ⊥) result }
 {
     m.abort_open(alloc)?;
@@ -82,7 +82,7 @@ pub(crate) fn answer_checkpoint<D: Device + Drop>(
     ensures order { IsInOrder (stand_of D.written D.synced D.doubted D.failed m.new) }
     ensures turns { TurnsAlone (stand_of D.written D.synced D.doubted D.failed m.old)
         (stand_of D.written D.synced D.doubted D.failed m.new)
-        TakesCheckpoint
+        AnswersCheckpoint
         RefusesCheckpoint result }
 {
     match m.checkpoint(alloc) {

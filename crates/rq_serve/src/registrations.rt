@@ -1,6 +1,6 @@
 //! Who is registered with a queue, and what was done last.
 
-ghost use Rattle.std.specs.Prelude.{◌≡◌, Some, IfErr, IfOk};
+ghost use Rattle.std.specs.Prelude.{◌≡◌, IfErr, IfOk};
 ghost use Rattle.rq_model.specs.Records as model;
 ghost use Rattle.rq_live.specs.Managers.{IsInOrder, stand_of};
 ghost use Rattle.rq_serve.specs.Deeds.{AnswersDeregister, AnswersRegister, AnswersLast, IsLastThere, RefusesAt};

@@ -1,6 +1,6 @@
 //! Units, and what is done in them.
 
-ghost use Rattle.std.specs.Prelude.{◌≡◌, ◌⊎◌, true, Some};
+ghost use Rattle.std.specs.Prelude.{◌≡◌, ◌⊎◌};
 ghost use Rattle.rq_model.specs.Records as model;
 ghost use Rattle.rq_live.specs.Managers.{IsInOrder, stand_of};
 ghost use Rattle.rq_serve.specs.Deeds.{AnswersAbort, AnswersBegin, AnswersCommit, AnswersDequeue, AnswersEnqueue, IsDoomedThere};
