@@ -81,12 +81,12 @@ where
     ensures works { OnOk result (O.faults output.new ≡ O.faults output.old) }
     ensures spent { result ≡ Err Unserved.Spent → output.new ≡ output.old }
 {
-    if make_ready(m, session.asks_sync).is_err() {
+    let Ok(()) = make_ready(m, session.asks_sync) else {
         return Err(Unserved::Spent);
-    }
-    if write_all(output, session.answers.as_bytes()).is_err() {
+    };
+    let Ok(()) = write_all(output, session.answers.as_bytes()) else {
         return Err(Unserved::Unheard);
-    }
+    };
     session.answers.clear();
     session.asks_sync = false;
     Ok(())
