@@ -10,7 +10,6 @@ is taken that is of other files. The other tools find here where libraries stand
 """
 from __future__ import annotations
 import contextlib, functools, hashlib, importlib.machinery, importlib.util, json, os, resource, shutil, subprocess, sys, tempfile
-from concurrent.futures import ThreadPoolExecutor
 from typing import Any, Callable, Dict, Iterator, List, NamedTuple
 
 sys.dont_write_bytecode = True
@@ -79,20 +78,6 @@ def kept_of(crate: Any) -> str:
     return os.path.join(crate.folder, "out", "incremental")
 
 
-def seeded(crate: Any, room: str) -> str:
-    """A new folder in the room with what a check of the crate as it stands proves."""
-    seed, to = os.path.join(room, "seed"), os.path.join(room, "kept")
-    for part in PARTS:
-        if os.path.isdir(os.path.join(crate.folder, part)):
-            shutil.copytree(os.path.join(crate.folder, part), os.path.join(seed, part))
-    os.mkdir(to)
-    words = [os.path.join(KIT, "bin", "rattle"), "check", *place_of(crate, "", room).words, "--incremental", to]
-    how: Dict[str, Any] = {"stdin": subprocess.DEVNULL, "stdout": subprocess.DEVNULL, "stderr": subprocess.DEVNULL}
-    if subprocess.run(words, cwd=seed, **how).returncode:
-        raise ValueError(f"{crate.name} is not proved as it stands")
-    return to
-
-
 def prove_in(room: str, names: List[str], jobs: int, tell: Callable[[str], None]) -> None:
     """Has rt prove these crates, lowest first, in a copy of the repository. It takes what other checkouts here hold."""
     for name in names:
@@ -107,20 +92,15 @@ def prove_in(room: str, names: List[str], jobs: int, tell: Callable[[str], None]
 
 
 @contextlib.contextmanager
-def places(top: str, wanted: Dict[str, int], jobs: int, tell: Callable[[str], None]) -> Iterator[Dict[str, Place]]:
-    """Where to check each of these crates, of which so many batches are tried: over the checkout's own libraries and those that the
-    gate left, or over libraries that are proved in a copy of it. A crate of which no check kept anything is first checked as it
-    stands."""
+def places(top: str, wanted: List[str], jobs: int, tell: Callable[[str], None]) -> Iterator[Dict[str, Place]]:
+    """Where to check each of these crates: over the checkout's own libraries and those that the gate left, or over libraries that are
+    proved in a copy of it."""
     module = rtlib()
     crates = {it.name: it for it in module.crates_below(top)}
     needed = [it for it in crates.values() if any(it is crates[name] or it in crates[name].below() for name in wanted)]
     with tempfile.TemporaryDirectory(prefix="wrong-bodies-") as room:
         if all(it.is_built() or is_of_the_gate(it) for it in needed):
-            # (one batch alone takes no longer from nothing)
-            bare = [name for name, count in wanted.items() if count > 1 and not os.path.isdir(kept_of(crates[name]))]
-            with ThreadPoolExecutor(jobs) as pool:
-                seeds = dict(zip(bare, pool.map(lambda name: seeded(crates[name], os.path.join(room, name)), bare)))
-            yield {name: place_of(crates[name], seeds.get(name, kept_of(crates[name])), room) for name in wanted}
+            yield {name: place_of(crates[name], kept_of(crates[name]), room) for name in wanted}
         else:
             tell("libraries are proved first, in a copy")
             shutil.copytree(os.path.join(top, "crates"), os.path.join(room, "crates"), ignore=shutil.ignore_patterns("out"))

@@ -9,7 +9,8 @@ that. It must be refused by a goal of a function that it changes: one that stays
 fails if it is not refused, if it is refused only in another function or since a proof file names what it took away, or if it no
 longer applies. An answer that no longer proves its goal may not prove that of a right body either. So an edit may have a twin, a right
 body of the same shape, in its lines `right:`. That is tried too, and a wrong body whose twin is not proved fails. Both stand in copies of
-the function, so that one check is enough. Who is not judged there is tried in the function's own place.
+the function, so that one check is enough. Of all other functions of the crate a check has what they state, and no more (wrong/stated.py).
+Who is not judged there is tried alone, in the function's own place, and then once more in the crate as a whole.
 With no words all are tried; with --due those of which no receipt holds. --write then writes the receipt of each crate of which one was
 refused (`crates/NAME/wrong-bodies/receipt`), the only file in the checkout that is written. It tells of each that was refused, and of
 those that were not tried what it told before, as far as that holds. --said keeps what each check said.
@@ -39,8 +40,6 @@ TOP = os.path.dirname(os.path.dirname(os.path.abspath(__file__)))
 SECONDS, RECKONED, DRAWN, FEW = 120, 60, 2, 8
 # How a wrong body was refused, the most telling first.
 KINDS = ("by a goal that stays open", "by an answer, and its twin is proved", "by an answer alone, which says less")
-# How many functions the check of a batch that is drawn proves as a rule: some two seconds each.
-WIDE = 25
 
 
 def tell(line: str) -> None:
@@ -126,38 +125,35 @@ class Run:
         return {it: self.verdict(it) for it in self.found if not it.is_twin}
 
     def told(self, batch: Batch, done: Tried) -> List[Batch]:
-        """Notes what a check of a batch came to, and answers what is to be tried once more: in smaller batches, or each alone."""
-        crate, alone = batch.edits[0].crate, len(batch.edits) == 1
+        """Notes what a check of a batch came to, and answers what is to be tried once more: in smaller batches, or each alone, and then
+        in the crate as a whole."""
+        crate, is_alone = batch.edits[0].crate, len(batch.edits) == 1
         self.seconds[crate] = self.seconds.get(crate, 0) + done.seconds
         open_ = [it for it in batch.edits if not done.verdicts[it].is_well]
         tell(f"{crate}: {len(batch.edits)} in one check, {len(open_)} not judged by it, {done.seconds:.0f} s")
-        self.found.update({it: verdict for it, verdict in done.verdicts.items() if verdict.is_well or alone})
-        if alone:
+        self.found.update({it: verdict for it, verdict in done.verdicts.items() if verdict.is_well or batch.in_whole})
+        if batch.in_whole:
             return []
         rest = [it for it in open_ if done.broken and it not in done.broken]
-        again = [it for it in open_ if it not in rest]
         texts = self.sums.texts(crate)
-        return [*batches_of(rest, texts), *(one for it in again for one in batches_of([it], texts))]
+        again = [one for it in open_ if it not in rest for one in batches_of([it], texts)]
+        for one in again:
+            one.in_whole = is_alone
+        return [*batches_of(rest, texts), *again]
 
-    def try_all(self, due: Sequence[Batch], drawn: Sequence[Batch] = (), by_receipts: bool = False) -> None:
+    def try_all(self, due: Sequence[Batch], drawn: Sequence[Batch] = ()) -> None:
         """Tries the batches that are due, side by side, and alone the wrong bodies that a batch does not judge. Of those that are
-        drawn it tries one, and others while they take no longer than the gate may spend. By receipts, or if they are few of their
-        crate, it first checks only the functions that receipts name and what they call, and proves no crate whole for that."""
-        first = [*due, *drawn]
-        crates = [it.edits[0].crate for it in first]
+        drawn it tries one, and others while they take no longer than the gate may spend."""
+        crates = list(dict.fromkeys(it.edits[0].crate for it in [*due, *drawn]))
         if not crates:
             return
-        many = {it: sum(len(one.edits) for one in first if one.edits[0].crate == it) for it in crates}
-        lean = {it for it in crates if by_receipts or many[it] <= FEW}
-        counts = {it: 1 if it in lean else crates.count(it) for it in crates}
-        trial = Trial(due, drawn, {it for it, count in counts.items() if count == 1})
-        with places(TOP, counts, self.jobs, tell) as at, ThreadPoolExecutor(self.jobs) as pool:
+        with places(TOP, crates, self.jobs, tell) as at, ThreadPoolExecutor(self.jobs) as pool:
+            trial = Trial(due, drawn, {it for it in crates if not at[it].kept})
 
             def work(_: int) -> None:
                 try:
                     for batch in iter(trial.next, None):
-                        functions = functions_of(batch) if batch.edits[0].crate in lean and batch in first else ()
-                        done = tried(at[batch.edits[0].crate], batch, self.said, functions)
+                        done = tried(at[batch.edits[0].crate], batch, self.said)
                         with trial.alone:
                             trial.ended(batch, done.seconds, self.told(batch, done))
                 except BaseException:
@@ -194,23 +190,14 @@ def wanted_of(run: Run, words: List[str]) -> List[Batch]:
     return [batch for crate, edits in chosen.items() for batch in run.batches(crate, edits)]
 
 
-def functions_of(batch: Batch) -> List[str]:
-    """The functions that the receipt names for the wrong bodies of the batch; none, if it does not tell of one, or if a twin changes
-    more than that one: all of them have to be proved."""
-    lines = receipt_of(TOP, batch.edits[0].crate).lines
-    is_told = all(it.name in lines and not (it.is_twin and len(batch.changed[it]) > 1) for it in batch.edits)
-    return [path for it in batch.edits for path in batch.paths(it, lines[it.name].function)] if is_told else []
-
-
 def drawn(run: Run, of: Dict[str, List[Edit]]) -> List[Batch]:
-    """Small batches of these wrong bodies but those of each time, drawn anew in each run: one and a few others of its crate. From
-    nothing a check proves all that the functions call, so those beside the first call little more than it does."""
+    """Small batches of these wrong bodies but those of each time, drawn anew in each run: one and a few others of its crate."""
     left = [it for edits in of.values() for it in edits if it.part() == OTHERS]
     random.shuffle(left)
     made: List[Batch] = []
     while left and len(made) < DRAWN:
         crate = left[0].crate
-        made.append(few_of([it for it in left if it.crate == crate], run.sums.texts(crate), FEW, WIDE))
+        made.append(few_of([it for it in left if it.crate == crate], run.sums.texts(crate), FEW))
         left = [it for it in left[1:] if it not in made[-1].edits]
     return made
 
@@ -252,7 +239,7 @@ def gate(run: Run) -> Dict[str, str]:
     run.try_all(due_of(run, wrong))
     same = {crate: [it for it in edits if it.label() not in wrong] for crate, edits in run.edits.items()}
     each = {crate: [it for it in edits if it.part() == EACH_TIME] for crate, edits in same.items()}
-    run.try_all([batch for crate, edits in each.items() for batch in run.batches(crate, edits)], drawn(run, same), by_receipts=True)
+    run.try_all([batch for crate, edits in each.items() for batch in run.batches(crate, edits)], drawn(run, same))
     judged = run.judged()
     labels = {it.label() for it in judged}
     held_ = {it.label() for edits in same.values() for it in edits}

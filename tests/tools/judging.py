@@ -1,5 +1,5 @@
 """Quick. Tries what decides whether a gate passes, on small examples: how ./test counts a part, what is said of a wrong body and of its twin,
-what a receipt takes for read, and whether that has all heads of a built library."""
+what the check of one has of the rest of its crate, what a receipt takes for read, and whether that has all heads of a built library."""
 from __future__ import annotations
 import contextlib, importlib.machinery, importlib.util, io, os, sys
 from typing import Any, Dict, List
@@ -10,6 +10,7 @@ sys.path.insert(0, os.path.join(TOP, "tools"))
 from wrong.checks import Verdict, judged, read  # noqa: E402
 from wrong.edits import Batch, Calls, Edit, Texts, applied, batches_of  # noqa: E402
 from wrong.readings import Readings, crates_of, not_taken  # noqa: E402
+from wrong.stated import paths_of, stated  # noqa: E402
 import wrong_bodies  # noqa: E402
 
 LOW: Texts = {
@@ -129,7 +130,7 @@ def copies() -> None:
     check("the function and its copies", [batch.texts["src/lib.rt"].count(it) for it in functions], [1] * 3)
     proof = OWN["proofs/sum/Answers.antt"]
     check("their proofs", [batch.texts[f"proofs/{it}/Answers.antt"] == proof.replace(".sum.", f".{it}.") for it in names], [True] * 3)
-    check("what is checked", batch.paths(WRONG, "sum"), names[1:])
+    check("what is checked", paths_of(batch), names[1:])
     for what, said, want in (("is proved", "proved", [(True, "sum"), (True, "")]), ("fails", "no proof", [(False, ""), (False, "")])):
         verdicts = judged(read(COPIES.format(said)), batch)
         check(f"copies, if the right one {what}", [(verdicts[it].is_well, verdicts[it].function) for it in both], want)
@@ -166,6 +167,23 @@ def changed(texts: Dict[str, Texts], crate: str, path: str, old: str, new: str) 
     return reads[0] != reads[1]
 
 
+def alone() -> None:
+    """Of the functions that are not on trial a check has what they state."""
+    batch = batches_of([WRONG, *WRONG.twin()], {**OWN, "proofs/beside/Answers.antt": "pub returns : goal.returns\nreturns c = this\n"})[0]
+    texts = stated(batch)
+    code = texts["src/lib.rt"]
+    check("bodies of others never end", code.count("loop {}"), 5)
+    check("what is on trial has its body", [it in code for it in ("more - 1", "more - 0")], [True] * 2)
+    check("a method of a trait has it too", "        7\n" in code, True)
+    check("their contracts stand", code.count("ensures"), batch.texts["src/lib.rt"].count("ensures"))
+    hole = "use Rattle.high.proofs.beside.Statement.{statement}\n\npub beside_spec : {M : Type 1} → statement M\nbeside_spec = ?\n"
+    check("and holes for their proofs", (texts["proofs/beside/Proof.antt"], "proofs/beside/Answers.antt" in texts), (hole, False))
+    check("but no copy has one", [it for it in texts if "_beside_" in it and "Proof" in it], [])
+    text = PROVED.replace(": proved", ": depends on a hole in `Rattle.low.proofs.add.Proof.add_spec`").replace("proved=1", "holes=1")
+    check("a hole of what is called is none of its own", verdict_on(WRONG.twin()[0], text).is_well, True)
+    check("nor does it refuse a wrong body", verdict_on(WRONG, text).is_well, False)
+
+
 def readings() -> None:
     texts = {"low": LOW, "high": HIGH}
     for what, want, *change in (
@@ -199,4 +217,4 @@ def heads() -> None:
     check("another text", not_taken(text, built.replace("<q>", "<s>")) != [], True)
 
 
-PARTS = [parts, twins, copies, rivals, readings, heads]
+PARTS = [parts, twins, copies, rivals, alone, readings, heads]

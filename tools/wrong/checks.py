@@ -4,7 +4,8 @@ import os, re, shutil, subprocess, tempfile
 from typing import Dict, FrozenSet, List, NamedTuple, Optional, Sequence, Set, Tuple
 
 from place import KIT, Place
-from wrong.edits import Batch, Edit, Function, functions_of
+from wrong.edits import Batch, Edit, Function, Texts, functions_of, module_of
+from wrong.stated import paths_of, stated
 
 # --- what is said ----------------------------------------------------------------------------------------------------
 
@@ -20,7 +21,9 @@ NO_PROOF = "its answer does not prove it"
 LOST = re.compile(r"has no field|is not in scope|has no `|is no name")
 AFTER = re.compile(r"not admitted|was rejected, was not checked|was refused")
 # Where the check ends that has come to a verdict on each function.
-ENDED = re.compile(r"^(?:only=\d+ proved=\d+|logic=(?:not-)?proved\b.*)$", re.M)
+ENDED = re.compile(r"^(?:only=\d+ (?:proved|holes)=\d+|logic=(?:not-)?proved\b.*)$", re.M)
+# What a check that allows holes says of a function that is proved: all holes are of functions that are not on trial (wrong/stated.py).
+BUT_FOR_HOLES = re.compile(r"no holes$|depends on a hole in ")
 
 
 class Verdict(NamedTuple):
@@ -58,7 +61,7 @@ def read(said: str) -> Said:
     for line in said.split("\n"):
         function, place = FUNCTION.match(line), PLACE.match(line)
         if function:
-            verdicts[function[1]] = function[2]
+            verdicts[function[1]] = "proved" if BUT_FOR_HOLES.match(function[2]) else function[2]
             goal = OPEN.search(function[2])
             if goal:
                 goals.setdefault(function[1], f"{goal[1]}: not proved that {stated.get(goal[1], 'it holds')}")
@@ -85,7 +88,7 @@ def is_holder(printed: str, holder: str) -> bool:
 def is_of(path: str, function: Function) -> bool:
     """Whether a path that a check prints is that of the function, or of a closure in it. A method is printed in the module of its
     type, whichever file its impl stands in."""
-    module = [it for it in function.path[len("src/") : -len(".rt")].split("/") if (it, function.path) != ("lib", "src/lib.rt")]
+    module = module_of(function.path)
     parts = path.split("::")
     in_closure = "fn" in parts
     parts = [it for it in parts if it != "fn"]
@@ -145,12 +148,12 @@ def judged(said: Said, batch: Batch) -> Dict[Edit, Verdict]:
     return found
 
 
-def culprits(said: Said, batch: Batch) -> List[Edit]:
-    """The wrong bodies in whose functions the code does not compile."""
+def culprits(said: Said, batch: Batch, texts: Texts) -> List[Edit]:
+    """The wrong bodies in whose functions the code of these texts does not compile."""
     found = []
     for path, number, _ in said.broken:
-        at = sum(len(line) + 1 for line in batch.texts.get(path, "").split("\n")[: number - 1])
-        here = [it.function for it in functions_of(path, batch.texts.get(path, "")) if it.begin <= at < it.end]
+        at = sum(len(line) + 1 for line in texts.get(path, "").split("\n")[: number - 1])
+        here = [it.function for it in functions_of(path, texts.get(path, "")) if it.begin <= at < it.end]
         found += [edit for edit in batch.edits if batch.changed[edit] & frozenset(here) and edit not in found]
     return found
 
@@ -183,36 +186,49 @@ def link_or_copy(one: str, other: str) -> str:
 def limits_of(batch: Batch, functions: Sequence[str]) -> List[str]:
     """The words that limit a check to these functions, or else to the modules that the batch changes; none if the crate's
     root is one of these."""
-    # (a closure is checked with its function, under a name of its own)
-    if functions and not any("fn" in it.split("::") for it in functions):
-        return [word for it in sorted(set(functions)) for word in ("--only", it)]
+    if functions:
+        return [word for it in functions for word in ("--only", it)]
     paths = sorted({it.path for changed in batch.changed.values() for it in changed})
     if "src/lib.rt" in paths:
         return []
     return [word for it in paths for word in ("--only", it[len("src/") : -len(".rt")].replace("/", "::"))]
 
 
-def said_of(place: Place, batch: Batch, functions: Sequence[str]) -> Tuple[str, float]:
-    """What the check of the crate with the batch says, and its processor seconds. It begins from a copy of what other checks kept; if
-    there is nothing, from what those of this run kept, which then go one after the other."""
+class Asked(NamedTuple):
+    """What a check is asked: its texts, its words behind those of the crate, and the folder of what is kept, if it may change that."""
+
+    texts: Texts
+    words: List[str]
+    kept: str
+
+
+def asked_of(place: Place, batch: Batch, room: str) -> Asked:
+    """The check of a batch in a room of its own. It begins from a copy of what other checks of the crate kept. If there is nothing, it
+    has of the functions that are not on trial their statements alone, unless the batch has to stand in the crate as a whole."""
+    if place.kept or batch.in_whole:
+        functions = () if batch.in_whole else paths_of(batch)
+        return Asked(batch.texts, limits_of(batch, functions), os.path.join(room, "kept") if place.kept else place.work)
+    return Asked(stated(batch), [*limits_of(batch, paths_of(batch)), "--allow-holes"], place.work)
+
+
+def said_of(place: Place, batch: Batch) -> Tuple[str, Texts, float]:
+    """What the check of the crate with the batch says, of which texts, and its processor seconds."""
     with tempfile.TemporaryDirectory(prefix="wrong-bodies-") as room:
-        for path, text in batch.texts.items():
+        asked = asked_of(place, batch, room)
+        for path, text in asked.texts.items():
             os.makedirs(os.path.dirname(os.path.join(room, path)), exist_ok=True)
             with open(os.path.join(room, path), "w", encoding="utf-8") as file:
                 file.write(text)
-        words = [os.path.join(KIT, "bin", "rattle"), "check", *place.words, *limits_of(batch, functions)]
         if place.kept:
-            shutil.copytree(place.kept, os.path.join(room, "kept"), copy_function=link_or_copy)
-            words += ["--incremental", os.path.join(room, "kept")]
-        else:
-            words += ["--incremental", place.work]
+            shutil.copytree(place.kept, asked.kept, copy_function=link_or_copy)
+        words = [os.path.join(KIT, "bin", "rattle"), "check", *place.words, *asked.words, "--incremental", asked.kept]
         with open(os.path.join(room, "said"), "w+", encoding="utf-8", errors="replace") as said:
             run = subprocess.Popen(words, cwd=room, stdin=subprocess.DEVNULL, stdout=said, stderr=said, text=True)
             RUNNING.add(run)
             _, run.returncode, used = os.wait4(run.pid, 0)
             RUNNING.discard(run)
             said.seek(0)
-            return said.read(), used.ru_utime + used.ru_stime
+            return said.read(), asked.texts, used.ru_utime + used.ru_stime
 
 
 def stop() -> None:
@@ -221,14 +237,13 @@ def stop() -> None:
         run.kill()
 
 
-def tried(place: Place, batch: Batch, to: str, functions: Sequence[str] = ()) -> Tried:
-    """Tries the batch in one check, of these functions and what they call if there are any. What it says is kept in the folder
-    `to`, if there is one."""
-    text, seconds = said_of(place, batch, functions)
+def tried(place: Place, batch: Batch, to: str) -> Tried:
+    """Tries the batch in one check. What it says is kept in the folder `to`, if there is one."""
+    text, texts, seconds = said_of(place, batch)
     if to:
         os.makedirs(to, exist_ok=True)
         first = batch.edits[0]
-        with open(os.path.join(to, f"{first.crate}-{len(batch.edits)}-{first.name}"), "w", encoding="utf-8") as file:
+        with open(os.path.join(to, f"{first.crate}-{len(batch.edits)}-{first.name}{'-in-whole' * batch.in_whole}"), "w", encoding="utf-8") as file:
             file.write(text)
     said = read(text)
-    return Tried(judged(said, batch), [] if said.ended else culprits(said, batch), seconds)
+    return Tried(judged(said, batch), [] if said.ended else culprits(said, batch, texts), seconds)

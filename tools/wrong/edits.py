@@ -176,6 +176,11 @@ def applied(edit: Edit, texts: Texts) -> Applied:
     return Applied(made, frozenset(changed), reaches_out)
 
 
+def module_of(path: str) -> List[str]:
+    """The module that a file of code is."""
+    return [it for it in path[len("src/") : -len(".rt")].split("/") if (it, path) != ("lib", "src/lib.rt")]
+
+
 def is_own(text: str, at: int) -> bool:
     """Whether a function there stands in no trait, nor in an impl of one: there another may stand beside it."""
     holder = next((it for it in HOLDER.finditer(text) if it.start() < at < text.find("\n}", it.end())), None)
@@ -184,8 +189,7 @@ def is_own(text: str, at: int) -> bool:
 
 def proof_of(texts: Texts, function: Function) -> List[str]:
     """The files of the function's proof. ValueError, if it is not plain which these are."""
-    module = [it for it in function.path[len("src/") : -len(".rt")].split("/") if (it, function.path) != ("lib", "src/lib.rt")]
-    ending = "/".join(["", *([function.holder] if function.holder else module), function.name, ""])
+    ending = "/".join(["", *([function.holder] if function.holder else module_of(function.path)), function.name, ""])
     files = [it for it in texts if it.startswith("proofs/") and ending in it]
     folders = {it[: it.index(ending)] for it in files}
     if len(folders) > 1 or folders - {"proofs"} and not function.holder:
@@ -228,6 +232,8 @@ class Batch:
         self.named: Dict[str, str] = {}
         self.sound: Dict[Edit, Function] = {}
         self.is_full = False
+        # Whether the rest of the crate stands in its check as it is, with its bodies and proofs.
+        self.in_whole = False
 
     def in_place(self) -> List[Edit]:
         """The edits that stand in the functions that they change."""
@@ -271,13 +277,6 @@ class Batch:
         self.sound.update(dict.fromkeys(both, function._replace(name=names[-1])))
         self.is_full = len(self.edits) >= MOST
         return True
-
-    def paths(self, edit: Edit, path: str) -> List[str]:
-        """The paths in this check of the function that a receipt names for the edit: of its copy, too, that has to be proved."""
-        if edit not in self.sound:
-            return [path]
-        (own,), sound = self.changed[edit], self.sound[edit]
-        return [re.sub(rf"(^|::){self.named[it.name]}$", rf"\g<1>{it.name}", path) for it in (own, sound)]
 
     def as_before(self, text: str) -> str:
         """What is said of copies, by the names that they had."""
@@ -336,16 +335,12 @@ class Calls:
         return frozenset(found)
 
 
-def few_of(edits: List[Edit], texts: Texts, most: int, wide: int) -> Batch:
-    """Of these edits the first, and as many others as one check takes with it: `most` in all, and so that it proves no more than
-    `wide` functions, or those that the first needs."""
-    calls = Calls(texts)
-    made = Batch(texts, calls)
-    below: FrozenSet[Function] = frozenset()
+def few_of(edits: List[Edit], texts: Texts, most: int) -> Batch:
+    """Of these edits the first, and as many others as one check takes with it: `most` in all."""
+    made = Batch(texts, Calls(texts))
     for edit in edits:
-        more = below | calls.below(applied(edit, texts).changed)
-        if len(made.edits) < most and (not made.edits or len(more) <= wide) and made.takes(edit):
-            below, wide = more, max(wide, len(more))
+        if len(made.edits) < most:
+            made.takes(edit)
     return made
 
 
