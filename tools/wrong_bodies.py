@@ -126,19 +126,23 @@ class Run:
 
     def told(self, batch: Batch, done: Tried) -> List[Batch]:
         """Notes what a check of a batch came to, and answers what is to be tried once more: in smaller batches, or each alone, and then
-        in the crate as a whole."""
+        in the crate as a whole. If the code of the crate does not compile without its bodies, the batch goes there at once."""
         crate, is_alone = batch.edits[0].crate, len(batch.edits) == 1
+        is_last = is_alone and batch.in_whole
         self.seconds[crate] = self.seconds.get(crate, 0) + done.seconds
         open_ = [it for it in batch.edits if not done.verdicts[it].is_well]
         tell(f"{crate}: {len(batch.edits)} in one check, {len(open_)} not judged by it, {done.seconds:.0f} s")
-        self.found.update({it: verdict for it, verdict in done.verdicts.items() if verdict.is_well or batch.in_whole})
-        if batch.in_whole:
+        self.found.update({it: verdict for it, verdict in done.verdicts.items() if verdict.is_well or is_last})
+        if is_last:
             return []
-        rest = [it for it in open_ if done.broken and it not in done.broken]
+        if not (done.has_ended or done.broken or batch.in_whole):
+            batch.in_whole = True
+            return [batch]
+        rest = [it for it in open_ if done.broken and it not in done.broken and not is_alone]
         texts = self.sums.texts(crate)
         again = [one for it in open_ if it not in rest for one in batches_of([it], texts)]
         for one in again:
-            one.in_whole = is_alone
+            one.in_whole = is_alone or batch.in_whole
         return [*batches_of(rest, texts), *again]
 
     def try_all(self, due: Sequence[Batch], drawn: Sequence[Batch] = ()) -> None:

@@ -7,7 +7,7 @@ from typing import Any, Dict, List
 from trying import TOP, check
 
 sys.path.insert(0, os.path.join(TOP, "tools"))
-from wrong.checks import Verdict, judged, read  # noqa: E402
+from wrong.checks import Tried, Verdict, judged, read  # noqa: E402
 from wrong.edits import Batch, Calls, Edit, Texts, applied, batches_of  # noqa: E402
 from wrong.readings import Readings, crates_of, not_taken  # noqa: E402
 from wrong.stated import paths_of, stated  # noqa: E402
@@ -109,6 +109,27 @@ def twins() -> None:
     for what, said, want in (("a twin that is proved", PROVED, True), ("a twin that fails", ANSWER, False)):
         run.found = {WRONG: verdict_on(WRONG, ANSWER), twin: verdict_on(twin, said)}
         check(f"a wrong body beside {what}", [it.is_well for it in run.judged().values()], [want])
+
+
+def again() -> None:
+    """What is tried once more: each alone, and then in the crate as a whole."""
+    run = wrong_bodies.Run.__new__(wrong_bodies.Run)
+    run.found, run.seconds, run.sums = {}, {}, wrong_bodies.Sums.__new__(wrong_bodies.Sums)
+    run.sums.texts_of = {"high": OWN}
+    batch = batches_of([WRONG, *WRONG.twin()], OWN)[0]
+    judged_by, steps = read(COPIES.format("no proof")), []
+    lost, left = read(""), [batch]
+    for said in (lost, judged_by, judged_by, judged_by):
+        done = Tried(judged(said, left[0]), [], said.ended, 1)
+        with contextlib.redirect_stdout(io.StringIO()):
+            left = [*run.told(left[0], done), *left[1:]]
+        steps.append([(len(it.edits), it.in_whole) for it in left])
+    both = [(1, True), (1, True)]
+    check("what a check without bodies does not judge", steps, [[(2, True)], both, both[1:], []])
+    alone = batches_of([WRONG], OWN)[0]
+    with contextlib.redirect_stdout(io.StringIO()):
+        left = run.told(alone, Tried(judged(read(PROVED), alone), [], True, 1))
+    check("what is not judged alone", [it.in_whole for it in left], [True])
 
 
 def edit(name: str, old: str, new: str) -> Edit:
@@ -217,4 +238,4 @@ def heads() -> None:
     check("another text", not_taken(text, built.replace("<q>", "<s>")) != [], True)
 
 
-PARTS = [parts, twins, copies, rivals, alone, readings, heads]
+PARTS = [parts, twins, again, copies, rivals, alone, readings, heads]

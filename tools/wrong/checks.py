@@ -165,10 +165,12 @@ RUNNING: Set["subprocess.Popen[str]"] = set()
 
 
 class Tried(NamedTuple):
-    """What a check of a batch came to: the verdicts, the wrong bodies that do not compile, and its processor seconds."""
+    """What a check of a batch came to: the verdicts, the wrong bodies that do not compile, whether it came to its end, and its processor
+    seconds."""
 
     verdicts: Dict[Edit, Verdict]
     broken: List[Edit]
+    has_ended: bool
     seconds: float
 
 
@@ -246,4 +248,4 @@ def tried(place: Place, batch: Batch, to: str) -> Tried:
         with open(os.path.join(to, f"{first.crate}-{len(batch.edits)}-{first.name}{'-in-whole' * batch.in_whole}"), "w", encoding="utf-8") as file:
             file.write(text)
     said = read(text)
-    return Tried(judged(said, batch), [] if said.ended else culprits(said, batch, texts), seconds)
+    return Tried(judged(said, batch), [] if said.ended else culprits(said, batch, texts), said.ended, seconds)
