@@ -10,6 +10,7 @@ sys.path.insert(0, os.path.join(TOP, "tools"))
 from wrong.checks import Tried, Verdict, judged, read  # noqa: E402
 from wrong.edits import Batch, Calls, Edit, Texts, applied, batches_of  # noqa: E402
 from wrong.readings import Readings, crates_of, not_taken  # noqa: E402
+from wrong.receipts import Sums  # noqa: E402
 from wrong.stated import paths_of, stated  # noqa: E402
 import wrong_bodies  # noqa: E402
 
@@ -114,7 +115,7 @@ def twins() -> None:
 def again() -> None:
     """What is tried once more: each alone, and then in the crate as a whole."""
     run = wrong_bodies.Run.__new__(wrong_bodies.Run)
-    run.found, run.seconds, run.sums = {}, {}, wrong_bodies.Sums.__new__(wrong_bodies.Sums)
+    run.found, run.seconds, run.sums = {}, {}, Sums.__new__(Sums)
     run.sums.texts_of = {"high": OWN}
     batch = batches_of([WRONG, *WRONG.twin()], OWN)[0]
     judged_by, steps = read(COPIES.format("no proof")), []
