@@ -65,6 +65,12 @@ def anew(log: str, before: bytes) -> None:
             os.remove(name)
 
 
+def put_scripts() -> None:
+    """The scripts that lines append: one that is lawful, and one of which the second line is not."""
+    put("more.script", b"register 0 bob\n")
+    put("half.script", b"register 0 bob\ncommit 9\n")
+
+
 def in_order(line: str, log: bytes, what: str) -> None:
     anew("order.log", log)
     ended, calls = noted(line, "order.log")
@@ -76,8 +82,7 @@ def order() -> None:
     """What is done is synced before it is told: a file before it gets its name, and its folder behind that."""
     if not has_shim("to see the order of calls"):
         return
-    put("more.script", b"register 0 bob\n")
-    put("half.script", b"register 0 bob\ncommit 9\n")
+    put_scripts()
     before = content(plain("order", OPENED))
     for rest in (b"", CUT):
         for line in (*APPENDING, *MAKING):
@@ -91,8 +96,7 @@ def its_name() -> None:
     If it fails, nothing is."""
     if not has_shim("to see the order of calls"):
         return
-    put("more.script", b"register 0 bob\n")
-    put("half.script", b"register 0 bob\ncommit 9\n")
+    put_scripts()
     before, folder = content(plain("named", OPENED)), Call("d", os.stat(".").st_ino, 0)
     for line in (*APPENDING, "recover LOG"):
         put("named.log", before)
@@ -157,8 +161,7 @@ def another_writer() -> None:
     is read, and nothing of it is lost."""
     if not has_shim("to see the order of calls"):
         return
-    put("more.script", b"register 0 bob\n")
-    put("half.script", b"register 0 bob\ncommit 9\n")
+    put_scripts()
     before = content(plain("other", OPENED))
     # A unit is open in each, so each line makes it longer.
     grown = content(plain("grown", OPENED + b"begin 3\n"))
@@ -171,8 +174,7 @@ def looked_at() -> None:
     """Once the log is held, and before it is read, it is seen that it has its name still: another program may have given that away."""
     if not has_shim("to see the order of calls"):
         return
-    put("more.script", b"register 0 bob\n")
-    put("half.script", b"register 0 bob\ncommit 9\n")
+    put_scripts()
     before = content(plain("looked", OPENED))
     for line in (*APPENDING, "carry LOG made", "close LOG LOG", "recover LOG"):
         anew("looked.log", before)
